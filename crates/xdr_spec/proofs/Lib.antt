@@ -1,0 +1,11 @@
+pub mod Tools
+pub mod Words
+pub mod Spellings
+pub mod Pairs
+pub mod Tagged
+pub mod Remade
+pub mod FixedOpaque
+pub mod Derived
+pub mod Refused
+pub mod Reading
+pub mod Decoding
