@@ -1,0 +1,3 @@
+pub mod Kinds
+pub mod Costs
+pub mod Meter

@@ -1,0 +1,16 @@
+-- What a budget is: limits, terms, and the sums spent so far.
+use Rattle.std.specs.Prelude.{ℕ}
+use Rattle.budget_meter.specs.Costs.{terms_of, sums_after}
+use Rattle.budget_meter.specs.declared.kind.Kind.{Kind}
+use Rattle.budget_meter.specs.declared.terms.Terms.{Terms}
+use Rattle.budget_meter.specs.declared.budget.Limits.{Limits}
+use Rattle.budget_meter.specs.declared.budget.Used.{Used}
+
+pub record Meter : Type 0 where
+  pub limits : Limits
+  pub terms : Terms
+  pub used : Used
+
+-- the sums that a charge leaves, where there is room for it
+abbrev pub used_after : Meter → Kind → ℕ → Used
+used_after meter kind input = sums_after meter.used (terms_of meter.terms kind) input

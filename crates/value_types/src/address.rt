@@ -1,0 +1,68 @@
+//! Addresses.
+
+ghost use Rattle.std.specs.Prelude.{◌≡◌, ⊤};
+ghost use Rattle.value_types.specs.Address.{number, kind_of, kind};
+
+use crate::account_id::AccountId;
+use crate::hash::Hash;
+use std::alloc::AllocError;
+
+/// What an address names (the XDR files' `SCAddressType`).
+#[derive(Clone, Copy, Debug, PartialEq, Eq)]
+pub enum ScAddressType {
+    Account,
+    Contract,
+}
+
+impl ScAddressType {
+    pub fn from_number(number: u32) -> Option<ScAddressType>
+        ensures { result ≡ kind_of number }
+    {
+        match number {
+            0 => Some(ScAddressType::Account),
+            1 => Some(ScAddressType::Contract),
+            _ => None,
+        }
+    }
+
+    pub fn number(self) -> u32
+        ensures { result ≡ number self }
+    {
+        match self {
+            ScAddressType::Account => 0,
+            ScAddressType::Contract => 1,
+        }
+    }
+}
+
+/// An account or a contract.
+#[derive(Debug, PartialEq, Eq)]
+pub enum ScAddress {
+    /// 0.
+    Account(AccountId),
+    /// 1: the contract's id.
+    Contract(Hash),
+}
+
+impl Clone for ScAddress {
+    ghost is_clone = { λ v w. w ≡ v };
+
+    ghost is_infallible = { λ _. ⊤ };
+
+    fn clone(&self) -> Result<ScAddress, AllocError> {
+        Ok(*self)
+    }
+}
+
+impl Copy for ScAddress {}
+
+impl ScAddress {
+    pub fn kind(self) -> ScAddressType
+        ensures { result ≡ kind self }
+    {
+        match self {
+            ScAddress::Account(_) => ScAddressType::Account,
+            ScAddress::Contract(_) => ScAddressType::Contract,
+        }
+    }
+}

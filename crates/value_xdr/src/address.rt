@@ -1,0 +1,75 @@
+//! The spelling of addresses.
+
+ghost use Rattle.std.specs.Prelude.{◌≡◌};
+ghost use Rattle.xdr_core.specs.Reads.{Reads};
+ghost use Rattle.value_types.specs.Address.{type_format, type_lawful, address_format, address_lawful, arms};
+
+use crate::xdr::Xdr;
+use std::alloc::Global;
+use value_types::{AccountId, Hash, ScAddress, ScAddressType};
+use xdr_core::{Cursor, NoMemory, Out, ReadXdr, Why, XdrErr, add_sizes};
+
+#[tactic(auto, unfolding(value_types::specs::Address::type_format, xdr_core::specs::Sizes::capped))]
+impl Xdr for ScAddressType {
+    ghost format = { type_format };
+
+    fn read(_alloc: Global, input: &mut Cursor<'_>) -> Result<ScAddressType, ReadXdr> {
+        let place = input.place();
+        let number = input.u32()?;
+        ScAddressType::from_number(number).ok_or(ReadXdr::Bad(XdrErr {
+            at: place,
+            why: Why::Tag,
+        }))
+    }
+
+    fn write(&self, out: &mut Out) -> Result<(), NoMemory> {
+        out.put_u32(self.number())
+    }
+
+    fn size(&self) -> u64 {
+        4
+    }
+
+    ghost lawful = { type_lawful };
+}
+
+fn read_arm(
+    alloc: Global,
+    input: &mut Cursor<'_>,
+    kind: ScAddressType,
+) -> Result<ScAddress, ReadXdr>
+    ensures { Reads (arms kind).read input.old input.new result }
+{
+    match kind {
+        ScAddressType::Account => Ok(ScAddress::Account(AccountId::read(alloc, input)?)),
+        ScAddressType::Contract => Ok(ScAddress::Contract(Hash::read(alloc, input)?)),
+    }
+}
+
+#[tactic(auto, unfolding(value_types::specs::Address::address_format, value_types::specs::Address::type_format, xdr_core::specs::Sizes::capped))]
+impl Xdr for ScAddress {
+    ghost format = { address_format };
+
+    fn read(alloc: Global, input: &mut Cursor<'_>) -> Result<ScAddress, ReadXdr> {
+        let kind = ScAddressType::read(alloc, input)?;
+        read_arm(alloc, input, kind)
+    }
+
+    fn write(&self, out: &mut Out) -> Result<(), NoMemory> {
+        self.kind().write(out)?;
+        match self {
+            ScAddress::Account(account) => account.write(out),
+            ScAddress::Contract(id) => id.write(out),
+        }
+    }
+
+    fn size(&self) -> u64 {
+        let body = match self {
+            ScAddress::Account(account) => account.size(),
+            ScAddress::Contract(id) => id.size(),
+        };
+        add_sizes(self.kind().size(), body)
+    }
+
+    ghost lawful = { address_lawful };
+}

@@ -1,0 +1,119 @@
+//! The spelling of errors.
+
+ghost use Rattle.std.specs.Prelude.{◌≡◌};
+ghost use Rattle.xdr_core.specs.Reads.{Reads};
+ghost use Rattle.value_types.specs.Error.{type_format, type_lawful, code_format, code_lawful, error_format, error_lawful, arms};
+
+use crate::xdr::Xdr;
+use std::alloc::Global;
+use value_types::{ScError, ScErrorCode, ScErrorType};
+use xdr_core::{Cursor, NoMemory, Out, ReadXdr, Why, XdrErr, add_sizes};
+
+#[tactic(auto, unfolding(value_types::specs::Error::type_format, xdr_core::specs::Sizes::capped))]
+impl Xdr for ScErrorType {
+    ghost format = { type_format };
+
+    fn read(_alloc: Global, input: &mut Cursor<'_>) -> Result<ScErrorType, ReadXdr> {
+        let place = input.place();
+        let number = input.u32()?;
+        ScErrorType::from_number(number).ok_or(ReadXdr::Bad(XdrErr {
+            at: place,
+            why: Why::Tag,
+        }))
+    }
+
+    fn write(&self, out: &mut Out) -> Result<(), NoMemory> {
+        out.put_u32(self.number())
+    }
+
+    fn size(&self) -> u64 {
+        4
+    }
+
+    ghost lawful = { type_lawful };
+}
+
+#[tactic(auto, unfolding(value_types::specs::Error::code_format, xdr_core::specs::Sizes::capped))]
+impl Xdr for ScErrorCode {
+    ghost format = { code_format };
+
+    fn read(_alloc: Global, input: &mut Cursor<'_>) -> Result<ScErrorCode, ReadXdr> {
+        let place = input.place();
+        let number = input.u32()?;
+        ScErrorCode::from_number(number).ok_or(ReadXdr::Bad(XdrErr {
+            at: place,
+            why: Why::Tag,
+        }))
+    }
+
+    fn write(&self, out: &mut Out) -> Result<(), NoMemory> {
+        out.put_u32(self.number())
+    }
+
+    fn size(&self) -> u64 {
+        4
+    }
+
+    ghost lawful = { code_lawful };
+}
+
+fn read_arm(alloc: Global, input: &mut Cursor<'_>, kind: ScErrorType) -> Result<ScError, ReadXdr>
+    ensures { Reads (arms kind).read input.old input.new result }
+{
+    Ok(match kind {
+        ScErrorType::Contract => ScError::Contract(u32::read(alloc, input)?),
+        ScErrorType::WasmVm => ScError::WasmVm(ScErrorCode::read(alloc, input)?),
+        ScErrorType::Context => ScError::Context(ScErrorCode::read(alloc, input)?),
+        ScErrorType::Storage => ScError::Storage(ScErrorCode::read(alloc, input)?),
+        ScErrorType::Object => ScError::Object(ScErrorCode::read(alloc, input)?),
+        ScErrorType::Crypto => ScError::Crypto(ScErrorCode::read(alloc, input)?),
+        ScErrorType::Events => ScError::Events(ScErrorCode::read(alloc, input)?),
+        ScErrorType::Budget => ScError::Budget(ScErrorCode::read(alloc, input)?),
+        ScErrorType::Value => ScError::Value(ScErrorCode::read(alloc, input)?),
+        ScErrorType::Auth => ScError::Auth(ScErrorCode::read(alloc, input)?),
+    })
+}
+
+#[tactic(auto, unfolding(value_types::specs::Error::error_format, value_types::specs::Error::type_format, xdr_core::specs::Sizes::capped))]
+impl Xdr for ScError {
+    ghost format = { error_format };
+
+    fn read(alloc: Global, input: &mut Cursor<'_>) -> Result<ScError, ReadXdr> {
+        let kind = ScErrorType::read(alloc, input)?;
+        read_arm(alloc, input, kind)
+    }
+
+    fn write(&self, out: &mut Out) -> Result<(), NoMemory> {
+        self.kind().write(out)?;
+        match self {
+            ScError::Contract(code) => code.write(out),
+            ScError::WasmVm(code)
+            | ScError::Context(code)
+            | ScError::Storage(code)
+            | ScError::Object(code)
+            | ScError::Crypto(code)
+            | ScError::Events(code)
+            | ScError::Budget(code)
+            | ScError::Value(code)
+            | ScError::Auth(code) => code.write(out),
+        }
+    }
+
+    fn size(&self) -> u64 {
+        let body = match self {
+            ScError::Contract(code) => code.size(),
+            ScError::WasmVm(code)
+            | ScError::Context(code)
+            | ScError::Storage(code)
+            | ScError::Object(code)
+            | ScError::Crypto(code)
+            | ScError::Events(code)
+            | ScError::Budget(code)
+            | ScError::Value(code)
+            | ScError::Auth(code) => code.size(),
+        };
+        add_sizes(self.kind().size(), body)
+    }
+
+    ghost lawful = { error_lawful };
+}

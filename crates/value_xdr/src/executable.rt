@@ -1,0 +1,75 @@
+//! The spelling of what a contract runs.
+
+ghost use Rattle.std.specs.Prelude.{◌≡◌};
+ghost use Rattle.xdr_core.specs.Reads.{Reads};
+ghost use Rattle.value_types.specs.Executable.{type_format, type_lawful, executable_format, executable_lawful, arms};
+
+use crate::xdr::Xdr;
+use std::alloc::Global;
+use value_types::{Executable, ExecutableType, Hash};
+use xdr_core::{Cursor, NoMemory, Out, ReadXdr, Why, XdrErr, add_sizes};
+
+#[tactic(auto, unfolding(value_types::specs::Executable::type_format, xdr_core::specs::Sizes::capped))]
+impl Xdr for ExecutableType {
+    ghost format = { type_format };
+
+    fn read(_alloc: Global, input: &mut Cursor<'_>) -> Result<ExecutableType, ReadXdr> {
+        let place = input.place();
+        let number = input.u32()?;
+        ExecutableType::from_number(number).ok_or(ReadXdr::Bad(XdrErr {
+            at: place,
+            why: Why::Tag,
+        }))
+    }
+
+    fn write(&self, out: &mut Out) -> Result<(), NoMemory> {
+        out.put_u32(self.number())
+    }
+
+    fn size(&self) -> u64 {
+        4
+    }
+
+    ghost lawful = { type_lawful };
+}
+
+fn read_arm(
+    alloc: Global,
+    input: &mut Cursor<'_>,
+    kind: ExecutableType,
+) -> Result<Executable, ReadXdr>
+    ensures { Reads (arms kind).read input.old input.new result }
+{
+    match kind {
+        ExecutableType::Wasm => Ok(Executable::Wasm(Hash::read(alloc, input)?)),
+        ExecutableType::StellarAsset => Ok(Executable::StellarAsset),
+    }
+}
+
+#[tactic(auto, unfolding(value_types::specs::Executable::executable_format, value_types::specs::Executable::type_format, xdr_core::specs::Sizes::capped))]
+impl Xdr for Executable {
+    ghost format = { executable_format };
+
+    fn read(alloc: Global, input: &mut Cursor<'_>) -> Result<Executable, ReadXdr> {
+        let kind = ExecutableType::read(alloc, input)?;
+        read_arm(alloc, input, kind)
+    }
+
+    fn write(&self, out: &mut Out) -> Result<(), NoMemory> {
+        self.kind().write(out)?;
+        match self {
+            Executable::Wasm(hash) => hash.write(out),
+            Executable::StellarAsset => Ok(()),
+        }
+    }
+
+    fn size(&self) -> u64 {
+        let body = match self {
+            Executable::Wasm(hash) => hash.size(),
+            Executable::StellarAsset => 0,
+        };
+        add_sizes(self.kind().size(), body)
+    }
+
+    ghost lawful = { executable_lawful };
+}

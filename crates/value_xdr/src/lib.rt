@@ -1,0 +1,31 @@
+//! Values read from bytes and written as bytes.
+#![tactic(auto)]
+
+mod account_id;
+mod address;
+mod blob;
+mod bytes;
+mod error;
+mod executable;
+mod hash;
+mod head;
+mod kind;
+mod laws;
+mod list;
+mod numbers;
+mod plain;
+mod reading;
+mod rows;
+mod scval;
+mod writing;
+mod xdr;
+
+pub use blob::{read_blob, size_of_blob, write_blob};
+pub use head::read_head;
+pub use laws::{front_is_read, one_refusal, one_spelling, spelled_or_refused};
+pub use rows::{read_list, read_row, size_of_list, write_list};
+pub use scval::{val_size, value_from_bytes, value_to_bytes};
+pub use xdr::{Xdr, decode, encode};
+
+#[cfg(test)]
+mod tests;

@@ -1,0 +1,64 @@
+//! The spelling of values.
+
+ghost use Rattle.std.specs.Prelude.{◌≡◌, length, IfOk, IfErr};
+ghost use Rattle.xdr_core.specs.Sizes.{capped};
+ghost use Rattle.value_xdr.specs.ValueBytes.{value_bytes, IsValueBounded};
+ghost use Rattle.xdr_spec.specs.Refusal.{Spells};
+ghost use Rattle.xdr_core.specs.Reads.{IsValueUnlessMemory, IsRefusal};
+ghost use Rattle.value_types.specs.declared.value.ScVal.{ScVal as ScValData};
+ghost use Rattle.value_types.specs.Formats.{scval_format};
+ghost use Rattle.value_types.specs.Lawful.{scval_lawful};
+
+use crate::xdr::{Xdr, decode, encode};
+use crate::{reading, writing};
+use std::alloc::Global;
+use value_types::ScVal;
+use xdr_core::{Cursor, NoMemory, Out, ReadXdr};
+
+/// How many levels lie below a value that stands alone.
+const LEVELS_BELOW: u32 = 99;
+
+#[tactic(auto, unfolding(value_types::specs::Formats::scval_format))]
+impl Xdr for ScVal {
+    ghost format = { scval_format };
+
+    fn read(alloc: Global, input: &mut Cursor<'_>) -> Result<ScVal, ReadXdr> {
+        reading::read_value(alloc, input, LEVELS_BELOW)
+    }
+
+    fn write(&self, out: &mut Out) -> Result<(), NoMemory> {
+        writing::write_value(self, out)
+    }
+
+    fn size(&self) -> u64 {
+        writing::size_of_value(self)
+    }
+
+    ghost lawful = { scval_lawful };
+}
+
+/// The value that the bytes spell, all of the bytes.
+pub fn value_from_bytes(alloc: Global, bytes: &[u8]) -> Result<ScVal, ReadXdr>
+    ensures found { IfOk result (λ v. Spells scval_format v bytes.now) }
+    ensures only { (v : ScValData) → Spells scval_format v bytes.now → IsValueUnlessMemory v result }
+    ensures refused { IfErr result (λ e. IsRefusal scval_format bytes.now e) }
+{
+    decode(alloc, bytes)
+}
+
+/// The value's one spelling.
+pub fn value_to_bytes(alloc: Global, value: &ScVal) -> Result<Vec<u8>, NoMemory>
+    requires { scval_format.fits value.now }
+    ensures { IfOk result (λ v. Spells scval_format value.now v.items) }
+{
+    encode(alloc, value)
+}
+
+/// How many bytes a value's spelling has, or `u64::MAX` where it has more.
+pub fn val_size(value: &ScVal) -> u64
+    ensures spelling { scval_format.fits value.now → result ≡ capped (length (scval_format.spell value.now)) }
+    // At more levels than a spelling has, they are counted alike.
+    ensures deeper { IsValueBounded value.now → result ≡ capped (length (value_bytes value.now)) }
+{
+    writing::size_of_value(value)
+}
