@@ -1,0 +1,34 @@
+-- Bytes that are compared with others as they come (own). The order is that of std's slices: the first byte that differs
+-- decides, and else a list that ends comes first.
+use Rattle.std.specs.Prelude.{ℕ, List, [], ◌∷◌}
+use Rattle.std.specs.declared.cmp.Ordering.{Ordering}
+use Rattle.std.specs.declared.cmp.Ordering.TheVariants.{Less, Equal, Greater}
+use Rattle.std.specs.Ordering.{nat_cmp}
+
+-- the order of what came, and while that is Equal, what is left to compare with
+pub record Matched : Type 0 where
+  pub rest : List ℕ
+  pub order : Ordering
+
+abbrev pub decided : Ordering → Matched
+decided order = record { rest = []; order = order }
+
+-- one byte against the first that is left
+abbrev pub met : List ℕ → Ordering → Matched
+met rest Less = decided Less
+met rest Equal = record { rest = rest; order = Equal }
+met rest Greater = decided Greater
+
+abbrev pub met_first : List ℕ → ℕ → Matched
+met_first [] byte = decided Greater
+met_first (first ∷ rest) byte = met rest (nat_cmp byte first)
+
+abbrev pub after_byte : Ordering → List ℕ → ℕ → Matched
+after_byte Less rest byte = record { rest = rest; order = Less }
+after_byte Equal rest byte = met_first rest byte
+after_byte Greater rest byte = record { rest = rest; order = Greater }
+
+-- what is known after more bytes came
+unfoldable pub after : Matched → List ℕ → Matched
+after m [] = m
+after m (byte ∷ bytes) = after (after_byte m.order m.rest byte) bytes

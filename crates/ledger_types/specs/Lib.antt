@@ -1,0 +1,13 @@
+pub mod Durability
+pub mod AssetCode
+pub mod TrustLineAsset
+pub mod EntryType
+pub mod Key
+pub mod ContractEntries
+pub mod Entry
+pub mod KeyLaws
+pub mod Record
+pub mod Terms
+pub mod Header
+pub mod File
+pub mod Verdicts

@@ -1,0 +1,254 @@
+//! The assets of trust lines.
+
+ghost use Rattle.std.specs.Prelude.{◌≡◌, ⊤};
+ghost use Rattle.xdr_core.specs.Reads.{Reads};
+ghost use Rattle.ledger_types.specs.AssetCode.{code4_format, code4_lawful, code12_format, code12_lawful};
+ghost use Rattle.ledger_types.specs.TrustLineAsset.{number, kind_of, kind, type_format, type_lawful, arms, asset_format, asset_lawful};
+
+use std::alloc::{AllocError, Global};
+use value_types::{AccountId, Hash};
+use value_xdr::Xdr;
+use xdr_core::{Cursor, NoMemory, Out, ReadXdr, Why, XdrErr, add_sizes};
+
+/// The code of an asset, at most four characters (`AssetCode4`).
+#[derive(Debug, PartialEq, Eq)]
+pub struct AssetCode4(pub [u8; 4]);
+
+impl Clone for AssetCode4 {
+    ghost is_clone = { λ v w. w ≡ v };
+
+    ghost is_infallible = { λ _. ⊤ };
+
+    fn clone(&self) -> Result<AssetCode4, AllocError> {
+        Ok(*self)
+    }
+}
+
+impl Copy for AssetCode4 {}
+
+#[tactic(auto, unfolding(crate::specs::AssetCode::code4_format, xdr_core::specs::Sizes::capped))]
+impl Xdr for AssetCode4 {
+    ghost format = { code4_format };
+
+    fn read(_alloc: Global, input: &mut Cursor<'_>) -> Result<AssetCode4, ReadXdr> {
+        let mut bytes = [0u8; 4];
+        bytes.copy_from_slice(input.fixed(4)?);
+        Ok(AssetCode4(bytes))
+    }
+
+    fn write(&self, out: &mut Out) -> Result<(), NoMemory> {
+        out.put_fixed(&self.0)
+    }
+
+    fn size(&self) -> u64 {
+        4
+    }
+
+    ghost lawful = { code4_lawful };
+}
+
+/// The code of an asset, at most twelve characters (`AssetCode12`).
+#[derive(Debug, PartialEq, Eq)]
+pub struct AssetCode12(pub [u8; 12]);
+
+impl Clone for AssetCode12 {
+    ghost is_clone = { λ v w. w ≡ v };
+
+    ghost is_infallible = { λ _. ⊤ };
+
+    fn clone(&self) -> Result<AssetCode12, AllocError> {
+        Ok(*self)
+    }
+}
+
+impl Copy for AssetCode12 {}
+
+#[tactic(auto, unfolding(crate::specs::AssetCode::code12_format, xdr_core::specs::Sizes::capped))]
+impl Xdr for AssetCode12 {
+    ghost format = { code12_format };
+
+    fn read(_alloc: Global, input: &mut Cursor<'_>) -> Result<AssetCode12, ReadXdr> {
+        let mut bytes = [0u8; 12];
+        bytes.copy_from_slice(input.fixed(12)?);
+        Ok(AssetCode12(bytes))
+    }
+
+    fn write(&self, out: &mut Out) -> Result<(), NoMemory> {
+        out.put_fixed(&self.0)
+    }
+
+    fn size(&self) -> u64 {
+        12
+    }
+
+    ghost lawful = { code12_lawful };
+}
+
+/// What an asset is (`AssetType`).
+#[derive(Clone, Copy, Debug, PartialEq, Eq)]
+pub enum AssetType {
+    Native,
+    CreditAlphanum4,
+    CreditAlphanum12,
+    PoolShare,
+}
+
+impl AssetType {
+    pub fn from_number(number: u32) -> Option<AssetType>
+        ensures { result ≡ kind_of number }
+    {
+        match number {
+            0 => Some(AssetType::Native),
+            1 => Some(AssetType::CreditAlphanum4),
+            2 => Some(AssetType::CreditAlphanum12),
+            3 => Some(AssetType::PoolShare),
+            _ => None,
+        }
+    }
+
+    pub fn number(self) -> u32
+        ensures { result ≡ number self }
+    {
+        match self {
+            AssetType::Native => 0,
+            AssetType::CreditAlphanum4 => 1,
+            AssetType::CreditAlphanum12 => 2,
+            AssetType::PoolShare => 3,
+        }
+    }
+}
+
+#[tactic(auto, unfolding(crate::specs::TrustLineAsset::type_format, xdr_core::specs::Sizes::capped))]
+impl Xdr for AssetType {
+    ghost format = { type_format };
+
+    fn read(_alloc: Global, input: &mut Cursor<'_>) -> Result<AssetType, ReadXdr> {
+        let place = input.place();
+        let number = input.u32()?;
+        AssetType::from_number(number).ok_or(ReadXdr::Bad(XdrErr {
+            at: place,
+            why: Why::Tag,
+        }))
+    }
+
+    fn write(&self, out: &mut Out) -> Result<(), NoMemory> {
+        out.put_u32(self.number())
+    }
+
+    fn size(&self) -> u64 {
+        4
+    }
+
+    ghost lawful = { type_lawful };
+}
+
+/// The asset of a trust line (`TrustLineAsset`).
+#[derive(Debug, PartialEq, Eq)]
+pub enum TrustLineAsset {
+    /// 0.
+    Native,
+    /// 1.
+    CreditAlphanum4 {
+        code: AssetCode4,
+        issuer: AccountId,
+    },
+    /// 2.
+    CreditAlphanum12 {
+        code: AssetCode12,
+        issuer: AccountId,
+    },
+    /// 3: a share of a liquidity pool.
+    PoolShare(Hash),
+}
+
+impl Clone for TrustLineAsset {
+    ghost is_clone = { λ v w. w ≡ v };
+
+    ghost is_infallible = { λ _. ⊤ };
+
+    fn clone(&self) -> Result<TrustLineAsset, AllocError> {
+        Ok(*self)
+    }
+}
+
+impl Copy for TrustLineAsset {}
+
+impl TrustLineAsset {
+    pub fn kind(self) -> AssetType
+        ensures { result ≡ kind self }
+    {
+        match self {
+            TrustLineAsset::Native => AssetType::Native,
+            TrustLineAsset::CreditAlphanum4 { .. } => AssetType::CreditAlphanum4,
+            TrustLineAsset::CreditAlphanum12 { .. } => AssetType::CreditAlphanum12,
+            TrustLineAsset::PoolShare(_) => AssetType::PoolShare,
+        }
+    }
+}
+
+fn read_arm(
+    alloc: Global,
+    input: &mut Cursor<'_>,
+    kind: AssetType,
+) -> Result<TrustLineAsset, ReadXdr>
+    ensures { Reads (arms kind).read input.old input.new result }
+{
+    match kind {
+        AssetType::Native => Ok(TrustLineAsset::Native),
+        AssetType::CreditAlphanum4 => {
+            let code = AssetCode4::read(alloc, input)?;
+            let issuer = AccountId::read(alloc, input)?;
+            Ok(TrustLineAsset::CreditAlphanum4 { code, issuer })
+        }
+        AssetType::CreditAlphanum12 => {
+            let code = AssetCode12::read(alloc, input)?;
+            let issuer = AccountId::read(alloc, input)?;
+            Ok(TrustLineAsset::CreditAlphanum12 { code, issuer })
+        }
+        AssetType::PoolShare => Ok(TrustLineAsset::PoolShare(Hash::read(alloc, input)?)),
+    }
+}
+
+#[tactic(auto, unfolding(crate::specs::TrustLineAsset::asset_format, crate::specs::TrustLineAsset::type_format, xdr_core::specs::Sizes::capped))]
+impl Xdr for TrustLineAsset {
+    ghost format = { asset_format };
+
+    fn read(alloc: Global, input: &mut Cursor<'_>) -> Result<TrustLineAsset, ReadXdr> {
+        let kind = AssetType::read(alloc, input)?;
+        read_arm(alloc, input, kind)
+    }
+
+    fn write(&self, out: &mut Out) -> Result<(), NoMemory> {
+        self.kind().write(out)?;
+        match self {
+            TrustLineAsset::Native => Ok(()),
+            TrustLineAsset::CreditAlphanum4 { code, issuer } => {
+                code.write(out)?;
+                issuer.write(out)
+            }
+            TrustLineAsset::CreditAlphanum12 { code, issuer } => {
+                code.write(out)?;
+                issuer.write(out)
+            }
+            TrustLineAsset::PoolShare(pool) => pool.write(out),
+        }
+    }
+
+    fn size(&self) -> u64 {
+        let body = match self {
+            TrustLineAsset::Native => 0,
+            TrustLineAsset::CreditAlphanum4 { code, issuer } => add_sizes(
+                code.size(),
+                issuer.size(),
+            ),
+            TrustLineAsset::CreditAlphanum12 { code, issuer } => add_sizes(
+                code.size(),
+                issuer.size(),
+            ),
+            TrustLineAsset::PoolShare(pool) => pool.size(),
+        };
+        add_sizes(self.kind().size(), body)
+    }
+
+    ghost lawful = { asset_lawful };
+}

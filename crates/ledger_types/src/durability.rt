@@ -1,0 +1,62 @@
+//! How long contract data is meant to live.
+
+ghost use Rattle.std.specs.Prelude.{◌≡◌};
+ghost use Rattle.ledger_types.specs.Durability.{number, kind_of, durability_format, durability_lawful};
+
+use std::alloc::Global;
+use value_xdr::Xdr;
+use xdr_core::{Cursor, NoMemory, Out, ReadXdr, Why, XdrErr};
+
+/// How long contract data is meant to live (`ContractDataDurability`).
+#[derive(Clone, Copy, Debug, PartialEq, Eq)]
+pub enum Durability {
+    /// 0: gone when its life ends.
+    Temporary,
+    /// 1: archived when its life ends.
+    Persistent,
+}
+
+impl Durability {
+    pub fn from_number(number: u32) -> Option<Durability>
+        ensures { result ≡ kind_of number }
+    {
+        match number {
+            0 => Some(Durability::Temporary),
+            1 => Some(Durability::Persistent),
+            _ => None,
+        }
+    }
+
+    pub fn number(self) -> u32
+        ensures { result ≡ number self }
+    {
+        match self {
+            Durability::Temporary => 0,
+            Durability::Persistent => 1,
+        }
+    }
+}
+
+#[tactic(auto, unfolding(crate::specs::Durability::durability_format, xdr_core::specs::Sizes::capped))]
+impl Xdr for Durability {
+    ghost format = { durability_format };
+
+    fn read(_alloc: Global, input: &mut Cursor<'_>) -> Result<Durability, ReadXdr> {
+        let place = input.place();
+        let number = input.u32()?;
+        Durability::from_number(number).ok_or(ReadXdr::Bad(XdrErr {
+            at: place,
+            why: Why::Tag,
+        }))
+    }
+
+    fn write(&self, out: &mut Out) -> Result<(), NoMemory> {
+        out.put_u32(self.number())
+    }
+
+    fn size(&self) -> u64 {
+        4
+    }
+
+    ghost lawful = { durability_lawful };
+}

@@ -1,0 +1,190 @@
+//! Ledger entries.
+
+ghost use Rattle.std.specs.Prelude.{◌≡◌};
+ghost use Rattle.xdr_core.specs.Reads.{Reads};
+ghost use Rattle.ledger_types.specs.Entry.{number, kind_of, type_format, type_lawful, kind, arms, body_format, body_lawful, entry_format, entry_lawful};
+
+use crate::contract_entries::{ContractCodeEntry, ContractDataEntry, EXTENSION_SIZE, NO_EXTENSION};
+use std::alloc::{AllocError, Global};
+use value_xdr::{Xdr, read_head};
+use xdr_core::{Cursor, NoMemory, Out, ReadXdr, Why, XdrErr, add_sizes};
+
+/// The types of the entries that this program's ledgers hold: those of `LedgerEntryType` that are a contract's.
+#[derive(Clone, Copy, Debug, PartialEq, Eq)]
+pub enum ContractEntryType {
+    ContractData,
+    ContractCode,
+}
+
+impl ContractEntryType {
+    pub fn from_number(number: u32) -> Option<ContractEntryType>
+        ensures { result ≡ kind_of number }
+    {
+        match number {
+            6 => Some(ContractEntryType::ContractData),
+            7 => Some(ContractEntryType::ContractCode),
+            _ => None,
+        }
+    }
+
+    pub fn number(self) -> u32
+        ensures { result ≡ number self }
+    {
+        match self {
+            ContractEntryType::ContractData => 6,
+            ContractEntryType::ContractCode => 7,
+        }
+    }
+}
+
+#[tactic(auto, unfolding(crate::specs::Entry::type_format, xdr_core::specs::Sizes::capped))]
+impl Xdr for ContractEntryType {
+    ghost format = { type_format };
+
+    fn read(_alloc: Global, input: &mut Cursor<'_>) -> Result<ContractEntryType, ReadXdr> {
+        let place = input.place();
+        let number = input.u32()?;
+        ContractEntryType::from_number(number).ok_or(ReadXdr::Bad(XdrErr {
+            at: place,
+            why: Why::Tag,
+        }))
+    }
+
+    fn write(&self, out: &mut Out) -> Result<(), NoMemory> {
+        out.put_u32(self.number())
+    }
+
+    fn size(&self) -> u64 {
+        4
+    }
+
+    ghost lawful = { type_lawful };
+}
+
+/// What an entry has.
+#[derive(Drop)]
+pub enum LedgerEntryData {
+    /// 6.
+    ContractData(ContractDataEntry),
+    /// 7.
+    ContractCode(ContractCodeEntry),
+}
+
+impl Clone for LedgerEntryData {
+    ghost is_clone = { λ v w. w ≡ v };
+
+    fn clone(&self) -> Result<LedgerEntryData, AllocError> {
+        match self {
+            LedgerEntryData::ContractData(entry) => Ok(LedgerEntryData::ContractData(
+                entry.clone()?,
+            )),
+            LedgerEntryData::ContractCode(entry) => Ok(LedgerEntryData::ContractCode(
+                entry.clone()?,
+            )),
+        }
+    }
+}
+
+impl LedgerEntryData {
+    pub fn kind(&self) -> ContractEntryType
+        ensures { result ≡ kind self.now }
+    {
+        match self {
+            LedgerEntryData::ContractData(_) => ContractEntryType::ContractData,
+            LedgerEntryData::ContractCode(_) => ContractEntryType::ContractCode,
+        }
+    }
+}
+
+fn read_arm(
+    alloc: Global,
+    input: &mut Cursor<'_>,
+    kind: ContractEntryType,
+) -> Result<LedgerEntryData, ReadXdr>
+    ensures { Reads (arms kind).read input.old input.new result }
+{
+    match kind {
+        ContractEntryType::ContractData => {
+            Ok(LedgerEntryData::ContractData(ContractDataEntry::read(alloc, input)?))
+        }
+        ContractEntryType::ContractCode => {
+            Ok(LedgerEntryData::ContractCode(ContractCodeEntry::read(alloc, input)?))
+        }
+    }
+}
+
+#[tactic(auto, unfolding(crate::specs::Entry::body_format, crate::specs::Entry::type_format, xdr_core::specs::Sizes::capped))]
+impl Xdr for LedgerEntryData {
+    ghost format = { body_format };
+
+    fn read(alloc: Global, input: &mut Cursor<'_>) -> Result<LedgerEntryData, ReadXdr> {
+        let kind = ContractEntryType::read(alloc, input)?;
+        read_arm(alloc, input, kind)
+    }
+
+    fn write(&self, out: &mut Out) -> Result<(), NoMemory> {
+        self.kind().write(out)?;
+        match self {
+            LedgerEntryData::ContractData(entry) => entry.write(out),
+            LedgerEntryData::ContractCode(entry) => entry.write(out),
+        }
+    }
+
+    fn size(&self) -> u64 {
+        let body = match self {
+            LedgerEntryData::ContractData(entry) => entry.size(),
+            LedgerEntryData::ContractCode(entry) => entry.size(),
+        };
+        add_sizes(self.kind().size(), body)
+    }
+
+    ghost lawful = { body_lawful };
+}
+
+/// An entry of the ledger (`LedgerEntry`, without a sponsor).
+#[derive(Drop)]
+pub struct LedgerEntry {
+    /// The number of the ledger that wrote it last.
+    pub last_modified_ledger_seq: u32,
+    pub data: LedgerEntryData,
+}
+
+impl Clone for LedgerEntry {
+    ghost is_clone = { λ v w. w ≡ v };
+
+    fn clone(&self) -> Result<LedgerEntry, AllocError> {
+        let data = self.data.clone()?;
+        Ok(LedgerEntry {
+            last_modified_ledger_seq: self.last_modified_ledger_seq,
+            data,
+        })
+    }
+}
+
+#[tactic(auto, unfolding(crate::specs::Entry::entry_format, xdr_core::specs::Sizes::capped))]
+impl Xdr for LedgerEntry {
+    ghost format = { entry_format };
+
+    fn read(alloc: Global, input: &mut Cursor<'_>) -> Result<LedgerEntry, ReadXdr> {
+        let last_modified_ledger_seq = u32::read(alloc, input)?;
+        let data = LedgerEntryData::read(alloc, input)?;
+        read_head(input, NO_EXTENSION)?;
+        Ok(LedgerEntry {
+            last_modified_ledger_seq,
+            data,
+        })
+    }
+
+    fn write(&self, out: &mut Out) -> Result<(), NoMemory> {
+        self.last_modified_ledger_seq.write(out)?;
+        self.data.write(out)?;
+        out.put_u32(NO_EXTENSION)
+    }
+
+    fn size(&self) -> u64 {
+        let size = add_sizes(self.last_modified_ledger_seq.size(), self.data.size());
+        add_sizes(size, EXTENSION_SIZE)
+    }
+
+    ghost lawful = { entry_lawful };
+}

@@ -1,0 +1,81 @@
+//! The types of ledger entries.
+
+ghost use Rattle.std.specs.Prelude.{◌≡◌};
+ghost use Rattle.ledger_types.specs.EntryType.{number, kind_of, type_format, type_lawful};
+
+use std::alloc::Global;
+use value_xdr::Xdr;
+use xdr_core::{Cursor, NoMemory, Out, ReadXdr, Why, XdrErr};
+
+/// What a ledger entry is (`LedgerEntryType`, without configuration settings).
+#[derive(Clone, Copy, Debug, PartialEq, Eq)]
+pub enum LedgerEntryType {
+    Account,
+    Trustline,
+    Offer,
+    Data,
+    ClaimableBalance,
+    LiquidityPool,
+    ContractData,
+    ContractCode,
+    Ttl,
+}
+
+impl LedgerEntryType {
+    pub fn from_number(number: u32) -> Option<LedgerEntryType>
+        ensures { result ≡ kind_of number }
+    {
+        match number {
+            0 => Some(LedgerEntryType::Account),
+            1 => Some(LedgerEntryType::Trustline),
+            2 => Some(LedgerEntryType::Offer),
+            3 => Some(LedgerEntryType::Data),
+            4 => Some(LedgerEntryType::ClaimableBalance),
+            5 => Some(LedgerEntryType::LiquidityPool),
+            6 => Some(LedgerEntryType::ContractData),
+            7 => Some(LedgerEntryType::ContractCode),
+            9 => Some(LedgerEntryType::Ttl),
+            _ => None,
+        }
+    }
+
+    pub fn number(self) -> u32
+        ensures { result ≡ number self }
+    {
+        match self {
+            LedgerEntryType::Account => 0,
+            LedgerEntryType::Trustline => 1,
+            LedgerEntryType::Offer => 2,
+            LedgerEntryType::Data => 3,
+            LedgerEntryType::ClaimableBalance => 4,
+            LedgerEntryType::LiquidityPool => 5,
+            LedgerEntryType::ContractData => 6,
+            LedgerEntryType::ContractCode => 7,
+            LedgerEntryType::Ttl => 9,
+        }
+    }
+}
+
+#[tactic(auto, unfolding(crate::specs::EntryType::type_format, xdr_core::specs::Sizes::capped))]
+impl Xdr for LedgerEntryType {
+    ghost format = { type_format };
+
+    fn read(_alloc: Global, input: &mut Cursor<'_>) -> Result<LedgerEntryType, ReadXdr> {
+        let place = input.place();
+        let number = input.u32()?;
+        LedgerEntryType::from_number(number).ok_or(ReadXdr::Bad(XdrErr {
+            at: place,
+            why: Why::Tag,
+        }))
+    }
+
+    fn write(&self, out: &mut Out) -> Result<(), NoMemory> {
+        out.put_u32(self.number())
+    }
+
+    fn size(&self) -> u64 {
+        4
+    }
+
+    ghost lawful = { type_lawful };
+}

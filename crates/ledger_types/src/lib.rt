@@ -1,0 +1,31 @@
+//! What a ledger holds, and how it is spelled: keys, entries, lives, settings, and the files that
+//! hold them.
+#![tactic(auto)]
+
+mod asset;
+mod contract_entries;
+mod durability;
+mod entry;
+mod entry_type;
+mod file;
+mod header;
+mod key;
+mod keys;
+mod record;
+mod terms;
+mod verdicts;
+
+pub use asset::{AssetCode4, AssetCode12, AssetType, TrustLineAsset};
+pub use contract_entries::{ContractCodeEntry, ContractDataEntry};
+pub use durability::Durability;
+pub use entry::{ContractEntryType, LedgerEntry, LedgerEntryData};
+pub use entry_type::LedgerEntryType;
+pub use file::{LEDGER_FILE_VERSION, LedgerFile};
+pub use header::{Header, Settings};
+pub use key::LedgerKey;
+pub use keys::{key_hash, key_of, write_key_of};
+pub use record::{LedgerRecord, TtlEntry};
+pub use verdicts::{Verdict, Verdicts};
+
+#[cfg(test)]
+mod tests;

@@ -1,0 +1,99 @@
+//! The records of a ledger file: entries and their lives.
+
+ghost use Rattle.std.specs.Prelude.{◌≡◌};
+ghost use Rattle.ledger_types.specs.Record.{ttl_format, ttl_lawful, record_format, record_lawful};
+
+use crate::entry::LedgerEntry;
+use std::alloc::{AllocError, Global};
+use value_types::Hash;
+use value_xdr::Xdr;
+use xdr_core::{Cursor, NoMemory, Out, ReadXdr, add_sizes};
+
+/// How long the entry of a key lives (`TTLEntry`).
+#[derive(Debug, PartialEq, Eq)]
+pub struct TtlEntry {
+    /// The SHA-256 of the key's XDR.
+    pub key_hash: Hash,
+    /// The number of the last ledger in which the entry is live.
+    pub live_until_ledger_seq: u32,
+}
+
+impl Clone for TtlEntry {
+    ghost use Rattle.std.specs.Prelude.{◌≡◌, ⊤};
+
+    ghost is_clone = { λ v w. w ≡ v };
+
+    ghost is_infallible = { λ _. ⊤ };
+
+    fn clone(&self) -> Result<TtlEntry, AllocError> {
+        Ok(*self)
+    }
+}
+
+impl Copy for TtlEntry {}
+
+#[tactic(auto, unfolding(crate::specs::Record::ttl_format, xdr_core::specs::Sizes::capped))]
+impl Xdr for TtlEntry {
+    ghost format = { ttl_format };
+
+    fn read(alloc: Global, input: &mut Cursor<'_>) -> Result<TtlEntry, ReadXdr> {
+        let key_hash = Hash::read(alloc, input)?;
+        let live_until_ledger_seq = u32::read(alloc, input)?;
+        Ok(TtlEntry {
+            key_hash,
+            live_until_ledger_seq,
+        })
+    }
+
+    fn write(&self, out: &mut Out) -> Result<(), NoMemory> {
+        self.key_hash.write(out)?;
+        self.live_until_ledger_seq.write(out)
+    }
+
+    fn size(&self) -> u64 {
+        add_sizes(self.key_hash.size(), self.live_until_ledger_seq.size())
+    }
+
+    ghost lawful = { ttl_lawful };
+}
+
+/// A record of a ledger file: an entry and its life.
+#[derive(Drop)]
+pub struct LedgerRecord {
+    pub entry: LedgerEntry,
+    pub ttl: TtlEntry,
+}
+
+impl Clone for LedgerRecord {
+    ghost is_clone = { λ v w. w ≡ v };
+
+    fn clone(&self) -> Result<LedgerRecord, AllocError> {
+        let entry = self.entry.clone()?;
+        Ok(LedgerRecord {
+            entry,
+            ttl: self.ttl,
+        })
+    }
+}
+
+#[tactic(auto, unfolding(crate::specs::Record::record_format, xdr_core::specs::Sizes::capped))]
+impl Xdr for LedgerRecord {
+    ghost format = { record_format };
+
+    fn read(alloc: Global, input: &mut Cursor<'_>) -> Result<LedgerRecord, ReadXdr> {
+        let entry = LedgerEntry::read(alloc, input)?;
+        let ttl = TtlEntry::read(alloc, input)?;
+        Ok(LedgerRecord { entry, ttl })
+    }
+
+    fn write(&self, out: &mut Out) -> Result<(), NoMemory> {
+        self.entry.write(out)?;
+        self.ttl.write(out)
+    }
+
+    fn size(&self) -> u64 {
+        add_sizes(self.entry.size(), self.ttl.size())
+    }
+
+    ghost lawful = { record_lawful };
+}

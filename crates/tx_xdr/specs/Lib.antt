@@ -1,0 +1,9 @@
+pub mod Limits
+pub mod Account
+pub mod Conditions
+pub mod Operation
+pub mod Soroban
+pub mod Transaction
+pub mod Set
+pub mod Results
+pub mod Hashes

@@ -1,0 +1,42 @@
+//! Transaction sets read from bytes.
+
+ghost use Rattle.std.specs.Prelude.{IfOk, IfErr};
+ghost use Rattle.xdr_spec.specs.Refusal.{Spells};
+ghost use Rattle.xdr_core.specs.Reads.{IsValueUnlessMemory, IsRefusal};
+ghost use Rattle.tx_xdr.specs.Limits.{today};
+ghost use Rattle.tx_xdr.specs.Set.{set_format};
+ghost use Rattle.tx_xdr.specs.declared.set.TxSet.{TxSet as Set};
+
+use crate::limits::Limits;
+use crate::set::TxSet;
+use crate::within::ReadWithin;
+use std::alloc::Global;
+use xdr_core::{Cursor, ReadXdr};
+
+/// The value that the bytes spell, all of the bytes.
+fn decode_within<T: ReadWithin + Drop>(
+    alloc: Global,
+    bytes: &[u8],
+    limits: Limits,
+) -> Result<T, ReadXdr>
+    ensures found { IfOk result (λ v. Spells (T.format limits) v bytes.now) }
+    ensures only { (v : T) → Spells (T.format limits) v bytes.now → IsValueUnlessMemory v result }
+    ensures refused { IfErr result (λ e. IsRefusal (T.format limits) bytes.now e) }
+{
+    let mut input = Cursor::new(bytes);
+    let value = T::read_within(alloc, &mut input, limits)?;
+    input.finish()?;
+    Ok(value)
+}
+
+/// The set that the bytes spell, all of the bytes, where it is one that runs today.
+pub fn read_set(alloc: Global, bytes: &[u8]) -> Result<TxSet, ReadXdr>
+    // What is read is spelled so.
+    ensures found { IfOk result (λ set. Spells (set_format today) set bytes.now) }
+    // What is spelled so is read, unless memory runs out.
+    ensures only { (set : Set) → Spells (set_format today) set bytes.now → IsValueUnlessMemory set result }
+    // What is refused is refused at its place, for its reason.
+    ensures refused { IfErr result (λ e. IsRefusal (set_format today) bytes.now e) }
+{
+    decode_within(alloc, bytes, Limits::today())
+}

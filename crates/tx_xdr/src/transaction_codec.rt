@@ -1,0 +1,118 @@
+//! The spelling of transactions and their envelopes.
+
+ghost use Rattle.tx_xdr.specs.Limits.{whole};
+ghost use Rattle.tx_xdr.specs.Transaction.{transaction_format, transaction_lawful, signature_format, signature_lawful, envelope_format, envelope_lawful};
+
+use crate::limits::Limits;
+use crate::numbers::ENVELOPE_TYPE_TX;
+use crate::transaction::{
+    DecoratedSignature, Envelope, Memo, MuxedAccount, Operation, Preconditions, Transaction,
+    TransactionExt,
+};
+use crate::within::ReadWithin;
+use std::alloc::Global;
+use value_types::{Bytes, Items};
+use value_xdr::{Xdr, read_head, read_list};
+use xdr_core::{Cursor, NoMemory, Out, ReadXdr, add_sizes};
+
+#[tactic(auto, unfolding(crate::specs::Transaction::transaction_format))]
+impl ReadWithin for Transaction {
+    ghost format = { transaction_format };
+
+    fn read_within(
+        alloc: Global,
+        input: &mut Cursor<'_>,
+        limits: Limits,
+    ) -> Result<Transaction, ReadXdr> {
+        let source = MuxedAccount::read(alloc, input)?;
+        let fee = u32::read(alloc, input)?;
+        let seq_num = i64::read(alloc, input)?;
+        let preconditions = Preconditions::read(alloc, input)?;
+        let memo = Memo::read(alloc, input)?;
+        let operations = read_list::<Operation>(alloc, input, limits.operations)?;
+        let ext = TransactionExt::read(alloc, input)?;
+        Ok(Transaction {
+            source,
+            fee,
+            seq_num,
+            preconditions,
+            memo,
+            operations: Items::from_vec(operations),
+            ext,
+        })
+    }
+
+    ghost lawful = { transaction_lawful };
+}
+
+#[tactic(auto, unfolding(crate::specs::Transaction::transaction_format))]
+impl Xdr for Transaction {
+    ghost format = { transaction_format whole };
+
+    fn read(alloc: Global, input: &mut Cursor<'_>) -> Result<Transaction, ReadXdr> {
+        Transaction::read_within(alloc, input, Limits::whole())
+    }
+
+    fn write(&self, out: &mut Out) -> Result<(), NoMemory> {
+        self.source.write(out)?;
+        self.fee.write(out)?;
+        self.seq_num.write(out)?;
+        self.preconditions.write(out)?;
+        self.memo.write(out)?;
+        self.operations.write(out)?;
+        self.ext.write(out)
+    }
+
+    #[tactic(auto, unfolding(crate::specs::Transaction::transaction_format, xdr_spec::specs::Format::number32, xdr_spec::specs::Format::signed64, xdr_core::specs::Sizes::capped))]
+    fn size(&self) -> u64 {
+        let size = add_sizes(self.source.size(), self.preconditions.size());
+        let size = add_sizes(size, self.memo.size());
+        let size = add_sizes(size, self.operations.size());
+        let size = add_sizes(size, self.ext.size());
+        // The fee of 4 bytes and the sequence number of 8.
+        size.saturating_add(12)
+    }
+
+    ghost lawful = { transaction_lawful whole };
+}
+
+#[tactic(auto, unfolding(crate::specs::Transaction::signature_format, xdr_core::specs::Sizes::capped))]
+impl Xdr for DecoratedSignature {
+    ghost format = { signature_format };
+
+    fn read(alloc: Global, input: &mut Cursor<'_>) -> Result<DecoratedSignature, ReadXdr> {
+        let mut hint = [0u8; 4];
+        hint.copy_from_slice(input.fixed(4)?);
+        let signature = Bytes::<64>::read(alloc, input)?;
+        Ok(DecoratedSignature { hint, signature })
+    }
+
+    fn write(&self, out: &mut Out) -> Result<(), NoMemory> {
+        out.put_fixed(&self.hint)?;
+        self.signature.write(out)
+    }
+
+    fn size(&self) -> u64 {
+        self.signature.size().saturating_add(4)
+    }
+
+    ghost lawful = { signature_lawful };
+}
+
+#[tactic(auto, unfolding(crate::specs::Transaction::envelope_format))]
+impl ReadWithin for Envelope {
+    ghost format = { envelope_format };
+
+    fn read_within(
+        alloc: Global,
+        input: &mut Cursor<'_>,
+        limits: Limits,
+    ) -> Result<Envelope, ReadXdr> {
+        read_head(input, ENVELOPE_TYPE_TX)?;
+        let tx = Transaction::read_within(alloc, input, limits)?;
+        let signatures = Items::<DecoratedSignature, 20>::read(alloc, input)?;
+        Ok(Envelope { tx, signatures })
+    }
+
+    ghost lawful = { envelope_lawful };
+}
