@@ -1,0 +1,102 @@
+//! The entries of a ledger, found by their keys.
+
+ghost use Rattle.std.specs.Prelude.{◌≡◌, ◌↔◌, ◌≤◌, ◌+◌, ◌<◌, ◌^◌, [], ◌∷◌, ◌++◌, IsTrue, OnOk, OnErr, is_some, All};
+ghost use Rattle.std.specs.Option.{option_copied};
+ghost use Rattle.std.specs.FinMap.{empty, entries, from_sorted, len};
+ghost use Rattle.ledger_types.specs.Key.{key_format};
+ghost use Rattle.ledger_spec.specs.LedgerMap.{find as find_in, IsLedgerMap, IsKeptAt};
+ghost use Rattle.ledger_spec.specs.Changes.{raise as raise_in};
+ghost use Rattle.entry_map.specs.Slots.{pairs_of, is_last};
+
+use crate::search::{Slot, place_of};
+use ledger_spec::Kept;
+use ledger_types::LedgerKey;
+use std::alloc::Global;
+use std::marker::Model;
+use value_types::Blob;
+use xdr_core::NoMemory;
+
+/// The entries of a ledger in the order of their keys' XDR bytes, which are kept beside them. A look-up takes as many
+/// comparisons as the number of entries has binary digits, and no memory.
+#[derive(Drop)]
+pub struct EntryMap {
+    slots: Vec<Slot>,
+}
+
+impl Model for EntryMap {
+    ghost use Rattle.std.specs.FinMap.{code};
+    ghost use Rattle.std.specs.Coded.{coded_list, coded_ℕ};
+    ghost use Rattle.ledger_spec.specs.contracts.Kept as kept;
+    ghost use Rattle.ledger_spec.specs.LedgerMap.{LedgerMap};
+
+    ghost Value = { LedgerMap };
+
+    ghost coded = { code (coded_list coded_ℕ) kept.the_row.coded };
+
+    ghost use Rattle.entry_map.specs.Slots.{map_of, AreSlots};
+
+    ghost view = { λ m. map_of m.slots.items };
+
+    ghost invariant = { λ m. AreSlots m.slots.items };
+}
+
+impl EntryMap {
+    /// Without entries.
+    pub fn new(alloc: Global) -> EntryMap
+        ensures { result ≡ empty }
+    {
+        EntryMap {
+            slots: Vec::new(alloc),
+        }
+    }
+
+    /// The entries and the bytes of their keys, in order.
+    pub fn as_slice(&self) -> &[Slot]
+        ensures slots { pairs_of result.now ≡ entries self.now }
+        ensures entries { IsLedgerMap self.now }
+    {
+        &self.slots
+    }
+
+    /// Whether a count can tell one entry more.
+    pub fn is_full(&self) -> bool
+        ensures { IsTrue result ↔ (2 ^ 32 ≤ len self.now + 1) }
+    {
+        let slots = self.slots.as_slice();
+        slots.len() >= 4_294_967_295
+    }
+
+    /// Adds an entry whose key comes after all others.
+    pub fn push(&mut self, key: Blob, kept: Kept) -> Result<(), NoMemory>
+        requires last { IsTrue (is_last self.old key) }
+        requires kept { IsKeptAt key kept }
+        requires few { len self.old + 1 < 2 ^ 32 }
+        ensures ok { OnOk result (entries self.new ≡ entries self.old ++ (key, kept) ∷ []) }
+        ensures err { OnErr result (self.new ≡ self.old) }
+    {
+        self.slots.push(Slot { key, kept })?;
+        Ok(())
+    }
+
+    /// What is kept at a key.
+    pub fn find(&self, key: &LedgerKey) -> Option<&Kept>
+        requires { key_format.fits key.now }
+        ensures { option_copied result ≡ find_in self.now key.now }
+    {
+        match place_of(&self.slots, key) {
+            Some(place) => Some(&self.slots[place].kept),
+            None => None,
+        }
+    }
+
+    /// Lets what is kept at a key, if it is there, live at least until a ledger.
+    pub fn raise(&mut self, key: &LedgerKey, live_until: u32)
+        requires { key_format.fits key.now }
+        ensures { self.new ≡ raise_in self.old key.now live_until }
+    {
+        if let Some(place) = place_of(&self.slots, key) {
+            let kept = &mut self.slots[place].kept;
+            kept.live_until = kept.live_until.max(live_until);
+        }
+    }
+}

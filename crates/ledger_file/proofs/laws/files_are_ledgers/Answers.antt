@@ -1,0 +1,9 @@
+use Rattle.ledger_file.proofs.FromFile.{file_read}
+use Rattle.ledger_file.proofs.ToFile.{file_is_read}
+use Rattle.ledger_file.proofs.laws.files_are_ledgers.Goals as goal
+
+pub returns-clause-only : goal.returns-clause-only
+returns-clause-only c follows bytes header entries fit e = file_read follows bytes header entries fit e
+
+pub returns-clause-all : goal.returns-clause-all
+returns-clause-all c follows bytes header entries h = file_is_read follows bytes header entries h

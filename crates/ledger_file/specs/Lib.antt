@@ -1,0 +1,4 @@
+pub mod Rules
+pub mod Records
+pub mod Reading
+pub mod FileOf

@@ -1,0 +1,24 @@
+//! Why no ledger was read.
+
+ghost use Rattle.std.specs.Prelude.{◌≡◌};
+ghost use Rattle.ledger_file.specs.declared.error.LedgerErr.TheVariants.{NoMemory as OutOfMemory};
+
+use ledger_spec::LedgerRefusal;
+use xdr_core::NoMemory;
+
+/// Why no ledger was read.
+#[derive(Clone, Copy, Debug, PartialEq, Eq)]
+pub enum LedgerErr {
+    /// The file is not that of a ledger.
+    Refused(LedgerRefusal),
+    /// Memory ran out.
+    NoMemory,
+}
+
+impl From<NoMemory> for LedgerErr {
+    ghost from_gives = { λ _ e. e ≡ OutOfMemory };
+
+    fn from(_e: NoMemory) -> LedgerErr {
+        LedgerErr::NoMemory
+    }
+}

@@ -1,0 +1,29 @@
+//! Ledgers.
+
+ghost use Rattle.std.specs.Prelude.{◌≡◌};
+
+use contract_storage::{Found, Ground};
+use entry_map::EntryMap;
+use ledger_types::{Header, LedgerKey};
+
+/// A ledger: what holds of it as a whole, and its entries.
+#[derive(Drop)]
+pub struct Ledger {
+    pub header: Header,
+    pub entries: EntryMap,
+}
+
+impl Ground for Ledger {
+    ghost map = { λ ledger. ledger.entries };
+
+    fn find(&self, key: &LedgerKey) -> Option<Found<'_>> {
+        let _slots = self.entries.as_slice();
+        match self.entries.find(key) {
+            Some(kept) => Some(Found {
+                entry: &kept.entry,
+                live_until: kept.live_until,
+            }),
+            None => None,
+        }
+    }
+}

@@ -1,0 +1,53 @@
+//! Ledgers read from bytes.
+
+ghost use Rattle.std.specs.Prelude.{◌≡◌, Bool, Ok, IfOk, IfErr};
+ghost use Rattle.xdr_spec.specs.Decoded.{decoded};
+ghost use Rattle.ledger_types.specs.File.{file_format};
+ghost use Rattle.ledger_types.specs.Header.{header_format};
+ghost use Rattle.ledger_spec.specs.LedgerFile.{ledger_of};
+ghost use Rattle.ledger_file.specs.Reading.{IsRefusalUnlessMemory};
+
+use crate::error::LedgerErr;
+use crate::ledger::Ledger;
+use crate::records::map_of_records;
+use crate::rules::header_refusal;
+use ledger_spec::{LedgerRefusal, LedgerWhy};
+use ledger_types::LedgerFile;
+use std::alloc::Global;
+use value_xdr::decode;
+use xdr_core::ReadXdr;
+
+/// What a file spells.
+fn read_file(alloc: Global, bytes: &[u8]) -> Result<LedgerFile, LedgerErr>
+    ensures file { IfOk result (λ file. decoded file_format bytes.now ≡ Ok file) }
+    ensures fits { IfOk result file_format.fits }
+    ensures refused { IfErr result (λ e. (follows : Bool) → IsRefusalUnlessMemory (ledger_of follows bytes.now) e) }
+{
+    match decode::<LedgerFile>(alloc, bytes) {
+        Ok(file) => Ok(file),
+        Err(ReadXdr::NoMemory) => Err(LedgerErr::NoMemory),
+        Err(ReadXdr::Bad(e)) => Err(LedgerErr::Refused(LedgerRefusal {
+            why: LedgerWhy::Xdr,
+            at: e.at,
+        })),
+    }
+}
+
+/// The ledger that a file holds. `follows` asks that another ledger may follow it.
+///
+/// All bytes are read first. Then the settings are judged, then the number where `follows` asks for it, then the
+/// records, one after the other, of which the first at fault decides.
+pub fn read_ledger(alloc: Global, bytes: &[u8], follows: bool) -> Result<Ledger, LedgerErr>
+    ensures ledger { IfOk result (λ ledger. ledger_of follows bytes.now ≡ Ok (ledger.header, ledger.entries)) }
+    ensures refused { IfErr result (IsRefusalUnlessMemory (ledger_of follows bytes.now)) }
+
+    // So it can be written again.
+    ensures header { IfOk result (λ ledger. header_format.fits ledger.header) }
+{
+    let LedgerFile { header, records } = read_file(alloc, bytes)?;
+    if let Some(refusal) = header_refusal(&header, follows) {
+        return Err(LedgerErr::Refused(refusal));
+    }
+    let entries = map_of_records(alloc, records.into_vec())?;
+    Ok(Ledger { header, entries })
+}

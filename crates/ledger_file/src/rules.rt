@@ -1,0 +1,75 @@
+//! What a ledger's file has to keep beyond its layout.
+
+ghost use Rattle.std.specs.Prelude.{◌≡◌, ℕ, List, Option};
+ghost use Rattle.ledger_spec.specs.LedgerFile.{are_settings, fault_of, has_code_hash, record_key, is_above as is_above_key};
+ghost use Rattle.ledger_file.specs.Rules.{header_refusal};
+
+use ledger_spec::{LedgerRefusal, LedgerWhy};
+use ledger_types::{Header, LedgerEntryData, LedgerRecord, Settings};
+use sha2::{Digest, Sha256};
+
+/// The most that the greatest life may be.
+const GREATEST_LIFE: u32 = 200_000_000;
+
+/// The first number that no other ledger may follow.
+const LAST_SEQ: u32 = 4_000_000_000;
+
+/// Whether the settings are within their bounds.
+fn are_settings(settings: &Settings) -> bool
+    ensures { result ≡ are_settings settings.now }
+{
+    let most = settings.max_entry_ttl;
+    let temporary = settings.min_temporary_ttl;
+    let persistent = settings.min_persistent_ttl;
+    1 <= temporary
+        && temporary <= most
+        && 1 <= persistent
+        && persistent <= most
+        && most <= GREATEST_LIFE
+        && 1 <= settings.terms.wasm_insn_exec.instructions.constant
+}
+
+/// What is wrong with a header. `follows` asks that another ledger may follow.
+pub fn header_refusal(header: &Header, follows: bool) -> Option<LedgerRefusal>
+    ensures { result ≡ header_refusal follows header.now }
+{
+    let why = if !are_settings(&header.settings) {
+        LedgerWhy::Settings
+    } else if follows && header.seq >= LAST_SEQ {
+        LedgerWhy::SeqEnd
+    } else {
+        return None;
+    };
+    Some(LedgerRefusal { why, at: 0 })
+}
+
+/// Whether the hash of a code entry is that of its code.
+fn has_code_hash(body: &LedgerEntryData) -> bool
+    ensures { result ≡ has_code_hash body.now }
+{
+    match body {
+        LedgerEntryData::ContractData(_) => true,
+        LedgerEntryData::ContractCode(entry) => {
+            let hash = Sha256::digest(entry.code.as_slice());
+            entry.hash.0.as_slice() == hash.as_slice()
+        }
+    }
+}
+
+/// What is wrong with a record, by the bytes of its key, and by whether they come after the key before it.
+pub fn record_fault(is_above: bool, key: &[u8], item: &LedgerRecord) -> Option<LedgerWhy>
+    requires { key.now ≡ record_key item.now }
+    ensures { (before : Option (List ℕ)) → is_above ≡ is_above_key before key.now → result ≡ fault_of before item.now }
+{
+    if !is_above {
+        return Some(LedgerWhy::Order);
+    }
+    let hash = Sha256::digest(key);
+    if item.ttl.key_hash.0.as_slice() != hash.as_slice() {
+        return Some(LedgerWhy::TtlHash);
+    }
+    if !has_code_hash(&item.entry.data) {
+        return Some(LedgerWhy::CodeHash);
+    }
+    None
+}

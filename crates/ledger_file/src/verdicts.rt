@@ -1,0 +1,24 @@
+//! Verdicts read from bytes.
+
+ghost use Rattle.std.specs.Prelude.{IfOk, IfErr};
+ghost use Rattle.xdr_spec.specs.Refusal.{Spells};
+ghost use Rattle.xdr_core.specs.Reads.{IsValueUnlessMemory, IsRefusal};
+ghost use Rattle.ledger_types.specs.Verdicts.{verdicts_format};
+ghost use Rattle.ledger_types.specs.declared.verdicts.Verdicts.{Verdicts as VerdictList};
+
+use ledger_types::Verdicts;
+use std::alloc::Global;
+use value_xdr::decode;
+use xdr_core::ReadXdr;
+
+/// The verdicts that a file holds: all of its bytes.
+pub fn read_verdicts(alloc: Global, bytes: &[u8]) -> Result<Verdicts, ReadXdr>
+    // What is read is spelled so.
+    ensures found { IfOk result (λ v. Spells verdicts_format v bytes.now) }
+    // What is spelled so is read, unless memory runs out.
+    ensures only { (v : VerdictList) → Spells verdicts_format v bytes.now → IsValueUnlessMemory v result }
+    // What is refused goes wrong there, for that reason.
+    ensures refused { IfErr result (λ e. IsRefusal verdicts_format bytes.now e) }
+{
+    decode::<Verdicts>(alloc, bytes)
+}

@@ -1,0 +1,87 @@
+-- How a ledger's map changes in ledger n (own, after CAP-0046-12: state archival).
+use Rattle.std.specs.Prelude.{ℕ, ◌+◌, ◌-◌, ◌&&◌, Option, Some, None, Result, Ok, Err, max, nat_lt, nat_le, if◌then◌else◌}
+use Rattle.std.specs.FinMap.{insert, remove}
+use Rattle.ledger_types.specs.Entry.{key_of}
+use Rattle.ledger_types.specs.declared.key.LedgerKey.{LedgerKey}
+use Rattle.ledger_types.specs.declared.entry.LedgerEntry.{LedgerEntry}
+use Rattle.ledger_types.specs.declared.header.Settings.{Settings}
+use Rattle.ledger_spec.specs.declared.Kept.{Kept}
+use Rattle.ledger_spec.specs.LedgerMap.{LedgerMap, find, key_bytes}
+use Rattle.ledger_spec.specs.Seen.{Seen, live, absent, archived, seen, is_temporary}
+
+-- the least life of a new entry, and the last ledger of that life
+abbrev pub least_life : Settings → LedgerEntry → ℕ
+least_life settings entry = if is_temporary entry.data then settings.min_temporary_ttl else settings.min_persistent_ttl
+
+abbrev pub first_life : Settings → ℕ → LedgerEntry → ℕ
+first_life settings n entry = n + least_life settings entry - 1
+
+-- the last ledger that any life may reach
+abbrev pub furthest : Settings → ℕ → ℕ
+furthest settings n = n + settings.max_entry_ttl - 1
+
+abbrev pub written : ℕ → LedgerEntry → LedgerEntry
+written n entry = record entry { last_modified_ledger_seq = n }
+
+-- A put writes an entry at its key: what is live there keeps its life, and what is absent begins one, in place of a
+-- temporary entry whose life ended. There is no map where the entry is archived: that access ends the run.
+abbrev pub put_seen : Seen → Settings → ℕ → LedgerMap → LedgerEntry → Option LedgerMap
+put_seen (live kept) settings n map entry =
+    Some (insert map (key_bytes (key_of entry)) (record { entry = written n entry; live_until = kept.live_until }))
+put_seen absent settings n map entry =
+    Some (insert map (key_bytes (key_of entry)) (record { entry = written n entry; live_until = first_life settings n entry }))
+put_seen archived settings n map entry = None
+
+abbrev pub put : Settings → ℕ → LedgerMap → LedgerEntry → Option LedgerMap
+put settings n map entry = put_seen (seen n map (key_of entry)) settings n map entry
+
+-- A delete takes away what is live, so the record of a temporary entry whose life ended stays.
+abbrev pub delete_seen : Seen → LedgerMap → LedgerKey → Option LedgerMap
+delete_seen (live kept) map key = Some (remove map (key_bytes key))
+delete_seen absent map key = Some map
+delete_seen archived map key = None
+
+abbrev pub delete : ℕ → LedgerMap → LedgerKey → Option LedgerMap
+delete n map key = delete_seen (seen n map key) map key
+
+-- why a life is not extended
+pub data Unextended : Type 0 where
+  backward : Unextended  -- the threshold is above extend_to: (STORAGE, INVALID_INPUT)
+  missing : Unextended  -- there is no live entry: (STORAGE, MISSING_VALUE)
+  too_far : Unextended  -- a temporary entry would live beyond the furthest, whatever the threshold says: (STORAGE, INVALID_ACTION)
+  in_archive : Unextended  -- the entry is archived: that access ends the run
+
+-- the life that an extension asks for: a persistent entry or code stops at the furthest
+abbrev pub asked_life : Settings → ℕ → LedgerEntry → ℕ → Option ℕ
+asked_life settings n entry extend_to =
+    if nat_le (n + extend_to) (furthest settings n) then Some (n + extend_to)
+    else if is_temporary entry.data then None
+    else Some (furthest settings n)
+
+-- a life is made longer where no more than the threshold is left of it
+abbrev pub longer : ℕ → Kept → ℕ → ℕ → Kept
+longer n kept threshold life =
+    if nat_lt kept.live_until life && nat_le (kept.live_until - n) threshold then record kept { live_until = life } else kept
+
+abbrev pub extend_live : Option ℕ → ℕ → LedgerMap → LedgerKey → Kept → ℕ → Result LedgerMap Unextended
+extend_live None n map key kept threshold = Err too_far
+extend_live (Some life) n map key kept threshold = Ok (insert map (key_bytes key) (longer n kept threshold life))
+
+abbrev pub extend_seen : Seen → Settings → ℕ → LedgerMap → LedgerKey → ℕ → ℕ → Result LedgerMap Unextended
+extend_seen (live kept) settings n map key threshold extend_to =
+    extend_live (asked_life settings n kept.entry extend_to) n map key kept threshold
+extend_seen absent settings n map key threshold extend_to = Err missing
+extend_seen archived settings n map key threshold extend_to = Err in_archive
+
+abbrev pub extend : Settings → ℕ → LedgerMap → LedgerKey → ℕ → ℕ → Result LedgerMap Unextended
+extend settings n map key threshold extend_to =
+    if nat_lt extend_to threshold then Err backward
+    else extend_seen (seen n map key) settings n map key threshold extend_to
+
+-- By maximum: an entry that is there lives at least until this ledger. The entry itself is not written.
+abbrev pub raised : Option Kept → LedgerMap → LedgerKey → ℕ → LedgerMap
+raised None map key live_until = map
+raised (Some kept) map key live_until = insert map (key_bytes key) (record kept { live_until = max kept.live_until live_until })
+
+abbrev pub raise : LedgerMap → LedgerKey → ℕ → LedgerMap
+raise map key live_until = raised (find map key) map key live_until

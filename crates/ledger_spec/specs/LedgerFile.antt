@@ -1,0 +1,120 @@
+-- The file of a ledger (own): a header, and for each entry a record, in the order of the keys' XDR bytes.
+use Rattle.std.specs.Prelude.{ℕ, ◌+◌, Bool, true, ◌&&◌, not, List, [], ◌∷◌, map, Option, Some, None, Result, Ok, Err, nat_lt, nat_le, if◌then◌else◌}
+use Rattle.std.specs.Ordering.{is_lt, nat_cmp}
+use Rattle.std.specs.FinMap.{from_sorted, values}
+use Rattle.std.specs.Cmp.Lexicographic.{slice_cmp}
+use Rattle.std.specs.Str.{bytes_eq}
+use Rattle.sha2.specs.Sha256.{sha256}
+use Rattle.xdr_spec.specs.declared.XdrErr.{XdrErr}
+use Rattle.xdr_spec.specs.Decoded.{decoded}
+use Rattle.ledger_types.specs.Entry.{key_of}
+use Rattle.ledger_types.specs.File.{file_format}
+use Rattle.ledger_types.specs.declared.entry.LedgerEntryData.{LedgerEntryData}
+use Rattle.ledger_types.specs.declared.entry.LedgerEntryData.TheVariants.{ContractData, ContractCode}
+use Rattle.ledger_types.specs.declared.record.LedgerRecord.{LedgerRecord}
+use Rattle.ledger_types.specs.declared.file.LedgerFile.{LedgerFile}
+use Rattle.ledger_types.specs.declared.header.Settings.{Settings}
+use Rattle.ledger_types.specs.declared.header.Header.{Header}
+use Rattle.ledger_spec.specs.declared.Kept.{Kept}
+use Rattle.ledger_spec.specs.declared.LedgerWhy.{LedgerWhy}
+use Rattle.ledger_spec.specs.declared.LedgerWhy.TheVariants as why
+use Rattle.ledger_spec.specs.declared.LedgerRefusal.{LedgerRefusal}
+use Rattle.ledger_spec.specs.LedgerMap.{LedgerMap, key_bytes}
+
+-- ---- what is written
+
+abbrev pub record_of : Kept → LedgerRecord
+record_of kept = record {
+  entry = kept.entry;
+  ttl = record { key_hash = record { 0 = sha256 (key_bytes (key_of kept.entry)) }; live_until_ledger_seq = kept.live_until };
+}
+
+abbrev pub file_of : Header → LedgerMap → LedgerFile
+file_of header entries = record { header = header; records = map record_of (values entries) }
+
+-- the bytes of a ledger's file
+abbrev pub ledger_bytes : Header → LedgerMap → List ℕ
+ledger_bytes header entries = file_format.spell (file_of header entries)
+
+-- ---- what is read
+
+abbrev pub is_life : Settings → ℕ → Bool
+is_life settings life = nat_le 1 life && nat_le life settings.max_entry_ttl
+
+-- each least life is from 1 to the greatest life, which is bounded, and an instruction costs something
+abbrev pub are_settings : Settings → Bool
+are_settings settings =
+    is_life settings settings.min_temporary_ttl && is_life settings settings.min_persistent_ttl
+    && nat_le settings.max_entry_ttl 200000000 && nat_le 1 settings.terms.wasm_insn_exec.instructions.constant
+
+-- another ledger may follow
+abbrev pub has_next : Header → Bool
+has_next header = nat_lt header.seq 4000000000
+
+-- the key comes after the one before it
+abbrev pub is_above : Option (List ℕ) → List ℕ → Bool
+is_above None key = true
+is_above (Some before) key = is_lt (slice_cmp nat_cmp before key)
+
+abbrev pub has_code_hash : LedgerEntryData → Bool
+has_code_hash (ContractData entry) = true
+has_code_hash (ContractCode entry) = bytes_eq entry.hash.0 (sha256 entry.code)
+
+abbrev pub record_key : LedgerRecord → List ℕ
+record_key entry = key_bytes (key_of entry.entry)
+
+-- what is wrong with a record, by the key before it
+abbrev pub fault_of : Option (List ℕ) → LedgerRecord → Option LedgerWhy
+fault_of before entry =
+    if not (is_above before (record_key entry)) then Some why.Order
+    else if not (bytes_eq entry.ttl.key_hash.0 (sha256 (record_key entry))) then Some why.TtlHash
+    else if not (has_code_hash entry.entry.data) then Some why.CodeHash
+    else None
+
+abbrev pub refusal : LedgerWhy → ℕ → LedgerRefusal
+refusal reason at = record { why = reason; at = at }
+
+abbrev pub fault_at : ℕ → Option LedgerWhy → Option LedgerRefusal → Option LedgerRefusal
+fault_at at None later = later
+fault_at at (Some reason) later = Some (refusal reason at)
+
+-- the first record at fault, of those from a number on
+abbrev pub first_fault : ℕ → Option (List ℕ) → List LedgerRecord → Option LedgerRefusal
+first_fault at before [] = None
+first_fault at before (entry ∷ rest) =
+    fault_at at (fault_of before entry) (first_fault (at + 1) (Some (record_key entry)) rest)
+
+abbrev pub kept_of : LedgerRecord → Kept
+kept_of entry = record { entry = entry.entry; live_until = entry.ttl.live_until_ledger_seq }
+
+abbrev pub map_of : List LedgerRecord → LedgerMap
+map_of records = from_sorted (map (λ entry. (record_key entry, kept_of entry)) records)
+
+abbrev pub as_map : LedgerFile → Option LedgerRefusal → Result (Header × LedgerMap) LedgerRefusal
+as_map file None = Ok (file.header, map_of file.records)
+as_map file (Some found) = Err found
+
+-- The file is judged by its settings first, then by its number where a ledger is to follow, then record by record.
+abbrev pub judged : Bool → LedgerFile → Result (Header × LedgerMap) LedgerRefusal
+judged follows file =
+    if not (are_settings file.header.settings) then Err (refusal why.Settings 0)
+    else if follows && not (has_next file.header) then Err (refusal why.SeqEnd 0)
+    else as_map file (first_fault 0 None file.records)
+
+abbrev pub judged_if : Bool → Result LedgerFile XdrErr → Result (Header × LedgerMap) LedgerRefusal
+judged_if follows (Ok file) = judged follows file
+judged_if follows (Err e) = Err (refusal why.Xdr e.at)
+
+-- The header and the map of a file, or why it is none: all of its bytes are read first.
+abbrev pub ledger_of : Bool → List ℕ → Result (Header × LedgerMap) LedgerRefusal
+ledger_of follows bytes = judged_if follows (decoded file_format bytes)
+
+-- ---- the number of a refusal, as it is printed
+
+abbrev pub why_number : LedgerWhy → ℕ
+why_number why.Xdr = 1
+why_number why.Order = 2
+why_number why.TtlHash = 3
+why_number why.CodeHash = 4
+why_number why.Settings = 5
+why_number why.SeqEnd = 6

@@ -1,0 +1,4 @@
+pub mod LedgerMap
+pub mod Seen
+pub mod Changes
+pub mod LedgerFile
