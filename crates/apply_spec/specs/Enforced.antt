@@ -1,0 +1,87 @@
+-- What becomes of one transaction over a map of all entries (own, after CAP-0046-05 and CAP-0046-12).
+use Rattle.std.specs.Prelude.{ℕ, ◌+◌, Bool, true, false, ◌&&◌, List, [], ◌∷◌, Option, Some, None, length, nat_lt, ◌==◌, if◌then◌else◌}
+use Rattle.std.specs.List.{list_all, filter_map}
+use Rattle.ledger_types.specs.declared.key.LedgerKey.{LedgerKey}
+use Rattle.ledger_types.specs.declared.key.LedgerKey.TheVariants.{Account, Trustline, Offer, Data, ClaimableBalance, LiquidityPool, ContractData, ContractCode, Ttl}
+use Rattle.ledger_types.specs.declared.header.Header.{Header}
+use Rattle.ledger_types.specs.declared.header.Settings.{Settings}
+use Rattle.tx_xdr.specs.declared.transaction.Footprint.{Footprint}
+use Rattle.tx_xdr.specs.declared.transaction.Operation.{Operation}
+use Rattle.tx_xdr.specs.declared.transaction.OperationBody.{OperationBody}
+use Rattle.tx_xdr.specs.declared.transaction.OperationBody.TheVariants.{ExtendFootprintTtl}
+use Rattle.tx_xdr.specs.declared.transaction.Transaction.{Transaction}
+use Rattle.tx_xdr.specs.declared.results.ExtendResult.TheVariants as extends
+use Rattle.tx_xdr.specs.declared.results.OperationResult.TheVariants.{Extend}
+use Rattle.tx_xdr.specs.declared.results.TransactionOutcome.{TransactionOutcome}
+use Rattle.tx_xdr.specs.declared.results.TransactionOutcome.TheVariants.{Success, Failed, MissingOperation}
+use Rattle.ledger_spec.specs.LedgerMap.{LedgerMap}
+use Rattle.ledger_spec.specs.Seen.{Seen, live, absent, archived, seen}
+use Rattle.apply_spec.specs.declared.Extension.{Extension}
+use Rattle.apply_spec.specs.Checks.{footprint_of, refusal_of}
+
+-- the ledger that is being made
+abbrev pub next_seq : Header → ℕ
+next_seq header = header.seq + 1
+
+-- the outcome, and the lives that are to be longer, which are pending until they are put in
+pub record Enforced : Type 0 where
+  pub outcome : TransactionOutcome
+  pub extensions : List Extension
+
+abbrev pub without_effect : TransactionOutcome → Enforced
+without_effect outcome = record { outcome = outcome; extensions = [] }
+
+-- ---- EXTEND_FOOTPRINT_TTL
+
+-- contract data and contract code alone have a life to extend
+abbrev pub has_life : LedgerKey → Bool
+has_life (ContractData contract key durability) = true
+has_life (ContractCode hash) = true
+has_life (Account account) = false
+has_life (Trustline account asset) = false
+has_life (Offer seller offer) = false
+has_life (Data account name) = false
+has_life (ClaimableBalance id) = false
+has_life (LiquidityPool pool) = false
+has_life (Ttl hash) = false
+
+-- nothing is declared read-write, what is declared has a life, and the new life is not beyond the greatest
+abbrev pub may_extend : Settings → Footprint → ℕ → Bool
+may_extend settings footprint extend_to =
+    (length footprint.read_write == 0) && list_all has_life footprint.read_only && nat_lt extend_to settings.max_entry_ttl
+
+-- an entry that is live, but not as long, is to live until this ledger
+abbrev pub extension_seen : Seen → LedgerKey → ℕ → Option Extension
+extension_seen (live kept) key until =
+    if nat_lt kept.live_until until then Some (record { key = key; live_until = until }) else None
+extension_seen absent key until = None
+extension_seen archived key until = None
+
+abbrev pub extensions_of : ℕ → LedgerMap → List LedgerKey → ℕ → List Extension
+extensions_of n entries keys until = filter_map (λ key. extension_seen (seen n entries key) key until) keys
+
+abbrev pub extended : Header → LedgerMap → Footprint → ℕ → Enforced
+extended header entries footprint extend_to =
+    if may_extend header.settings footprint extend_to then record {
+      outcome = Success (Extend extends.Success ∷ []);
+      extensions = extensions_of (next_seq header) entries footprint.read_only (next_seq header + extend_to);
+    }
+    else without_effect (Failed (Extend extends.Malformed ∷ []))
+
+-- ---- any transaction
+
+abbrev pub performed : Header → LedgerMap → Transaction → OperationBody → Enforced
+performed header entries tx (ExtendFootprintTtl extend_to) = extended header entries (footprint_of tx) extend_to
+
+-- its one operation; that there is one is checked before
+abbrev pub first_performed : Header → LedgerMap → Transaction → List Operation → Enforced
+first_performed header entries tx [] = without_effect MissingOperation
+first_performed header entries tx (operation ∷ rest) = performed header entries tx operation.body
+
+abbrev pub unless_refused : Option TransactionOutcome → Enforced → Enforced
+unless_refused (Some outcome) done = without_effect outcome
+unless_refused None done = done
+
+-- the checks come first, and then the operation
+abbrev pub enforced : Header → LedgerMap → Transaction → Enforced
+enforced header entries tx = unless_refused (refusal_of tx) (first_performed header entries tx tx.operations)

@@ -1,0 +1,4 @@
+pub mod Checks
+pub mod Enforced
+pub mod Runs
+pub mod Outputs

@@ -1,0 +1,56 @@
+-- What applying a set stores and says (own; results are those of the Stellar XDR files).
+use Rattle.std.specs.Prelude.{ℕ, ◌-◌, Bool, true, false, List, ◌++◌, length, count_by, codes, decimal}
+use Rattle.hex.specs.Hex.{encode_lower}
+use Rattle.sha2.specs.Sha256.{sha256}
+use Rattle.ledger_types.specs.declared.header.Header.{Header}
+use Rattle.tx_xdr.specs.Results.{report_bytes}
+use Rattle.tx_xdr.specs.declared.set.TxSet.{TxSet}
+use Rattle.tx_xdr.specs.declared.results.TransactionOutcome.{TransactionOutcome}
+use Rattle.tx_xdr.specs.declared.results.TransactionOutcome.TheVariants.{Success, Failed, MissingOperation, Malformed, SorobanInvalid}
+use Rattle.tx_xdr.specs.declared.results.TransactionResultPair.{TransactionResultPair}
+use Rattle.ledger_spec.specs.LedgerMap.{LedgerMap}
+use Rattle.ledger_spec.specs.LedgerFile.{ledger_bytes}
+use Rattle.apply_spec.specs.Runs.{Running, run_set, new_header}
+
+-- ---- the lines
+
+-- a transaction succeeded where its result code is txSUCCESS
+abbrev pub is_success : TransactionOutcome → Bool
+is_success (Success results) = true
+is_success (Failed results) = false
+is_success MissingOperation = false
+is_success Malformed = false
+is_success SorobanInvalid = false
+
+abbrev pub successes : List TransactionResultPair → ℕ
+successes results = count_by (λ pair. is_success pair.result.outcome) results
+
+abbrev pub count_line : ℕ → List TransactionResultPair → List ℕ
+count_line seq results =
+    codes "ledger " ++ decimal seq ++ codes ": " ++ decimal (length results) ++ codes " transactions, "
+    ++ decimal (successes results) ++ codes " succeeded, " ++ decimal (length results - successes results) ++ codes " failed\n"
+
+abbrev pub hash_line : List ℕ → List ℕ → List ℕ
+hash_line name bytes = name ++ encode_lower (sha256 bytes) ++ codes "\n"
+
+-- ---- both files and all lines
+
+pub record Outputs : Type 0 where
+  pub report : List ℕ
+  pub ledger : List ℕ
+  pub lines : List ℕ
+
+abbrev pub outputs_with : ℕ → List TransactionResultPair → List ℕ → List ℕ → Outputs
+outputs_with seq results report ledger = record {
+  report = report;
+  ledger = ledger;
+  lines = count_line seq results ++ hash_line (codes "report ") report ++ hash_line (codes "ledger ") ledger;
+}
+
+abbrev pub outputs_after : Header → Running → Outputs
+outputs_after header running =
+    outputs_with header.seq running.results (report_bytes (record { pairs = running.results })) (ledger_bytes header running.entries)
+
+-- what a set over a ledger stores and says
+abbrev pub outputs : Header → LedgerMap → TxSet → ℕ → Outputs
+outputs header entries set close_time = outputs_after (new_header header close_time) (run_set header entries set close_time)

@@ -1,0 +1,4 @@
+pub mod Spelling
+pub mod Among
+pub mod Effects
+pub mod On

@@ -1,0 +1,53 @@
+-- What stays known of what has become of transactions.
+use Rattle.std.specs.List.{AllByRecursion, flat_map}
+use Rattle.std.proofs.Common.{◌≡◌, ℕ, IsTrue, ◌+◌, ◌<◌, ◌≤◌, List, [], ◌∷◌, ◌++◌, length, get_or, take, fold, refl, sym, ap, subst, ◌∙◌, arith}
+use Rattle.std.proofs.lemmas.List.{take_more, append-nil}
+use Rattle.std.proofs.lemmas.Grind.{flat_map-append}
+use Rattle.std.proofs.Math.Seq.{take-length}
+use Rattle.std.proofs.lemmas.List.Sums.{fold-append}
+use Rattle.std.proofs.lemmas.List.Elements.{All-nil}
+use Rattle.ledger_types.specs.Key.{key_format}
+use Rattle.ledger_types.specs.declared.header.Header.{Header}
+use Rattle.ledger_spec.specs.LedgerFile.{are_settings, has_next}
+use Rattle.tx_xdr.specs.declared.results.TransactionResultPair.{TransactionResultPair}
+use Rattle.apply_spec.specs.declared.Extension.{Extension}
+use Rattle.ledger_apply.specs.declared.running.Running.{Running as State}
+use Rattle.ledger_apply.specs.State.{IsOn}
+
+-- on a header, and so on its own
+pub on_own : (header : Header) (state : State) → IsOn header state → IsOn state.ledger.header state
+on_own header state on = subst (λ (h : Header). IsOn h state) (sym on.headed) on
+
+pub on_other : (header other : Header) (state : State) → header ≡ other → IsOn header state → IsOn other state
+on_other header other state e on = subst (λ (h : Header). IsOn h state) e on
+
+-- nothing has become yet
+pub starts_on : (state : State) → IsTrue (are_settings state.ledger.header.settings) → IsTrue (has_next state.ledger.header) → state.pending.items ≡ [] → state.results.items ≡ [] → IsOn state.ledger.header state
+starts_on state settings next a b = record {
+  settings = settings;
+  next = next;
+  headed = refl;
+  keyed = rw a (All-nil (λ (e : Extension). key_format.fits e.key));
+  spelled = rw b tt;
+  few = rw b (omega arith);
+}
+
+pub recursion_append : (P : TransactionResultPair → Type 0) (xs ys : List TransactionResultPair) → AllByRecursion P xs → AllByRecursion P ys → AllByRecursion P (xs ++ ys)
+recursion_append P [] ys h k = k
+recursion_append P (x ∷ xs) ys h k = (h.0, recursion_append P xs ys h.1 k)
+
+-- one more step of a fold
+pub fold_more : {A B : Type 0} (f : B → A → B) (b : B) (xs : List A) (i : ℕ) (x : A) → i < length xs → x ≡ get_or xs i x → fold f b (take (i + 1) xs) ≡ f (fold f b (take i xs)) x
+fold_more f b xs i x lt is =
+    ap (fold f b) (take_more xs i x lt ∙ ap (λ y. take i xs ++ y ∷ []) (sym is)) ∙ fold-append f b (take i xs) (x ∷ [])
+
+pub take_all : {A : Type 0} (xs : List A) (i : ℕ) → length xs ≤ i → i ≤ length xs → take i xs ≡ xs
+take_all xs i le ge = ap (λ (n : ℕ). take n xs) (omega (arith, le, ge)) ∙ take-length xs
+
+-- the same of lists that stand one after the other
+pub fold_more_of : {A B C : Type 0} (f : B → A → B) (b : B) (g : C → List A) (xs : List C) (i : ℕ) (x : C) → i < length xs → x ≡ get_or xs i x
+    → fold f b (flat_map g (take (i + 1) xs)) ≡ fold f (fold f b (flat_map g (take i xs))) (g x)
+fold_more_of f b g xs i x lt is =
+    ap (λ ys. fold f b (flat_map g ys)) (take_more xs i x lt ∙ ap (λ y. take i xs ++ y ∷ []) (sym is))
+    ∙ ap (fold f b) (flat_map-append g (take i xs) (x ∷ []) ∙ ap (λ ys. flat_map g (take i xs) ++ ys) (append-nil (g x)))
+    ∙ fold-append f b (flat_map g (take i xs)) (g x)

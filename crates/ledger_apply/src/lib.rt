@@ -1,0 +1,13 @@
+//! What becomes of a transaction set over a ledger: stages, clusters and transactions one after the other.
+#![tactic(auto)]
+
+mod cluster;
+mod pending;
+mod running;
+mod set;
+mod step;
+
+pub use cluster::run_cluster;
+pub use running::Running;
+pub use set::{Applied, apply_set};
+pub use step::run_transaction;

@@ -1,0 +1,100 @@
+//! Transaction sets.
+
+ghost use Rattle.std.specs.Prelude.{◌≡◌, [], All, IfOk, IsTrue, fold};
+ghost use Rattle.ledger_spec.specs.LedgerFile.{are_settings, has_next};
+ghost use Rattle.tx_xdr.specs.Limits.{today};
+ghost use Rattle.tx_xdr.specs.Set.{set_format};
+ghost use Rattle.tx_xdr.specs.Results.{result_set_format};
+ghost use Rattle.apply_spec.specs.Runs.{run_stage as run_stage_in, run_set, new_header, stages_in};
+ghost use Rattle.ledger_apply.specs.State.{running_of, IsOn};
+ghost use Rattle.ledger_apply.specs.Spelled.{IsStage};
+
+use crate::cluster::run_stage;
+use crate::running::Running;
+use ledger_file::Ledger;
+use ledger_types::Header;
+use std::alloc::Global;
+use tx_xdr::{Phase, ResultSet, Stage, TxSet};
+use value_types::Items;
+use xdr_core::NoMemory;
+
+/// The ledger after a set, and the results in the set's order.
+#[derive(Drop)]
+pub struct Applied {
+    pub ledger: Ledger,
+    pub results: ResultSet,
+}
+
+fn stages_of(phase: &Phase) -> &[Stage]
+    ensures { result.now ≡ stages_in phase.now }
+{
+    match phase {
+        Phase::Parallel { stages, .. } => stages.as_slice(),
+    }
+}
+
+fn run_stages(alloc: Global, running: Running, stages: &[Stage]) -> Result<Running, NoMemory>
+    requires fits { All IsStage stages.now }
+    requires on { IsOn running.ledger.header running }
+    ensures run { IfOk result (λ r. running_of r ≡ fold (run_stage_in running.ledger.header) (running_of running) stages.now) }
+    ensures on { IfOk result (IsOn running.ledger.header) }
+{
+    let mut running = running;
+    for stage in stages {
+        running = run_stage(alloc, running, stage)?;
+    }
+    Ok(running)
+}
+
+/// The ledger that follows a ledger by a set, with the close time of the new one in seconds since 1970.
+pub fn apply_set(
+    alloc: Global,
+    ledger: Ledger,
+    set: &TxSet,
+    close_time: u64,
+) -> Result<Applied, NoMemory>
+    requires fits { (set_format today).fits set.now }
+    requires settings { IsTrue (are_settings ledger.header.settings) }
+    requires next { IsTrue (has_next ledger.header) }
+    ensures header { IfOk result (λ a. a.ledger.header ≡ new_header ledger.header close_time) }
+    ensures entries { IfOk result (λ a. a.ledger.entries ≡ (run_set ledger.header ledger.entries set.now close_time).entries) }
+    ensures results { IfOk result (λ a. a.results.pairs ≡ (run_set ledger.header ledger.entries set.now close_time).results) }
+
+    // So they can be written.
+    ensures spelled { IfOk result (λ a. result_set_format.fits a.results) }
+{
+    let Ledger { header, entries } = ledger;
+    let running_header = Header {
+        close_time,
+        ..header
+    };
+    let mut running = Running {
+        ledger: Ledger {
+            header: running_header,
+            entries,
+        },
+        pending: Vec::new(alloc),
+        results: Vec::new(alloc),
+    };
+    let phases = set.phases.as_slice();
+    for phase in phases {
+        running = run_stages(alloc, running, stages_of(phase))?;
+    }
+    let Running {
+        ledger,
+        results,
+        ..
+    } = running;
+    Ok(Applied {
+        ledger: Ledger {
+            header: Header {
+                seq: header.seq + 1,
+                ..running_header
+            },
+            entries: ledger.entries,
+        },
+        results: ResultSet {
+            pairs: Items::from_vec(results),
+        },
+    })
+}

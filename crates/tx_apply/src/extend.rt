@@ -1,0 +1,75 @@
+//! EXTEND_FOOTPRINT_TTL.
+
+ghost use Rattle.std.specs.Prelude.{◌≡◌, All, IfOk, if◌then◌else◌};
+ghost use Rattle.std.specs.List.{list_all};
+ghost use Rattle.ledger_types.specs.Key.{key_format};
+ghost use Rattle.apply_spec.specs.Enforced.{has_life as has_life_in, may_extend as may_extend_in, extensions_of, extension_seen};
+ghost use Rattle.ledger_spec.specs.Seen.{seen};
+
+use apply_spec::Extension;
+use contract_storage::Ground;
+use ledger_types::{LedgerKey, Settings};
+use std::alloc::Global;
+use tx_xdr::Footprint;
+use xdr_core::NoMemory;
+
+/// Whether the entry of a key has a life to extend.
+fn has_life(key: &LedgerKey) -> bool
+    ensures { result ≡ has_life_in key.now }
+{
+    matches!(
+        key,
+        LedgerKey::ContractData { .. } | LedgerKey::ContractCode(_)
+    )
+}
+
+fn have_lives(keys: &[LedgerKey]) -> bool
+    ensures { result ≡ list_all has_life_in keys.now }
+{
+    keys.iter().all(has_life)
+}
+
+/// Whether the footprint and the new life are those of an extension.
+pub fn may_extend(settings: &Settings, footprint: &Footprint, extend_to: u32) -> bool
+    ensures { result ≡ may_extend_in settings.now footprint.now extend_to }
+{
+    if !footprint.read_write.as_slice().is_empty() || !have_lives(footprint.read_only.as_slice()) {
+        return false;
+    }
+    extend_to < settings.max_entry_ttl
+}
+
+/// Whether the entry of a key is live in ledger `n`, but not until another.
+fn ends_before<G: Ground>(ground: &G, n: u32, key: &LedgerKey, until: u32) -> bool
+    requires { key_format.fits key.now }
+    ensures { extension_seen (seen n (G.map ground.now) key.now) key.now until ≡ (if result then Some (record { key = key.now; live_until = until }) else None) }
+{
+    match ground.find(key) {
+        Some(found) => found.live_until >= n && found.live_until < until,
+        None => false,
+    }
+}
+
+/// The live entries among these that are to live until a ledger and do not yet, in ledger `n`.
+pub fn extensions<G: Ground>(
+    alloc: Global,
+    ground: &G,
+    n: u32,
+    keys: &[LedgerKey],
+    until: u32,
+) -> Result<Vec<Extension>, NoMemory>
+    requires { All (λ key. key_format.fits key) keys.now }
+    ensures { IfOk result (λ found. found.items ≡ extensions_of n (G.map ground.now) keys.now until) }
+{
+    let mut found = Vec::new(alloc);
+    for key in keys {
+        if ends_before(ground, n, key, until) {
+            let key = key.clone()?;
+            found.push(Extension {
+                key,
+                live_until: until,
+            })?;
+        }
+    }
+    Ok(found)
+}

@@ -1,0 +1,93 @@
+//! The keys that a transaction declares.
+
+ghost use Rattle.std.specs.Prelude.{◌≡◌, ◌++◌, All, IfOk, OnOk, map};
+ghost use Rattle.std.specs.List.{list_all};
+ghost use Rattle.ledger_types.specs.Key.{key_format};
+ghost use Rattle.ledger_spec.specs.LedgerMap.{key_bytes};
+ghost use Rattle.apply_spec.specs.Checks.{footprint_of as footprint_in, may_be_declared as is_declarable, may_be_footprint as is_footprint, declared_keys};
+ghost use Rattle.tx_apply.specs.Twice.{bytes_of, stand_twice};
+
+use ledger_types::LedgerKey;
+use std::alloc::Global;
+use std::collections::BTreeSet;
+use tx_xdr::{Footprint, Transaction, TransactionExt};
+use value_xdr::encode;
+use xdr_core::NoMemory;
+
+/// The footprint that a transaction declares.
+pub fn footprint_of(tx: &Transaction) -> &Footprint
+    ensures { result.now ≡ footprint_in tx.now }
+{
+    match &tx.ext {
+        TransactionExt::Soroban(soroban) => &soroban.footprint,
+    }
+}
+
+/// Whether a contract transaction may declare a key.
+pub fn may_be_declared(key: &LedgerKey) -> bool
+    ensures { result ≡ is_declarable key.now }
+{
+    match key {
+        LedgerKey::Account(_)
+        | LedgerKey::Trustline { .. }
+        | LedgerKey::ContractData { .. }
+        | LedgerKey::ContractCode(_) => true,
+        LedgerKey::Offer { .. }
+        | LedgerKey::Data { .. }
+        | LedgerKey::ClaimableBalance(_)
+        | LedgerKey::LiquidityPool(_)
+        | LedgerKey::Ttl(_) => false,
+    }
+}
+
+/// Adds the spellings of keys.
+pub fn spell_keys(
+    alloc: Global,
+    keys: &[LedgerKey],
+    spellings: &mut Vec<Vec<u8>>,
+) -> Result<(), NoMemory>
+    requires { All (λ key. key_format.fits key) keys.now }
+    ensures { OnOk result (bytes_of spellings.new.items ≡ bytes_of spellings.old.items ++ map key_bytes keys.now) }
+{
+    for key in keys {
+        let bytes = encode(alloc, key)?;
+        spellings.push(bytes)?;
+    }
+    Ok(())
+}
+
+/// Whether the same bytes stand twice.
+fn has_twice(alloc: Global, spellings: &[Vec<u8>]) -> Result<bool, NoMemory>
+    ensures { IfOk result (λ b. b ≡ stand_twice (bytes_of spellings.now)) }
+{
+    let mut seen = BTreeSet::new(alloc);
+    for bytes in spellings {
+        if !seen.insert(bytes.as_slice())? {
+            return Ok(true);
+        }
+    }
+    Ok(false)
+}
+
+/// Whether no key stands twice, and each may be declared. The time grows with n log n of the number of keys.
+pub fn may_be_footprint(alloc: Global, footprint: &Footprint) -> Result<bool, NoMemory>
+    requires read_only { All (λ key. key_format.fits key) footprint.now.read_only }
+    requires read_write { All (λ key. key_format.fits key) footprint.now.read_write }
+    ensures { IfOk result (λ b. b ≡ is_footprint (declared_keys footprint.now)) }
+{
+    let read_only = footprint.read_only.as_slice();
+    let read_write = footprint.read_write.as_slice();
+    let mut spellings = Vec::new(alloc);
+    spell_keys(alloc, read_only, &mut spellings)?;
+    spell_keys(alloc, read_write, &mut spellings)?;
+    if has_twice(alloc, &spellings)? {
+        return Ok(false);
+    }
+    Ok(all_declarable(read_only) && all_declarable(read_write))
+}
+
+fn all_declarable(keys: &[LedgerKey]) -> bool
+    ensures { result ≡ list_all is_declarable keys.now }
+{
+    keys.iter().all(may_be_declared)
+}
