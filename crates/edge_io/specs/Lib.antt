@@ -1,0 +1,7 @@
+pub mod Contents
+pub mod Counts
+pub mod MemFiles
+pub mod MemSay
+pub mod Stored
+pub mod Text
+pub mod Whole

@@ -1,0 +1,46 @@
+-- What the files in memory tell, and which of their calls fails (own).
+use Rattle.std.specs.Prelude.{◌≡◌, ℕ, ◌<◌, ◌-◌, ◌^◌, List, [], Contains, Some, None, slice_index}
+use Rattle.std.specs.FinMap.{get}
+use Rattle.edge_io.specs.Contents.{Contents}
+use Rattle.edge_io.specs.Counts.{raised}
+use Rattle.edge_io.specs.Stored.{files_of}
+use Rattle.edge_io.specs.declared.mem_files.MemFiles.{MemFiles}
+
+-- the bytes of each name
+abbrev pub contents_of : MemFiles → Contents
+contents_of m = Some (files_of m.stored.items)
+
+-- how often the calls for a file option have failed
+abbrev pub faults_of : MemFiles → ℕ → ℕ
+faults_of m file = slice_index m.counts file
+
+-- the number of the next call
+abbrev pub calls_of : MemFiles → ℕ
+calls_of m = m.calls
+
+-- the numbers of the calls that fail
+abbrev pub failing_of : MemFiles → List ℕ
+failing_of m = m.failing.items
+
+-- no call is listed, and each count can rise
+abbrev pub IsSteady : MemFiles → Type 0
+IsSteady m = (failing_of m ≡ []) × ((file : ℕ) → faults_of m file < 2 ^ 64 - 1)
+
+-- the next call is listed
+abbrev pub FailsNext : MemFiles → Type 0
+FailsNext m = Contains (failing_of m) (calls_of m)
+
+-- no file has this name
+abbrev pub IsMissing : MemFiles → List ℕ → Type 0
+IsMissing m name = get (files_of m.stored.items) name ≡ None
+
+-- the list of failing calls stays, and the next call has the next number
+pub record CountsCall (old new : MemFiles) : Type 0 where
+  pub listed : failing_of new ≡ failing_of old
+  pub next : calls_of new ≡ raised (calls_of old)
+
+-- all but the files is as before
+pub record IsSameBesides (old new : MemFiles) : Type 0 where
+  pub listed : failing_of new ≡ failing_of old
+  pub calls : calls_of new ≡ calls_of old
+  pub counts : (file : ℕ) → faults_of new file ≡ faults_of old file

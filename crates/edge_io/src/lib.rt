@@ -1,0 +1,29 @@
+//! The edge of the program: the files that it reads and stores, what it says, and the gate that its
+//! workers pass. A contract names what a file holds where the object tells it, how often calls have
+//! failed, and whether the object is steady.
+#![tactic(auto)]
+
+mod blob;
+mod failed;
+mod files;
+mod gate;
+mod mem_files;
+mod mem_say;
+mod real;
+mod say;
+#[cfg(test)]
+mod tests;
+mod turns;
+mod whole;
+mod word;
+
+pub use blob::Blob;
+pub use failed::{EdgeErr, Failed, ReadErr};
+pub use files::Files;
+pub use gate::{Gate, OpenGate};
+pub use mem_files::{MemFiles, Stored};
+pub use mem_say::MemSay;
+pub use real::{RealFiles, StdSay};
+pub use say::Say;
+pub use whole::read_whole;
+pub use word::Word;

@@ -1,0 +1,136 @@
+// The files of the system and its standard output. No contract says what they hold.
+ghost use Rattle.std.specs.Prelude.{◌≡◌, ℕ, ◌≤◌, length, slice_index, None, IfOk};
+
+use crate::turns::raise;
+use crate::{EdgeErr, Failed, Files, Say, Word};
+use std::io::{Read, Seek, SeekFrom, Write};
+use std::{fs, io, rt};
+
+// The file that was read last stays open, so that a file is opened once for all of its pieces.
+#[derive(Drop)]
+struct OpenFile<R: rt::Files> {
+    name: Word,
+    file: R::File,
+    // Where the next read begins.
+    place: u64,
+}
+
+/// The files of the system.
+#[derive(Drop)]
+pub struct RealFiles<R: rt::Files + Drop> {
+    rt: R,
+    counts: [u64; 8],
+    open: Option<OpenFile<R>>,
+}
+
+/// Standard output.
+#[derive(Drop)]
+pub struct StdSay<R: Print + Drop> {
+    rt: R,
+    count: u64,
+}
+
+impl<R: rt::Files + Drop> RealFiles<R> {
+    pub fn new(rt: R) -> RealFiles<R>
+        ensures { (file : ℕ) → ⟦<RealFiles<R> as Files>⟧.faults result file ≡ 0 }
+    {
+        RealFiles {
+            rt,
+            counts: [0; 8],
+            open: None,
+        }
+    }
+
+    // Reads from a place on.
+    fn read_at(&mut self, name: &Word, at: u64, buf: &mut [u8]) -> io::Result<usize>
+        ensures within { IfOk result (λ n. n ≤ length buf.new) }
+        ensures counts { self.new.counts ≡ self.old.counts }
+    {
+        let mut open = match self.open.take() {
+            Some(open) if open.name.as_str() == name.as_str() => open,
+            _ => OpenFile {
+                name: name.clone()?,
+                file: fs::open(&self.rt, name.as_str())?,
+                place: 0,
+            },
+        };
+        if open.place != at {
+            open.place = open.file.seek(SeekFrom::Start(at))?;
+        }
+        let n = open.file.read(buf)?;
+        open.place = open.place.saturating_add(n as u64);
+        self.open = Some(open);
+        Ok(n)
+    }
+}
+
+impl<R: Print + Drop> StdSay<R> {
+    pub fn new(rt: R) -> StdSay<R>
+        ensures { ⟦<StdSay<R> as Say>⟧.faults result ≡ 0 }
+    {
+        StdSay { rt, count: 0 }
+    }
+}
+
+impl<R: rt::Files + Drop> Files for RealFiles<R> {
+    ghost contents = { λ _. None };
+
+    ghost faults = { λ f file. slice_index f.counts file };
+
+    ghost steady = { λ _. ⊥ };
+
+    ghost steady_tells = { λ f steady. absurd steady };
+
+    ghost steady_below = { λ f file steady. absurd steady };
+
+    fn faults(&self, file: u8) -> u64 {
+        self.counts[file as usize]
+    }
+
+    fn piece(&mut self, file: u8, name: &Word, at: u64, buf: &mut [u8]) -> Result<usize, Failed> {
+        match self.read_at(name, at, buf) {
+            Ok(n) => Ok(n),
+            Err(_) => {
+                raise(&mut self.counts, file);
+                Err(Failed)
+            }
+        }
+    }
+
+    fn store(&mut self, file: u8, name: &Word, bytes: &[u8]) -> Result<(), EdgeErr> {
+        self.open = None;
+        match fs::write(&self.rt, name.as_str(), bytes) {
+            Ok(()) => Ok(()),
+            Err(_) => {
+                raise(&mut self.counts, file);
+                Err(EdgeErr::Failed)
+            }
+        }
+    }
+}
+
+impl<R: Print + Drop> Say for StdSay<R> {
+    ghost text = { λ _. None };
+
+    ghost faults = { λ s. s.count };
+
+    ghost steady = { λ _. ⊥ };
+
+    ghost steady_tells = { λ s steady. absurd steady };
+
+    ghost steady_below = { λ s steady. absurd steady };
+
+    fn faults(&self) -> u64 {
+        self.count
+    }
+
+    fn say(&mut self, bytes: &[u8]) -> Result<(), EdgeErr> {
+        match io::writer(&self.rt).write_all(bytes) {
+            Ok(()) => Ok(()),
+            Err(_) => {
+                self.count = self.count.saturating_add(1);
+                Err(EdgeErr::Failed)
+            }
+        }
+    }
+}

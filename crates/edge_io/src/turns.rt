@@ -1,0 +1,22 @@
+// Which calls of an object in memory fail, and how often calls have failed.
+ghost use Rattle.std.specs.Prelude.{◌≡◌, ◌<◌, ◌+◌, ◌-◌, ◌^◌, ◌↔◌, min, slice_index, Contains, IsTrue};
+ghost use Rattle.edge_io.specs.Counts.{ChangesOnlyCount, RaisesOnly};
+
+// Whether this call is one that fails. The next call has the next number.
+pub fn is_listed(calls: &mut u64, failing: &[u64]) -> bool
+    ensures listed { IsTrue result ↔ Contains failing.now calls.old }
+    ensures next { calls.new ≡ min (calls.old + 1) (2 ^ 64 - 1) }
+{
+    let listed = failing.contains(calls);
+    *calls = calls.saturating_add(1);
+    listed
+}
+
+pub fn raise(counts: &mut [u64; 8], file: u8)
+    requires { file < 8 }
+    ensures raised { RaisesOnly file (λ k. slice_index counts.old k) (λ k. slice_index counts.new k) }
+    ensures only { ChangesOnlyCount file (λ k. slice_index counts.old k) (λ k. slice_index counts.new k) }
+{
+    let count = &mut counts[file as usize];
+    *count = count.saturating_add(1);
+}
