@@ -1,0 +1,11 @@
+mod Causes
+mod Decoding
+mod Due
+mod Made
+mod Leaving
+mod PutTogether
+mod Names
+mod Numbers
+mod Present
+mod Saying
+mod Storing

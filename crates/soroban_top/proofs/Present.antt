@@ -1,0 +1,81 @@
+-- No fault is due where each file that a command reads is there.
+use Rattle.std.proofs.Common.{ℕ, ◌^◌, List, Bool, true, false, length, Option, Some, None, Result, Ok, Err, IfSome, IsSome}
+use Rattle.std.specs.Prelude.{⊤, nat_lt, if◌then◌else◌}
+use Rattle.std.specs.FinMap.{get}
+use Rattle.edge_io.specs.Contents.{Contents, FileMap}
+use Rattle.ledger_spec.specs.LedgerFile.{ledger_of}
+use Rattle.ledger_spec.specs.declared.LedgerRefusal.{LedgerRefusal}
+use Rattle.ledger_types.specs.Verdicts.{verdicts_format}
+use Rattle.tx_xdr.specs.Limits.{today}
+use Rattle.tx_xdr.specs.Set.{set_format}
+use Rattle.xdr_spec.specs.Decoded.{decoded}
+use Rattle.xdr_spec.specs.declared.XdrErr.{XdrErr}
+use Rattle.soroban_top.specs.Asked.{reads_named}
+use Rattle.soroban_top.specs.Judged.{AreThere, as_ledger, as_set, as_verdicts, bytes_of, content_of, ledger_at, ledger_in, set_at, set_in, verdicts_at, verdicts_in}
+use Rattle.soroban_top.specs.Outcome.{due}
+use Rattle.soroban_top.specs.Steps.{◌>>=◌, UnlessFault, status_of}
+use Rattle.soroban_top.specs.declared.request.Request.{Request}
+use Rattle.soroban_top.specs.declared.request.Request.TheVariants.{Apply}
+use Rattle.soroban_top.specs.declared.status.Status.{Status}
+use Rattle.soroban_top.specs.declared.status.Status.TheVariants.{Fault, TooLong}
+
+abbrev IsNoFault : Status → Type 0
+IsNoFault (Fault name) = ⊥
+IsNoFault status = ⊤
+
+-- of two steps neither of which is a fault
+both : {A B : Type 0} (r : Result A Status) (f : A → Result B Status) → IsNoFault (status_of r) → ((x : A) → IsNoFault (status_of (f x))) → IsNoFault (status_of (r >>= f))
+both (Ok x) f first next = next x
+both (Err status) f first next = first
+
+by_test : {A : Type 0} (b : Bool) (e : Status) (x : A) → IsNoFault e → IsNoFault (status_of (if b then Err e else Ok x))
+by_test true e x h = h
+by_test false e x h = tt
+
+read : (found : Option (List ℕ)) (name : List ℕ) → IsSome found → IsNoFault (status_of (bytes_of found name))
+read None name there = absurd cc
+read (Some bytes) name there = by_test (nat_lt (2 ^ 30) (length bytes)) (TooLong name) bytes tt
+
+as_ledger_judged : {A : Type 0} (r : Result A LedgerRefusal) → IsNoFault (status_of (as_ledger r))
+as_ledger_judged (Ok x) = tt
+as_ledger_judged (Err e) = tt
+
+as_verdicts_judged : {A : Type 0} (r : Result A XdrErr) → IsNoFault (status_of (as_verdicts r))
+as_verdicts_judged (Ok x) = tt
+as_verdicts_judged (Err e) = tt
+
+as_set_judged : {A : Type 0} (r : Result A XdrErr) → IsNoFault (status_of (as_set r))
+as_set_judged (Ok x) = tt
+as_set_judged (Err e) = tt
+
+ledger_judged : (bytes : List ℕ) → IsNoFault (status_of (ledger_in bytes))
+unfolding ledger_in
+ledger_judged bytes = as_ledger_judged (ledger_of true bytes)
+
+verdicts_judged : (bytes : List ℕ) → IsNoFault (status_of (verdicts_in bytes))
+unfolding verdicts_in
+verdicts_judged bytes = as_verdicts_judged (decoded verdicts_format bytes)
+
+set_judged : (bytes : List ℕ) → IsNoFault (status_of (set_in bytes))
+unfolding set_in
+set_judged bytes = as_set_judged (decoded (set_format today) bytes)
+
+-- a file that is there and then judged
+judged : {A : Type 0} (m : FileMap) (name : List ℕ) (judge : List ℕ → Result A Status) → IsSome (get m name) → ((bytes : List ℕ) → IsNoFault (status_of (judge bytes))) → IsNoFault (status_of (content_of m name >>= judge))
+judged m name judge there h = both (content_of m name) judge (read (get m name) name there) h
+
+no_fault : (asked : Option Request) (m : FileMap) → AreThere (reads_named asked) m → IsNoFault (due asked m)
+no_fault None m there = tt
+no_fault (Some (Apply a)) m there =
+    both (ledger_at m a.ledger) _ (judged m a.ledger ledger_in there.0 ledger_judged)
+    (λ ledger. both (verdicts_at m a.verdicts) _ (judged m a.verdicts verdicts_in there.1.0 verdicts_judged)
+    (λ verdicts. both (set_at m a.set) _ (judged m a.set set_in there.1.1.0 set_judged) (λ set. tt)))
+
+unless : (P : Type 0) (status : Status) → IsNoFault status → UnlessFault status P → P
+unless P (Fault name) none h = absurd none
+unless P status none h = h
+
+-- what holds unless a fault is due, holds where the files are there
+pub where_present : (P : Type 0) (told : Contents) (asked : Option Request) → IfSome told (λ m. UnlessFault (due asked m) P) → IfSome told (λ m. AreThere (reads_named asked) m → P)
+where_present P None asked h = h
+where_present P (Some m) asked h = λ there. unless P (due asked m) (no_fault asked m there) h

@@ -1,0 +1,23 @@
+-- The files that a command reads and stores, by the numbers of its options (own).
+use Rattle.std.specs.Prelude.{List, [], ◌∷◌, ◌++◌, Option, Some, None}
+use Rattle.soroban_top.specs.Product.{File, file}
+use Rattle.soroban_top.specs.declared.request.Request.{Request}
+use Rattle.soroban_top.specs.declared.request.Request.TheVariants.{Apply}
+
+-- the files that it reads, in order
+abbrev pub reads_of : Request → List File
+reads_of (Apply a) = file 1 a.ledger ∷ file 2 a.verdicts ∷ file 0 a.set ∷ []
+
+-- the files that it stores, in order
+abbrev pub writes_of : Request → List File
+writes_of (Apply a) = file 3 a.report ∷ file 4 a.ledger_out ∷ []
+
+-- the files that the words name for it to read
+abbrev pub reads_named : Option Request → List File
+reads_named None = []
+reads_named (Some asked) = reads_of asked
+
+-- all the files that the words name
+abbrev pub files_named : Option Request → List File
+files_named None = []
+files_named (Some asked) = reads_of asked ++ writes_of asked

@@ -1,0 +1,26 @@
+-- How a command ended, where its files are told (own).
+use Rattle.std.specs.Prelude.{ℕ, List, Option, Result}
+use Rattle.edge_io.specs.Contents.{Contents, FileMap}
+use Rattle.soroban_top.specs.Asked.{reads_named}
+use Rattle.soroban_top.specs.Left.{Leaves}
+use Rattle.soroban_top.specs.Lines.{Finishes}
+use Rattle.soroban_top.specs.Outcome.{outcome_if, says_of}
+use Rattle.soroban_top.specs.Steps.{Gives, status_of}
+use Rattle.soroban_top.specs.declared.request.Request.{Request}
+use Rattle.soroban_top.specs.declared.status.Status.{Status}
+
+-- the files that are stored and the text that is said
+pub record Outside : Type 0 where
+  pub contents : Contents
+  pub text : Option (List ℕ)
+
+abbrev pub outside : Contents → Option (List ℕ) → Outside
+outside contents text = record { contents = contents; text = text }
+
+-- It came to lines or to a status, as is due unless a call failed or memory ran out. That left the files so.
+-- Then the lines of it were said, all or not, and this is the status.
+pub record Ends (asked : Option Request) (m : FileMap) (result : Status) (old new : Outside) : Type 0 where
+  pub came_to : Result (List ℕ) Status
+  pub is_due : Gives (λ lines. lines) came_to (says_of (outcome_if asked m))
+  pub files : Leaves (status_of came_to) (reads_named asked) (outcome_if asked m) old.contents new.contents
+  pub text : Finishes came_to result old.text new.text

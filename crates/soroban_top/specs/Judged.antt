@@ -1,0 +1,75 @@
+-- The files that a command reads: each is there, not too long, and judged (own).
+use Rattle.std.specs.Prelude.{ℕ, true, ◌^◌, List, [], ◌∷◌, length, Option, Some, None, Result, Ok, Err, IsSome, nat_lt, if◌then◌else◌, ⊤}
+use Rattle.std.specs.FinMap.{get}
+use Rattle.edge_io.specs.Contents.{FileMap}
+use Rattle.ledger_spec.specs.LedgerFile.{ledger_of}
+use Rattle.ledger_spec.specs.LedgerMap.{LedgerMap}
+use Rattle.ledger_spec.specs.declared.LedgerRefusal.{LedgerRefusal}
+use Rattle.ledger_types.specs.Verdicts.{verdicts_format}
+use Rattle.ledger_types.specs.declared.header.Header.{Header}
+use Rattle.ledger_types.specs.declared.verdicts.Verdicts.{Verdicts}
+use Rattle.tx_xdr.specs.Limits.{today}
+use Rattle.tx_xdr.specs.Set.{set_format}
+use Rattle.tx_xdr.specs.declared.set.TxSet.{TxSet}
+use Rattle.xdr_spec.specs.Decoded.{decoded}
+use Rattle.xdr_spec.specs.declared.XdrErr.{XdrErr}
+use Rattle.soroban_top.specs.Product.{File}
+use Rattle.soroban_top.specs.Steps.{◌>>=◌}
+use Rattle.soroban_top.specs.declared.status.Status.{Status}
+use Rattle.soroban_top.specs.declared.status.Status.TheVariants as status
+use Rattle.soroban_top.specs.declared.status.Status.TheVariants.{Fault, TooLong}
+
+-- a file's bytes, if it is there and not too long
+abbrev pub bytes_of : Option (List ℕ) → List ℕ → Result (List ℕ) Status
+bytes_of None name = Err (Fault name)
+bytes_of (Some bytes) name = if nat_lt (2 ^ 30) (length bytes) then Err (TooLong name) else Ok bytes
+
+abbrev pub content_of : FileMap → List ℕ → Result (List ℕ) Status
+content_of m name = bytes_of (get m name) name
+
+-- each of these files is there
+abbrev pub AreThere : List File → FileMap → Type 0
+AreThere [] m = ⊤
+AreThere (file ∷ files) m = IsSome (get m file.name) × AreThere files m
+
+-- ---- what a file's bytes mean
+
+abbrev pub as_ledger : {A : Type 0} → Result A LedgerRefusal → Result A Status
+as_ledger (Ok ledger) = Ok ledger
+as_ledger (Err refusal) = Err (status.Ledger refusal.why refusal.at)
+
+-- a ledger that another may follow
+unfoldable pub ledger_in : List ℕ → Result (Header × LedgerMap) Status
+ledger_in bytes = as_ledger (ledger_of true bytes)
+
+abbrev pub as_verdicts : {A : Type 0} → Result A XdrErr → Result A Status
+as_verdicts (Ok verdicts) = Ok verdicts
+as_verdicts (Err e) = Err (status.Verdicts e.at)
+
+unfoldable pub verdicts_in : List ℕ → Result Verdicts Status
+verdicts_in bytes = as_verdicts (decoded verdicts_format bytes)
+
+abbrev pub as_set : {A : Type 0} → Result A XdrErr → Result A Status
+as_set (Ok set) = Ok set
+as_set (Err e) = Err (status.Malformed e.at e.why)
+
+-- a set of those that run today
+unfoldable pub set_in : List ℕ → Result TxSet Status
+set_in bytes = as_set (decoded (set_format today) bytes)
+
+-- ---- the files of these names
+
+abbrev pub ledger_at : FileMap → List ℕ → Result (Header × LedgerMap) Status
+ledger_at m name = do
+  bytes ← content_of m name
+  ledger_in bytes
+
+abbrev pub verdicts_at : FileMap → List ℕ → Result Verdicts Status
+verdicts_at m name = do
+  bytes ← content_of m name
+  verdicts_in bytes
+
+abbrev pub set_at : FileMap → List ℕ → Result TxSet Status
+set_at m name = do
+  bytes ← content_of m name
+  set_in bytes

@@ -1,0 +1,13 @@
+pub mod Asked
+pub mod Counts
+pub mod Ends
+pub mod Judged
+pub mod Laws
+pub mod Left
+pub mod Lines
+pub mod Outcome
+pub mod Product
+pub mod Seen
+pub mod Steps
+pub mod Views
+pub mod Words

@@ -1,0 +1,84 @@
+-- The lines of each status, and how far they were said (own).
+use Rattle.std.specs.Prelude.{◌≡◌, ◌⊎◌, ℕ, List, [], ◌++◌, take, Option, Result, Ok, Err, codes, decimal, ⊤}
+use Rattle.edge_io.specs.Counts.{Rose}
+use Rattle.edge_io.specs.Text.{extended}
+use Rattle.edge_io.specs.declared.failed.EdgeErr.{EdgeErr}
+use Rattle.edge_io.specs.declared.failed.EdgeErr.TheVariants as edge
+use Rattle.soroban_top.specs.Steps.{status_of}
+use Rattle.ledger_spec.specs.declared.LedgerWhy.{LedgerWhy}
+use Rattle.ledger_spec.specs.declared.LedgerWhy.TheVariants as why
+use Rattle.soroban_top.specs.declared.status.Status.{Status}
+use Rattle.soroban_top.specs.declared.status.Status.TheVariants.{Done, Usage, Fault, TooLong, Ledger, Verdicts, Malformed, NoMemory}
+use Rattle.xdr_spec.specs.declared.Why.{Why}
+use Rattle.xdr_spec.specs.declared.Why.TheVariants.{End, Padding, Boolean, Tag, Limit, Depth, Trailing}
+
+-- the name of a reason
+abbrev pub name_of : Why → List ℕ
+name_of End = codes ": end\n"
+name_of Padding = codes ": padding\n"
+name_of Boolean = codes ": bool\n"
+name_of Tag = codes ": tag\n"
+name_of Limit = codes ": limit\n"
+name_of Depth = codes ": depth\n"
+name_of Trailing = codes ": trailing\n"
+
+-- the number of a ledger's reason
+abbrev pub number_of : LedgerWhy → List ℕ
+number_of why.Xdr = codes "ledger refused: 1 at "
+number_of why.Order = codes "ledger refused: 2 at "
+number_of why.TtlHash = codes "ledger refused: 3 at "
+number_of why.CodeHash = codes "ledger refused: 4 at "
+number_of why.Settings = codes "ledger refused: 5 at "
+number_of why.SeqEnd = codes "ledger refused: 6 at "
+
+-- the line of a status that has no others
+abbrev pub line_of : Status → List ℕ
+line_of Done = []
+line_of Usage = codes "usage\n"
+line_of (Fault name) = codes "fault on " ++ name ++ codes "\n"
+line_of (TooLong name) = codes "too long: " ++ name ++ codes "\n"
+line_of (Ledger why at) = number_of why ++ decimal at ++ codes "\n"
+line_of (Verdicts at) = codes "verdicts refused at " ++ decimal at ++ codes "\n"
+line_of (Malformed at why) = codes "refused at " ++ decimal at ++ name_of why
+line_of NoMemory = codes "no memory\n"
+
+-- the number that the program ends with
+abbrev pub code_of : Status → ℕ
+code_of Done = 0
+code_of Usage = 2
+code_of (Fault name) = 4
+code_of (TooLong name) = 6
+code_of (Ledger why at) = 3
+code_of (Verdicts at) = 3
+code_of (Malformed at why) = 1
+code_of NoMemory = 5
+
+-- the lines that are due of a command that came to this: its own lines, or a status
+abbrev pub lines_of : Result (List ℕ) Status → List ℕ
+lines_of (Ok lines) = lines
+lines_of (Err status) = line_of status
+
+-- a front of the lines was said
+abbrev pub SaysFront : List ℕ → Option (List ℕ) → Option (List ℕ) → Type 0
+SaysFront lines old new = (n : ℕ) × (new ≡ extended old (take n lines))
+
+-- all of them, or where a call failed or found no memory a front
+abbrev pub SaysLines : Result ⊤ EdgeErr → List ℕ → Option (List ℕ) → Option (List ℕ) → Type 0
+SaysLines (Ok x) lines old new = new ≡ extended old lines
+SaysLines (Err e) lines old new = SaysFront lines old new
+
+-- the status of a command after its lines were said, or not all of them
+abbrev pub IsStatusAfter : Result ⊤ EdgeErr → Status → Status → Type 0
+IsStatusAfter (Ok x) status result = result ≡ status
+IsStatusAfter (Err edge.Failed) status result = result ≡ Fault []
+IsStatusAfter (Err edge.NoMemory) status result = result ≡ NoMemory
+
+-- The command says its lines whole, and then this status is its own. Else it is Fault with the empty name, or NoMemory.
+abbrev pub Finishes : Result (List ℕ) Status → Status → Option (List ℕ) → Option (List ℕ) → Type 0
+Finishes came_to result old new =
+    ((result ≡ status_of came_to) × (new ≡ extended old (lines_of came_to))) ⊎
+    (((result ≡ Fault []) ⊎ (result ≡ NoMemory)) × SaysFront (lines_of came_to) old new)
+
+-- it is its own status, or what was said is the cause
+abbrev pub HasSayCause : Result (List ℕ) Status → ℕ → ℕ → Status → Type 0
+HasSayCause came_to old new result = (result ≡ status_of came_to) ⊎ ((result ≡ Fault []) × Rose old new) ⊎ (result ≡ NoMemory)

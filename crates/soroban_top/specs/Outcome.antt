@@ -1,0 +1,55 @@
+-- What a command comes to, where its files are told (own).
+use Rattle.std.specs.Prelude.{◌≡◌, ℕ, List, [], ◌∷◌, Option, Some, None, Result, Ok, Err, ⊤}
+use Rattle.apply_spec.specs.Outputs.{Outputs, outputs}
+use Rattle.edge_io.specs.Contents.{FileMap}
+use Rattle.ledger_spec.specs.LedgerMap.{LedgerMap}
+use Rattle.ledger_types.specs.declared.header.Header.{Header}
+use Rattle.tx_xdr.specs.declared.set.TxSet.{TxSet}
+use Rattle.soroban_top.specs.Judged.{ledger_at, verdicts_at, set_at}
+use Rattle.soroban_top.specs.Product.{Made, File, file}
+use Rattle.soroban_top.specs.Steps.{◌>>=◌, status_of}
+use Rattle.soroban_top.specs.declared.request.Request.{Request}
+use Rattle.soroban_top.specs.declared.request.Request.TheVariants.{Apply}
+use Rattle.soroban_top.specs.declared.status.Status.{Status}
+use Rattle.soroban_top.specs.declared.status.Status.TheVariants.{Usage, NoMemory}
+
+-- the report is stored, then the new ledger, and then the lines are said
+abbrev pub applied : File → File → Outputs → Made
+applied report ledger_out made = record {
+  stores = record { file = report; bytes = made.report } ∷ record { file = ledger_out; bytes = made.ledger } ∷ [];
+  says = made.lines;
+}
+
+-- what a set makes of a ledger, at a close time
+unfoldable pub outputs_of : Header × LedgerMap → TxSet → ℕ → Outputs
+outputs_of ledger set close_time = outputs ledger.0 ledger.1 set close_time
+
+-- What a command comes to: each file is judged before the next is read.
+abbrev pub outcome_of : Request → FileMap → Result Made Status
+outcome_of (Apply a) m = do
+  ledger ← ledger_at m a.ledger
+  verdicts ← verdicts_at m a.verdicts
+  set ← set_at m a.set
+  Ok (applied (file 3 a.report) (file 4 a.ledger_out) (outputs_of ledger set a.close_time))
+
+-- what the words come to
+abbrev pub outcome_if : Option Request → FileMap → Result Made Status
+outcome_if None m = Err Usage
+outcome_if (Some asked) m = outcome_of asked m
+
+-- the lines that are due, or the status whose line is
+abbrev pub says_of : Result Made Status → Result (List ℕ) Status
+says_of outcome = do
+  made ← outcome
+  Ok made.says
+
+-- the status that is due
+abbrev pub due : Option Request → FileMap → Status
+due asked m = status_of (outcome_if asked m)
+
+-- what the words ask for was found, unless memory ran out
+abbrev pub ReadsWords : {X : Type 0} → Result X Status → Option X → Type 0
+ReadsWords (Ok x) asked = asked ≡ Some x
+ReadsWords (Err Usage) asked = asked ≡ None
+ReadsWords (Err NoMemory) asked = ⊤
+ReadsWords (Err _) asked = ⊥

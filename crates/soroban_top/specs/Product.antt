@@ -1,0 +1,20 @@
+-- What a command makes, without where it lies in memory (own).
+use Rattle.std.specs.Prelude.{ℕ, List}
+
+-- a file option, by its number, and the name that it was given
+pub record File : Type 0 where
+  pub option : ℕ
+  pub name : List ℕ
+
+abbrev pub file : ℕ → List ℕ → File
+file option name = record { option = option; name = name }
+
+-- bytes for a file
+pub record Job : Type 0 where
+  pub file : File
+  pub bytes : List ℕ
+
+-- what is stored, in order, and then said
+pub record Made : Type 0 where
+  pub stores : List Job
+  pub says : List ℕ

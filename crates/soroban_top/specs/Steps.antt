@@ -1,0 +1,35 @@
+-- Steps, of which each may stop with a status (own).
+use Rattle.std.specs.Prelude.{◌≡◌, Result, Ok, Err, ⊤}
+use Rattle.soroban_top.specs.declared.status.Status.{Status}
+use Rattle.soroban_top.specs.declared.status.Status.TheVariants.{Done, Fault, NoMemory}
+
+infixl 10 ◌>>=◌
+abbrev pub ◌>>=◌ : {A B : Type 0} → Result A Status → (A → Result B Status) → Result B Status
+(Ok x) >>= f = f x
+(Err e) >>= f = Err e
+
+-- how they end
+abbrev pub status_of : {A : Type 0} → Result A Status → Status
+status_of (Ok x) = Done
+status_of (Err status) = status
+
+-- the same, of what x stands for
+abbrev pub viewed : {X Y : Type 0} → (X → Y) → Result X Status → Result Y Status
+viewed view (Ok x) = Ok (view x)
+viewed view (Err status) = Err status
+
+-- a fact, unless a call failed or memory ran out
+abbrev pub UnlessFree : Status → Type 0 → Type 0
+UnlessFree (Fault name) P = ⊤
+UnlessFree NoMemory P = ⊤
+UnlessFree status P = P
+
+-- a fact where this status, which is due, is no fault
+abbrev pub UnlessFault : Status → Type 0 → Type 0
+UnlessFault (Fault name) P = ⊤
+UnlessFault status P = P
+
+-- What a function returned, seen by view, is this outcome, unless a call failed or memory ran out.
+abbrev pub Gives : {X Y : Type 0} → (X → Y) → Result X Status → Result Y Status → Type 0
+Gives view (Ok x) outcome = outcome ≡ Ok (view x)
+Gives view (Err status) outcome = UnlessFree status (outcome ≡ Err status)

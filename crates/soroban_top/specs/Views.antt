@@ -1,0 +1,38 @@
+-- What the code's values stand for (own).
+use Rattle.std.specs.Prelude.{List, map}
+use Rattle.soroban_top.specs.Product.{File, Job, Made}
+use Rattle.soroban_top.specs.declared.product.FileArg.{FileArg}
+use Rattle.soroban_top.specs.declared.product.Store.{Store}
+use Rattle.soroban_top.specs.declared.product.Product.{Product}
+use Rattle.soroban_top.specs.declared.request.Request.{Request}
+use Rattle.soroban_top.specs.Words.{ApplyNames, apply_of}
+use Rattle.soroban_top.specs.declared.words.ApplyFiles.{ApplyFiles}
+use Rattle.soroban_top.specs.declared.words.ApplyOptions.{ApplyOptions}
+
+abbrev pub file_of : FileArg → File
+file_of f = record { option = f.option; name = f.name.now }
+
+abbrev pub job_of : Store → Job
+job_of s = record { file = file_of s.file; bytes = s.bytes.items }
+
+abbrev pub jobs_of : List Store → List Job
+jobs_of = map job_of
+
+-- the files that are stored
+abbrev pub targets_of : List Store → List File
+targets_of = map (λ (s : Store). file_of s.file)
+
+abbrev pub made_of : Product → Made
+made_of p = record { stores = jobs_of p.stores.items; says = p.says.items }
+
+abbrev pub names_of : ApplyFiles → ApplyNames
+names_of f = record {
+  set = f.set.now;
+  ledger = f.ledger.now;
+  verdicts = f.verdicts.now;
+  report = f.report.now;
+  ledger_out = f.ledger_out.now;
+}
+
+abbrev pub asked_by : ApplyOptions → Request
+asked_by o = apply_of (names_of o.files) o.close_time o.workers

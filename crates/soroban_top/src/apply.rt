@@ -1,0 +1,70 @@
+// The command apply: a transaction set over a ledger.
+ghost use Rattle.std.specs.Prelude.{◌≡◌, [], ◌∷◌, IfOk, IfErr, IfSome};
+ghost use Rattle.soroban_top.specs.Asked.{reads_of, writes_of};
+ghost use Rattle.soroban_top.specs.Counts.{HasCause, NoLower, SameCounts};
+ghost use Rattle.soroban_top.specs.Outcome.{applied, outcome_of};
+ghost use Rattle.soroban_top.specs.Product.{file};
+ghost use Rattle.soroban_top.specs.Steps.{Gives, UnlessFault, status_of};
+ghost use Rattle.soroban_top.specs.Views.{made_of, targets_of};
+ghost use Rattle.soroban_top.specs.declared.request.Request.TheVariants.{Apply as Asked};
+
+use crate::judged::{read_ledger, read_set, read_verdicts};
+use crate::outputs::{Outputs, make_outputs};
+use crate::{ApplyRequest, FileArg, Product, Status, Store};
+use edge_io::Files;
+use std::alloc::{AllocError, Global};
+
+/// Reads and judges the three files, and makes the report, the new ledger and the lines.
+pub fn apply<'a, F: Files>(
+    alloc: Global,
+    files: &mut F,
+    request: &'a ApplyRequest,
+) -> Result<Product<'a>, Status>
+    ensures given { IfSome (F.contents files.old) (λ m. Gives made_of result (outcome_of (Asked request.now) m)) }
+    ensures targets { IfOk result (λ p. targets_of p.stores.items ≡ writes_of (Asked request.now)) }
+    ensures same { F.contents files.new ≡ F.contents files.old }
+    ensures counts { NoLower (F.faults files.old) (F.faults files.new) }
+    ensures cause { IfErr result (HasCause (reads_of (Asked request.now)) (F.faults files.old) (F.faults files.new)) }
+    ensures steady { F.steady files.old → IfSome (F.contents files.old) (λ m. UnlessFault (status_of (outcome_of (Asked request.now) m))
+        (F.steady files.new × SameCounts (F.faults files.old) (F.faults files.new))) }
+{
+    let ledger = read_ledger(alloc, files, 1, &request.ledger)?;
+    let _verdicts = read_verdicts(alloc, files, 2, &request.verdicts)?;
+    let set = read_set(alloc, files, 0, &request.set)?;
+    let outputs = make_outputs(alloc, ledger, &set, request.close_time)?;
+    let product = product_of(alloc, request, outputs)?;
+    Ok(product)
+}
+
+// The report is stored first, then the new ledger.
+fn product_of<'a>(
+    alloc: Global,
+    request: &'a ApplyRequest,
+    outputs: Outputs,
+) -> Result<Product<'a>, AllocError>
+    ensures made { IfOk result (λ p. made_of p ≡ applied (file 3 request.now.report) (file 4 request.now.ledger_out)
+        (record { report = outputs.report.items; ledger = outputs.ledger.items; lines = outputs.lines.items })) }
+    ensures targets { IfOk result (λ p. targets_of p.stores.items ≡ writes_of (Asked request.now)) }
+{
+    let report = FileArg {
+        option: 3,
+        name: &request.report,
+    };
+    let ledger_out = FileArg {
+        option: 4,
+        name: &request.ledger_out,
+    };
+    let mut stores = Vec::new(alloc);
+    stores.push(Store {
+        file: report,
+        bytes: outputs.report,
+    })?;
+    stores.push(Store {
+        file: ledger_out,
+        bytes: outputs.ledger,
+    })?;
+    Ok(Product {
+        stores,
+        says: outputs.lines,
+    })
+}

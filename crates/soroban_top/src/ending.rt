@@ -1,0 +1,134 @@
+// The end of every command: its status says its lines.
+ghost use Rattle.std.specs.Prelude.{◌≡◌, ◌⊎◌, ◌≤◌, ◌++◌};
+ghost use Rattle.edge_io.specs.Counts.{OnFailed, Rose};
+ghost use Rattle.soroban_top.specs.Lines.{Finishes, HasSayCause, IsStatusAfter, SaysLines, line_of, name_of, number_of};
+ghost use Rattle.soroban_top.specs.Steps.{viewed};
+
+use crate::Status;
+use edge_io::{EdgeErr, Say, Word};
+use itoa::Buffer;
+use ledger_spec::LedgerWhy;
+use std::alloc::Global;
+use xdr_spec::Why;
+
+/// Says the lines of a command that came to this: its own where it is done, else those of the status.
+/// Where they can't be said, that is its status in place of this one.
+pub fn finish<S: Say>(alloc: Global, came_to: Result<Vec<u8>, Status>, say: &mut S) -> Status
+    ensures said { Finishes (viewed (λ v. v.items) came_to) result (S.text say.old) (S.text say.new) }
+    ensures cause { HasSayCause (viewed (λ v. v.items) came_to) (S.faults say.old) (S.faults say.new) result }
+    ensures counts { S.faults say.old ≤ S.faults say.new }
+    ensures steady { S.steady say.old → S.faults say.new ≡ S.faults say.old }
+{
+    match came_to {
+        Ok(lines) => unless_unsaid(alloc, Status::Done, say_part(say, &lines)),
+        Err(status) => {
+            let said = say_status(say, &status);
+            unless_unsaid(alloc, status, said)
+        }
+    }
+}
+
+// The status of a command whose lines were said, or not all of them.
+fn unless_unsaid(alloc: Global, status: Status, said: Result<(), EdgeErr>) -> Status
+    ensures { IsStatusAfter said status result }
+{
+    match said {
+        Ok(()) => status,
+        Err(EdgeErr::Failed) => Status::Fault {
+            name: Word::empty(alloc),
+        },
+        Err(EdgeErr::NoMemory) => Status::NoMemory,
+    }
+}
+
+// Says the line of a status. It takes no memory.
+fn say_status<S: Say>(say: &mut S, status: &Status) -> Result<(), EdgeErr>
+    ensures said { SaysLines result (line_of status.now) (S.text say.old) (S.text say.new) }
+    ensures counts { S.faults say.old ≤ S.faults say.new }
+    ensures cause { OnFailed result (Rose (S.faults say.old) (S.faults say.new)) }
+    ensures steady { S.steady say.old → OnFailed result ⊥ × S.steady say.new × (S.faults say.new ≡ S.faults say.old) }
+{
+    let mut digits = Buffer::new();
+    match status {
+        Status::Done => Ok(()),
+        Status::Usage => say_part(say, b"usage\n"),
+        Status::Fault { name } => say_parts(say, b"fault on ", name.as_str().as_bytes(), b"\n"),
+        Status::TooLong { name } => say_parts(say, b"too long: ", name.as_str().as_bytes(), b"\n"),
+        Status::Ledger { why, at } => {
+            let at = digits.format(*at);
+            say_parts(say, number_of(*why), at.as_bytes(), b"\n")
+        }
+        Status::Verdicts { at } => {
+            let at = digits.format(*at);
+            say_parts(say, b"verdicts refused at ", at.as_bytes(), b"\n")
+        }
+        Status::Malformed { at, why } => {
+            let at = digits.format(*at);
+            say_parts(say, b"refused at ", at.as_bytes(), name_of(*why))
+        }
+        Status::NoMemory => say_part(say, b"no memory\n"),
+    }
+}
+
+// The front of the line with the number of a ledger's reason.
+fn number_of(why: LedgerWhy) -> &'static [u8]
+    ensures { result.now ≡ number_of why }
+{
+    match why {
+        LedgerWhy::Xdr => b"ledger refused: 1 at ",
+        LedgerWhy::Order => b"ledger refused: 2 at ",
+        LedgerWhy::TtlHash => b"ledger refused: 3 at ",
+        LedgerWhy::CodeHash => b"ledger refused: 4 at ",
+        LedgerWhy::Settings => b"ledger refused: 5 at ",
+        LedgerWhy::SeqEnd => b"ledger refused: 6 at ",
+    }
+}
+
+// The end of the line with the name of a reason.
+fn name_of(why: Why) -> &'static [u8]
+    ensures { result.now ≡ name_of why }
+{
+    match why {
+        Why::End => b": end\n",
+        Why::Padding => b": padding\n",
+        Why::Boolean => b": bool\n",
+        Why::Tag => b": tag\n",
+        Why::Limit => b": limit\n",
+        Why::Depth => b": depth\n",
+        Why::Trailing => b": trailing\n",
+    }
+}
+
+// Says three parts of a line, one behind another.
+fn say_parts<S: Say>(say: &mut S, before: &[u8], middle: &[u8], after: &[u8]) -> Result<(), EdgeErr>
+    ensures said { SaysLines result (before.now ++ middle.now ++ after.now) (S.text say.old) (S.text say.new) }
+    ensures counts { S.faults say.old ≤ S.faults say.new }
+    ensures cause { OnFailed result (Rose (S.faults say.old) (S.faults say.new)) }
+    ensures steady { S.steady say.old → OnFailed result ⊥ × S.steady say.new × (S.faults say.new ≡ S.faults say.old) }
+{
+    match say_two(say, before, middle) {
+        Ok(()) => say_part(say, after),
+        Err(error) => Err(error),
+    }
+}
+
+fn say_two<S: Say>(say: &mut S, front: &[u8], back: &[u8]) -> Result<(), EdgeErr>
+    ensures said { SaysLines result (front.now ++ back.now) (S.text say.old) (S.text say.new) }
+    ensures counts { S.faults say.old ≤ S.faults say.new }
+    ensures cause { OnFailed result (Rose (S.faults say.old) (S.faults say.new)) }
+    ensures steady { S.steady say.old → OnFailed result ⊥ × S.steady say.new × (S.faults say.new ≡ S.faults say.old) }
+{
+    match say_part(say, front) {
+        Ok(()) => say_part(say, back),
+        Err(error) => Err(error),
+    }
+}
+
+fn say_part<S: Say>(say: &mut S, lines: &[u8]) -> Result<(), EdgeErr>
+    ensures said { SaysLines result lines.now (S.text say.old) (S.text say.new) }
+    ensures counts { S.faults say.old ≤ S.faults say.new }
+    ensures cause { OnFailed result (Rose (S.faults say.old) (S.faults say.new)) }
+    ensures steady { S.steady say.old → OnFailed result ⊥ × S.steady say.new × (S.faults say.new ≡ S.faults say.old) }
+{
+    say.say(lines)
+}

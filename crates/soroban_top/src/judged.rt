@@ -1,0 +1,127 @@
+// The files that a command reads: each is read whole and judged.
+ghost use Rattle.std.specs.Prelude.{◌≡◌, ◌<◌, ◌+◌, ◌^◌, [], ◌∷◌, IfOk, IfErr, IfSome, IsTrue};
+ghost use Rattle.ledger_spec.specs.LedgerFile.{are_settings, has_next};
+ghost use Rattle.ledger_types.specs.Header.{header_format};
+ghost use Rattle.tx_xdr.specs.Limits.{today};
+ghost use Rattle.tx_xdr.specs.Set.{set_format};
+ghost use Rattle.soroban_top.specs.Counts.{HasCause, IsOfBytes, NoLower, SameCounts};
+ghost use Rattle.soroban_top.specs.Judged.{ledger_at, ledger_in, verdicts_at, verdicts_in, set_at, set_in};
+ghost use Rattle.soroban_top.specs.Product.{file};
+ghost use Rattle.soroban_top.specs.Seen.{seen};
+ghost use Rattle.soroban_top.specs.Steps.{Gives, UnlessFault, status_of};
+
+use crate::drive::read_file;
+use crate::{FileArg, Status};
+use edge_io::{Files, Word};
+use ledger_file::{Ledger, LedgerErr};
+use ledger_types::Verdicts;
+use std::alloc::Global;
+use tx_xdr::TxSet;
+use xdr_core::ReadXdr;
+
+/// The ledger in a file.
+pub fn read_ledger<F: Files>(
+    alloc: Global,
+    files: &mut F,
+    option: u8,
+    name: &Word,
+) -> Result<Ledger, Status>
+    requires { option < 8 }
+    ensures given { IfSome (F.contents files.old) (λ m. Gives seen result (ledger_at m name.now)) }
+    ensures fits { IfOk result (λ l. header_format.fits l.header) }
+    ensures settings { IfOk result (λ l. IsTrue (are_settings l.header.settings)) }
+    ensures next { IfOk result (λ l. IsTrue (has_next l.header)) }
+    ensures same { F.contents files.new ≡ F.contents files.old }
+    ensures counts { NoLower (F.faults files.old) (F.faults files.new) }
+    ensures cause { IfErr result (HasCause (file option name.now ∷ []) (F.faults files.old) (F.faults files.new)) }
+    ensures steady { F.steady files.old → IfSome (F.contents files.old) (λ m. UnlessFault (status_of (ledger_at m name.now))
+        (F.steady files.new × SameCounts (F.faults files.old) (F.faults files.new))) }
+{
+    let bytes = read_file(alloc, files, &FileArg { option, name })?;
+    ledger_in(alloc, bytes.as_slice())
+}
+
+/// The verdicts in a file.
+pub fn read_verdicts<F: Files>(
+    alloc: Global,
+    files: &mut F,
+    option: u8,
+    name: &Word,
+) -> Result<Verdicts, Status>
+    requires { option < 8 }
+    ensures given { IfSome (F.contents files.old) (λ m. Gives (λ v. v) result (verdicts_at m name.now)) }
+    ensures same { F.contents files.new ≡ F.contents files.old }
+    ensures counts { NoLower (F.faults files.old) (F.faults files.new) }
+    ensures cause { IfErr result (HasCause (file option name.now ∷ []) (F.faults files.old) (F.faults files.new)) }
+    ensures steady { F.steady files.old → IfSome (F.contents files.old) (λ m. UnlessFault (status_of (verdicts_at m name.now))
+        (F.steady files.new × SameCounts (F.faults files.old) (F.faults files.new))) }
+{
+    let bytes = read_file(alloc, files, &FileArg { option, name })?;
+    verdicts_in(alloc, bytes.as_slice())
+}
+
+/// The transaction set in a file.
+pub fn read_set<F: Files>(
+    alloc: Global,
+    files: &mut F,
+    option: u8,
+    name: &Word,
+) -> Result<TxSet, Status>
+    requires { option < 8 }
+    ensures given { IfSome (F.contents files.old) (λ m. Gives (λ s. s) result (set_at m name.now)) }
+    ensures fits { IfOk result (set_format today).fits }
+    ensures same { F.contents files.new ≡ F.contents files.old }
+    ensures counts { NoLower (F.faults files.old) (F.faults files.new) }
+    ensures cause { IfErr result (HasCause (file option name.now ∷ []) (F.faults files.old) (F.faults files.new)) }
+    ensures steady { F.steady files.old → IfSome (F.contents files.old) (λ m. UnlessFault (status_of (set_at m name.now))
+        (F.steady files.new × SameCounts (F.faults files.old) (F.faults files.new))) }
+{
+    let bytes = read_file(alloc, files, &FileArg { option, name })?;
+    set_in(alloc, bytes.as_slice())
+}
+
+#[tactic(auto, unfolding(crate::specs::Judged::ledger_in))]
+fn ledger_in(alloc: Global, bytes: &[u8]) -> Result<Ledger, Status>
+    ensures given { Gives seen result (ledger_in bytes.now) }
+    ensures fits { IfOk result (λ l. header_format.fits l.header) }
+    ensures settings { IfOk result (λ l. IsTrue (are_settings l.header.settings)) }
+    ensures next { IfOk result (λ l. IsTrue (has_next l.header)) }
+    ensures cause { IfErr result IsOfBytes }
+{
+    match ledger_file::read_ledger(alloc, bytes, true) {
+        Ok(ledger) => Ok(ledger),
+        Err(LedgerErr::Refused(refusal)) => Err(Status::Ledger {
+            why: refusal.why,
+            at: refusal.at,
+        }),
+        Err(LedgerErr::NoMemory) => Err(Status::NoMemory),
+    }
+}
+
+#[tactic(auto, unfolding(crate::specs::Judged::verdicts_in))]
+fn verdicts_in(alloc: Global, bytes: &[u8]) -> Result<Verdicts, Status>
+    ensures given { Gives (λ v. v) result (verdicts_in bytes.now) }
+    ensures cause { IfErr result IsOfBytes }
+{
+    match ledger_file::read_verdicts(alloc, bytes) {
+        Ok(verdicts) => Ok(verdicts),
+        Err(ReadXdr::Bad(error)) => Err(Status::Verdicts { at: error.at }),
+        Err(ReadXdr::NoMemory) => Err(Status::NoMemory),
+    }
+}
+
+#[tactic(auto, unfolding(crate::specs::Judged::set_in))]
+fn set_in(alloc: Global, bytes: &[u8]) -> Result<TxSet, Status>
+    ensures given { Gives (λ s. s) result (set_in bytes.now) }
+    ensures fits { IfOk result (set_format today).fits }
+    ensures cause { IfErr result IsOfBytes }
+{
+    match tx_xdr::read_set(alloc, bytes) {
+        Ok(set) => Ok(set),
+        Err(ReadXdr::Bad(error)) => Err(Status::Malformed {
+            at: error.at,
+            why: error.why,
+        }),
+        Err(ReadXdr::NoMemory) => Err(Status::NoMemory),
+    }
+}

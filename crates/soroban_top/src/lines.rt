@@ -1,0 +1,81 @@
+// The lines of a set that was applied.
+ghost use Rattle.std.specs.Prelude.{◌≡◌, ◌≤◌, ◌++◌, length, OnOk, IfOk, decimal};
+ghost use Rattle.apply_spec.specs.Outputs.{count_line, hash_line, is_success, outputs_with, successes};
+
+use itoa::Buffer;
+use sha2::{Digest, Sha256};
+use std::alloc::{AllocError, Global};
+use tx_xdr::{TransactionOutcome, TransactionResultPair};
+
+/// The line that counts the transactions of ledger `seq`, and the hashes of the report and the ledger's file.
+pub fn lines(
+    alloc: Global,
+    seq: u32,
+    results: &[TransactionResultPair],
+    report: &[u8],
+    ledger: &[u8],
+) -> Result<Vec<u8>, AllocError>
+    ensures { IfOk result (λ v. v.items ≡ (outputs_with seq results.now report.now ledger.now).lines) }
+{
+    let mut lines = count_line(alloc, seq, results)?;
+    push_hash(alloc, &mut lines, b"report ", report)?;
+    push_hash(alloc, &mut lines, b"ledger ", ledger)?;
+    Ok(lines)
+}
+
+fn count_line(
+    alloc: Global,
+    seq: u32,
+    results: &[TransactionResultPair],
+) -> Result<Vec<u8>, AllocError>
+    ensures { IfOk result (λ v. v.items ≡ count_line seq results.now) }
+{
+    let succeeded = successes(results);
+    let mut line = Vec::from_slice(alloc, b"ledger ")?;
+    push_number(&mut line, seq as u64, b": ")?;
+    push_number(&mut line, results.len() as u64, b" transactions, ")?;
+    push_number(&mut line, succeeded as u64, b" succeeded, ")?;
+    push_number(&mut line, (results.len() - succeeded) as u64, b" failed\n")?;
+    Ok(line)
+}
+
+fn successes(results: &[TransactionResultPair]) -> usize
+    ensures count { result ≡ successes results.now }
+    ensures bound { result ≤ length results.now }
+{
+    results
+        .iter()
+        .filter(|pair| is_success(&pair.result.outcome))
+        .count()
+}
+
+fn is_success(outcome: &TransactionOutcome) -> bool
+    ensures { result ≡ is_success outcome.now }
+{
+    matches!(outcome, TransactionOutcome::Success(_))
+}
+
+// A number and what follows it.
+fn push_number(line: &mut Vec<u8>, number: u64, after: &[u8]) -> Result<(), AllocError>
+    ensures { OnOk result (line.new.items ≡ line.old.items ++ decimal number ++ after.now) }
+{
+    let mut digits = Buffer::new();
+    line.extend_from_slice(digits.format(number).as_bytes())?;
+    line.extend_from_slice(after)
+}
+
+// The SHA-256 of bytes, behind their name.
+fn push_hash(
+    alloc: Global,
+    lines: &mut Vec<u8>,
+    name: &[u8],
+    bytes: &[u8],
+) -> Result<(), AllocError>
+    ensures { OnOk result (lines.new.items ≡ lines.old.items ++ hash_line name.now bytes.now) }
+{
+    let hash = hex::encode(alloc, &Sha256::digest(bytes))?;
+    lines.extend_from_slice(name)?;
+    lines.extend_from_slice(hash.as_bytes())?;
+    lines.push(b'\n')?;
+    Ok(())
+}
