@@ -1,0 +1,23 @@
+-- What the code's check says, against the check as a function.
+use Rattle.std.specs.Prelude.{◌≡◌, Option, Some, None, Result, Ok, Err}
+use Rattle.wasm_check.specs.Check.{Shape}
+use Rattle.wasm_check.specs.declared.error.Fault.{Fault}
+use Rattle.wasm_check.specs.declared.error.Fault.TheVariants.{Ill, NoMemory}
+
+-- the code did what the function gives, unless memory ran out
+abbrev pub Checks : Option Shape → Result (Unit {0}) Fault → Shape → Type 0
+Checks o (Ok u) new = o ≡ Some new
+Checks o (Err NoMemory) new = Unit {0}
+Checks o (Err Ill) new = o ≡ None
+
+-- what is left of the check after a part of it
+abbrev pub ChecksOn : Option Shape → Result (Unit {0}) Fault → Option Shape → Type 0
+ChecksOn o (Ok u) next = o ≡ next
+ChecksOn o (Err NoMemory) next = Unit {0}
+ChecksOn o (Err Ill) next = o ≡ None
+
+-- whether there is a shape
+abbrev pub IsChecked : Option Shape → Result (Unit {0}) Fault → Type 0
+IsChecked o (Ok u) = (s : Shape) × (o ≡ Some s)
+IsChecked o (Err NoMemory) = Unit {0}
+IsChecked o (Err Ill) = o ≡ None

@@ -1,0 +1,8 @@
+-- What is taken from the operands.
+use Rattle.std.specs.Prelude.{◌≡◌, Option, Some, None}
+use Rattle.wasm_spec.specs.declared.types.ValueType.{ValueType}
+use Rattle.wasm_check.specs.Check.{Shape}
+
+abbrev pub Pops : Option (Option ValueType × Shape) → Option (Option ValueType) → Shape → Type 0
+Pops p None new = p ≡ None
+Pops p (Some o) new = p ≡ Some (o, new)

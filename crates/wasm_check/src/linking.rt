@@ -1,0 +1,101 @@
+//! Linking a module with the host.
+
+ghost use Rattle.std.specs.Prelude.{◌≡◌, ◌<◌, ◌^◌, length, OnOk, IfErr};
+ghost use Rattle.std.specs.List.{list_all, list_any};
+ghost use Rattle.wasm_spec.specs.declared.types.ValueType.TheVariants.{I64};
+ghost use Rattle.wasm_check.specs.Check.{same_type as same};
+ghost use Rattle.wasm_check.specs.Linking.{Linked, IsFirstUnlinked, one_i64, type_matches, matches, functions_of, host_functions, import_ok};
+
+use crate::context::type_at;
+use crate::error::Unlinked;
+use crate::host::{HOST_FUNCTIONS, HostFunction};
+use crate::module::ValidModule;
+use crate::names::same_name;
+use crate::operands::same_type;
+use wasm_spec::{FuncType, Import, Module, ValueType};
+
+// Whether these are one type of 64 bits.
+fn one_i64(types: &[ValueType]) -> bool
+    ensures { result ≡ one_i64 types.now }
+{
+    match types {
+        [only] => same_type(*only, ValueType::I64),
+        _ => false,
+    }
+}
+
+// Whether these are all of 64 bits.
+fn all_i64(types: &[ValueType]) -> bool
+    ensures { result ≡ list_all (λ p. same p I64) types.now }
+{
+    types.iter().all(|t| same_type(*t, ValueType::I64))
+}
+
+// Whether a function takes so many values of 64 bits and gives one.
+fn type_matches(arity: usize, func_type: &FuncType) -> bool
+    ensures { result ≡ type_matches arity func_type.now }
+{
+    let params = func_type.params.as_slice();
+    if params.len() != arity {
+        return false;
+    }
+    if !all_i64(params) {
+        return false;
+    }
+    one_i64(func_type.results.as_slice())
+}
+
+// Whether an import of this type is this function of the host.
+fn matches(import: &Import, func_type: &FuncType, function: &HostFunction) -> bool
+    ensures { result ≡ matches «import».now func_type.now (function.now.0.now, function.now.1.now, function.now.2) }
+{
+    if !same_name(import.module.as_slice(), function.0.as_bytes()) {
+        return false;
+    }
+    if !same_name(import.name.as_slice(), function.1.as_bytes()) {
+        return false;
+    }
+    type_matches(function.2, func_type)
+}
+
+// Whether an import of this type is one of these functions.
+fn host_has(host: &[HostFunction], import: &Import, func_type: &FuncType) -> bool
+    ensures { result ≡ list_any (λ f. matches «import».now func_type.now (f.0.now, f.1.now, f.2)) host.now }
+{
+    host.iter()
+        .any(|function| matches(import, func_type, function))
+}
+
+// Whether an import is one of these functions.
+fn import_ok(host: &[HostFunction], module: &Module, import: &Import) -> bool
+    ensures { result ≡ import_ok (functions_of host.now) module.now «import».now }
+{
+    match type_at(module, import.type_index) {
+        Some(func_type) => host_has(host, import, func_type),
+        None => false,
+    }
+}
+
+// Whether a host of these functions has each import with its type.
+fn link_with(host: &[HostFunction], module: &Module) -> Result<(), Unlinked>
+    requires { length module.now.imports < 2 ^ 32 }
+    ensures linked { OnOk result (Linked (functions_of host.now) module.now) }
+    ensures unlinked { IfErr result (λ e. IsFirstUnlinked (functions_of host.now) module.now e.import) }
+{
+    for (i, import) in module.imports.as_slice().iter().enumerate() {
+        if !import_ok(host, module, import) {
+            return Err(Unlinked { import: i as u32 });
+        }
+    }
+    Ok(())
+}
+
+/// Whether the host has each import with its type: the first that it does not have, by its index.
+///
+/// Takes no memory.
+pub fn link(module: &ValidModule) -> Result<(), Unlinked>
+    ensures linked { OnOk result (Linked host_functions module.now) }
+    ensures unlinked { IfErr result (λ e. IsFirstUnlinked host_functions module.now e.import) }
+{
+    link_with(&HOST_FUNCTIONS, module.module())
+}

@@ -1,0 +1,185 @@
+//! Modules that were checked.
+
+ghost use Rattle.std.specs.Prelude.{◌≡◌, ◌++◌, ◌+◌, ◌^◌, ◌<◌, ◌&&◌, nat_le, length, replicate, IfOk, IfErr, OnOk};
+ghost use Rattle.wasm_spec.specs.Binary.{locals_count};
+ghost use Rattle.wasm_spec.specs.Typing.{Typed, FunctionTyped, OutsideValid, body_context, result_of, local_types, MOST_LOCALS};
+ghost use Rattle.wasm_check.specs.Errors.{Judges, ReportsIll, ReportsFunction};
+ghost use Rattle.wasm_check.specs.Check.{body_check};
+ghost use Rattle.wasm_check.specs.Checks.{IsChecked};
+ghost use Rattle.std.specs.List.{AllByRecursion};
+ghost use Rattle.std.specs.Bool.{OnTrue, OnFalse};
+
+use crate::code::check_body;
+use crate::context::{Labels, Scope, type_at};
+use crate::error::{CheckErr, Fault};
+use crate::names::names_differ;
+use crate::outside::rules_hold;
+use std::alloc::{AllocError, Global};
+use std::marker::Model;
+use wasm_spec::{FuncType, Function, Locals, Module, ValueType};
+
+/// The most locals of a function, parameters counted.
+const MOST_LOCALS: u64 = 4096;
+
+/// A module that is valid. Only `check` makes one.
+#[derive(Drop)]
+pub struct ValidModule {
+    module: Module,
+}
+
+impl Model for ValidModule {
+    ghost use Rattle.wasm_spec.specs.declared.module.Module.{Module};
+    ghost use Rattle.wasm_spec.specs.contracts.module.Module as modules;
+
+    ghost Value = { Module };
+
+    ghost coded = { modules.the_row.coded };
+
+    ghost use Rattle.wasm_spec.specs.Typing.{Typed};
+
+    ghost view = { λ v. v.module };
+
+    ghost invariant = { λ v. Typed v.module };
+}
+
+impl ValidModule {
+    /// The module, which is valid.
+    pub fn module(&self) -> &Module
+        ensures module { result.now ≡ self.now }
+        ensures valid { Typed self.now }
+    {
+        &self.module
+    }
+}
+
+// Whether a function with so many parameters has few enough locals.
+fn are_few(params: &[ValueType], groups: &[Locals]) -> bool
+    ensures { result ≡ nat_le (length params.now + locals_count groups.now) MOST_LOCALS }
+{
+    let mut count = params.len() as u64;
+    if count > MOST_LOCALS {
+        return false;
+    }
+    for group in groups {
+        count += u64::from(group.count);
+        if count > MOST_LOCALS {
+            return false;
+        }
+    }
+    true
+}
+
+// Adds so many locals of a type.
+fn push_locals(types: &mut Vec<ValueType>, group: Locals) -> Result<(), AllocError>
+    ensures { OnOk result (types.new.items ≡ types.old.items ++ replicate group.count group.value_type) }
+{
+    for _ in 0..group.count {
+        types.push(group.value_type)?;
+    }
+    Ok(())
+}
+
+// The types of parameters and locals.
+fn all_locals(
+    alloc: Global,
+    params: &[ValueType],
+    groups: &[Locals],
+) -> Result<Vec<ValueType>, AllocError>
+    ensures { IfOk result (λ v. v.items ≡ params.now ++ local_types groups.now) }
+{
+    let mut types = Vec::new(alloc);
+    types.extend_from_slice(params)?;
+    for group in groups {
+        push_locals(&mut types, *group)?;
+    }
+    Ok(types)
+}
+
+// A function.
+fn check_function(alloc: Global, module: &Module, function: &Function) -> Result<(), Fault>
+    ensures { Judges (FunctionTyped module.now function.now) result }
+{
+    let func_type = type_at(module, function.type_index).ok_or(Fault::Ill)?;
+    if are_few(func_type.params.as_slice(), function.locals.as_slice()) {
+        check_function_body(alloc, module, func_type, function)
+    } else {
+        Err(Fault::Ill)
+    }
+}
+
+// The body of a function of this type.
+fn check_function_body(
+    alloc: Global,
+    module: &Module,
+    func_type: &FuncType,
+    function: &Function,
+) -> Result<(), Fault>
+    ensures { IsChecked (body_check (body_context module.now func_type.now function.now.locals) (result_of func_type.now) function.now.body) result }
+{
+    let locals = all_locals(
+        alloc,
+        func_type.params.as_slice(),
+        function.locals.as_slice(),
+    )?;
+    let result_type = func_type.results.as_slice().first().copied();
+    let mut scope = Scope {
+        locals,
+        labels: Labels::new(alloc),
+        result: result_type,
+    };
+    check_body(
+        alloc,
+        module,
+        &mut scope,
+        result_type,
+        result_type,
+        function.body.as_slice(),
+    )
+}
+
+// The bodies of the functions, in their order.
+fn check_bodies(alloc: Global, module: &Module) -> Result<(), CheckErr>
+    requires { length module.now.imports + length module.now.functions < 2 ^ 32 }
+    ensures typed { OnOk result (AllByRecursion (FunctionTyped module.now) module.now.functions) }
+    ensures ill { IfErr result (ReportsFunction module.now) }
+{
+    let imports = module.imports.as_slice().len();
+    for (i, function) in module.functions.as_slice().iter().enumerate() {
+        match check_function(alloc, module, function) {
+            Ok(()) => {}
+            Err(Fault::Ill) => {
+                let func = Some((imports + i) as u32);
+                return Err(CheckErr::Ill { func });
+            }
+            Err(Fault::NoMemory) => return Err(CheckErr::NoMemory),
+        }
+    }
+    Ok(())
+}
+
+// Whether the rules outside bodies hold.
+fn is_valid_outside(module: &Module) -> bool
+    ensures holds { OnTrue result (OutsideValid module.now) }
+    ensures broken { OnFalse result (OutsideValid module.now → ⊥) }
+{
+    if !rules_hold(module) {
+        return false;
+    }
+    names_differ(module.exports.as_slice())
+}
+
+/// The module, if it is valid (core section 3).
+///
+/// `Ill` comes exactly where it is not.
+pub fn check(alloc: Global, module: Module) -> Result<ValidModule, CheckErr>
+    // What is accepted is the module, and it is valid.
+    ensures valid { IfOk result (λ v. (v ≡ «module») × Typed v) }
+    // What is not accepted is ill, as the error says.
+    ensures ill { IfErr result (ReportsIll «module») }
+{
+    if !is_valid_outside(&module) {
+        return Err(CheckErr::Ill { func: None });
+    }
+    check_bodies(alloc, &module)?;
+    Ok(ValidModule { module })
+}

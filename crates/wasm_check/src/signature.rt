@@ -1,0 +1,194 @@
+//! What single instructions take and give (core sections 3.3.1 to 3.3.4).
+
+ghost use Rattle.std.specs.Prelude.{◌≡◌, slice_get};
+ghost use Rattle.wasm_spec.specs.Typing.{converted_from, converted_to, numeric_signature, load_type, load_exponent, store_type, store_exponent, set_signature, signature_of, when};
+ghost use Rattle.wasm_check.specs.Contexts.{context_in};
+
+use crate::context::Scope;
+use wasm_spec::{
+    Conversion, Load, Module, Mutability, Numeric, Plain, Signature, Store, Taken, ValueType,
+};
+
+fn converted_from(conversion: Conversion) -> ValueType
+    ensures { result ≡ converted_from conversion }
+{
+    match conversion {
+        Conversion::I32Wrap => ValueType::I64,
+        Conversion::I64Extend(_) => ValueType::I32,
+        Conversion::I32Extend8 => ValueType::I32,
+        Conversion::I32Extend16 => ValueType::I32,
+        Conversion::I64Extend8 => ValueType::I64,
+        Conversion::I64Extend16 => ValueType::I64,
+        Conversion::I64Extend32 => ValueType::I64,
+    }
+}
+
+fn converted_to(conversion: Conversion) -> ValueType
+    ensures { result ≡ converted_to conversion }
+{
+    match conversion {
+        Conversion::I32Wrap => ValueType::I32,
+        Conversion::I64Extend(_) => ValueType::I64,
+        Conversion::I32Extend8 => ValueType::I32,
+        Conversion::I32Extend16 => ValueType::I32,
+        Conversion::I64Extend8 => ValueType::I64,
+        Conversion::I64Extend16 => ValueType::I64,
+        Conversion::I64Extend32 => ValueType::I64,
+    }
+}
+
+fn numeric_signature(numeric: Numeric) -> Signature
+    ensures { result ≡ numeric_signature numeric }
+{
+    match numeric {
+        Numeric::Eqz(operand) => Signature {
+            takes: Taken::One(operand),
+            gives: Some(ValueType::I32),
+        },
+        Numeric::Compare(operand, _) => Signature {
+            takes: Taken::Two(operand, operand),
+            gives: Some(ValueType::I32),
+        },
+        Numeric::Unary(operand, _) => Signature {
+            takes: Taken::One(operand),
+            gives: Some(operand),
+        },
+        Numeric::Binary(operand, _) => Signature {
+            takes: Taken::Two(operand, operand),
+            gives: Some(operand),
+        },
+        Numeric::Convert(conversion) => Signature {
+            takes: Taken::One(converted_from(conversion)),
+            gives: Some(converted_to(conversion)),
+        },
+    }
+}
+
+fn load_type(load: Load) -> ValueType
+    ensures { result ≡ load_type load }
+{
+    match load {
+        Load::I32 => ValueType::I32,
+        Load::I64 => ValueType::I64,
+        Load::I32From8(_) => ValueType::I32,
+        Load::I32From16(_) => ValueType::I32,
+        Load::I64From8(_) => ValueType::I64,
+        Load::I64From16(_) => ValueType::I64,
+        Load::I64From32(_) => ValueType::I64,
+    }
+}
+
+// The exponent of a load's natural alignment.
+fn load_exponent(load: Load) -> u32
+    ensures { result ≡ load_exponent load }
+{
+    match load {
+        Load::I32 => 2,
+        Load::I64 => 3,
+        Load::I32From8(_) => 0,
+        Load::I32From16(_) => 1,
+        Load::I64From8(_) => 0,
+        Load::I64From16(_) => 1,
+        Load::I64From32(_) => 2,
+    }
+}
+
+fn store_type(store: Store) -> ValueType
+    ensures { result ≡ store_type store }
+{
+    match store {
+        Store::I32 => ValueType::I32,
+        Store::I64 => ValueType::I64,
+        Store::I32To8 => ValueType::I32,
+        Store::I32To16 => ValueType::I32,
+        Store::I64To8 => ValueType::I64,
+        Store::I64To16 => ValueType::I64,
+        Store::I64To32 => ValueType::I64,
+    }
+}
+
+// The exponent of a store's natural alignment.
+fn store_exponent(store: Store) -> u32
+    ensures { result ≡ store_exponent store }
+{
+    match store {
+        Store::I32 => 2,
+        Store::I64 => 3,
+        Store::I32To8 => 0,
+        Store::I32To16 => 1,
+        Store::I64To8 => 0,
+        Store::I64To16 => 1,
+        Store::I64To32 => 2,
+    }
+}
+
+// The signature, if the test holds.
+fn when(holds: bool, takes: Taken, gives: Option<ValueType>) -> Option<Signature>
+    ensures { result ≡ when holds (record { takes = takes; gives = gives }) }
+{
+    if holds {
+        Some(Signature { takes, gives })
+    } else {
+        None
+    }
+}
+
+// What `global.set` takes.
+fn set_signature(mutability: Mutability, value_type: ValueType) -> Option<Signature>
+    ensures { result ≡ set_signature mutability value_type }
+{
+    match mutability {
+        Mutability::Constant => None,
+        Mutability::Variable => Some(Signature {
+            takes: Taken::One(value_type),
+            gives: None,
+        }),
+    }
+}
+
+/// What an instruction takes and gives, if its indices are there and its alignment is at most the natural one.
+/// `drop` and `select` have no type of their own.
+pub fn signature_of(module: &Module, scope: &Scope, plain: Plain) -> Option<Signature>
+    ensures { result ≡ signature_of (context_in module.now scope.now) plain }
+{
+    let has_memory = !module.memories.as_slice().is_empty();
+    match plain {
+        Plain::Nop => when(true, Taken::None, None),
+        Plain::Drop | Plain::Select => None,
+        Plain::LocalGet(index) => {
+            let value_type = *scope.locals.get(index as usize)?;
+            when(true, Taken::None, Some(value_type))
+        }
+        Plain::LocalSet(index) => {
+            let value_type = *scope.locals.get(index as usize)?;
+            when(true, Taken::One(value_type), None)
+        }
+        Plain::LocalTee(index) => {
+            let value_type = *scope.locals.get(index as usize)?;
+            when(true, Taken::One(value_type), Some(value_type))
+        }
+        Plain::GlobalGet(index) => {
+            let global = module.globals.as_slice().get(index as usize)?;
+            when(true, Taken::None, Some(global.value_type))
+        }
+        Plain::GlobalSet(index) => {
+            let global = module.globals.as_slice().get(index as usize)?;
+            set_signature(global.mutability, global.value_type)
+        }
+        Plain::Load(load, argument) => when(
+            has_memory && argument.align <= load_exponent(load),
+            Taken::One(ValueType::I32),
+            Some(load_type(load)),
+        ),
+        Plain::Store(store, argument) => when(
+            has_memory && argument.align <= store_exponent(store),
+            Taken::Two(store_type(store), ValueType::I32),
+            None,
+        ),
+        Plain::MemorySize => when(has_memory, Taken::None, Some(ValueType::I32)),
+        Plain::MemoryGrow => when(has_memory, Taken::One(ValueType::I32), Some(ValueType::I32)),
+        Plain::I32Const(_) => when(true, Taken::None, Some(ValueType::I32)),
+        Plain::I64Const(_) => when(true, Taken::None, Some(ValueType::I64)),
+        Plain::Numeric(numeric) => Some(numeric_signature(numeric)),
+    }
+}

@@ -1,0 +1,12 @@
+pub mod CodeLaws
+pub mod CodeSteps
+pub mod Exact
+pub mod Exits
+pub mod Laws
+pub mod ModuleLaws
+pub mod ModuleSteps
+pub mod Names
+pub mod OpLaws
+pub mod Opcodes
+pub mod Powers
+pub mod RowSteps

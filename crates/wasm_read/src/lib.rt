@@ -1,0 +1,17 @@
+//! Reading WebAssembly modules from their bytes (core section 5).
+#![tactic(auto)]
+
+mod binary;
+mod code;
+mod error;
+mod head;
+mod input;
+mod instructions;
+mod module;
+mod numbers;
+mod parts;
+#[cfg(test)]
+mod tests;
+
+pub use error::ReadModErr;
+pub use module::read_module;

@@ -1,0 +1,79 @@
+//! The opcodes of numeric instructions (core section 5.4.5): those without immediates stand in four rows.
+
+use crate::instructions::{Binary, Comparison, Conversion, Numeric, Sign, Unary};
+use crate::types::ValueType;
+
+/// From 0x45 on: the tests and comparisons.
+pub const COMPARISONS: [Numeric; 22] = [
+    Numeric::Eqz(ValueType::I32),
+    Numeric::Compare(ValueType::I32, Comparison::Eq),
+    Numeric::Compare(ValueType::I32, Comparison::Ne),
+    Numeric::Compare(ValueType::I32, Comparison::Lt(Sign::Signed)),
+    Numeric::Compare(ValueType::I32, Comparison::Lt(Sign::Unsigned)),
+    Numeric::Compare(ValueType::I32, Comparison::Gt(Sign::Signed)),
+    Numeric::Compare(ValueType::I32, Comparison::Gt(Sign::Unsigned)),
+    Numeric::Compare(ValueType::I32, Comparison::Le(Sign::Signed)),
+    Numeric::Compare(ValueType::I32, Comparison::Le(Sign::Unsigned)),
+    Numeric::Compare(ValueType::I32, Comparison::Ge(Sign::Signed)),
+    Numeric::Compare(ValueType::I32, Comparison::Ge(Sign::Unsigned)),
+    Numeric::Eqz(ValueType::I64),
+    Numeric::Compare(ValueType::I64, Comparison::Eq),
+    Numeric::Compare(ValueType::I64, Comparison::Ne),
+    Numeric::Compare(ValueType::I64, Comparison::Lt(Sign::Signed)),
+    Numeric::Compare(ValueType::I64, Comparison::Lt(Sign::Unsigned)),
+    Numeric::Compare(ValueType::I64, Comparison::Gt(Sign::Signed)),
+    Numeric::Compare(ValueType::I64, Comparison::Gt(Sign::Unsigned)),
+    Numeric::Compare(ValueType::I64, Comparison::Le(Sign::Signed)),
+    Numeric::Compare(ValueType::I64, Comparison::Le(Sign::Unsigned)),
+    Numeric::Compare(ValueType::I64, Comparison::Ge(Sign::Signed)),
+    Numeric::Compare(ValueType::I64, Comparison::Ge(Sign::Unsigned)),
+];
+
+/// From 0x67 on: the operations on one and on two operands.
+pub const ARITHMETIC: [Numeric; 36] = [
+    Numeric::Unary(ValueType::I32, Unary::Clz),
+    Numeric::Unary(ValueType::I32, Unary::Ctz),
+    Numeric::Unary(ValueType::I32, Unary::Popcnt),
+    Numeric::Binary(ValueType::I32, Binary::Add),
+    Numeric::Binary(ValueType::I32, Binary::Sub),
+    Numeric::Binary(ValueType::I32, Binary::Mul),
+    Numeric::Binary(ValueType::I32, Binary::Div(Sign::Signed)),
+    Numeric::Binary(ValueType::I32, Binary::Div(Sign::Unsigned)),
+    Numeric::Binary(ValueType::I32, Binary::Rem(Sign::Signed)),
+    Numeric::Binary(ValueType::I32, Binary::Rem(Sign::Unsigned)),
+    Numeric::Binary(ValueType::I32, Binary::And),
+    Numeric::Binary(ValueType::I32, Binary::Or),
+    Numeric::Binary(ValueType::I32, Binary::Xor),
+    Numeric::Binary(ValueType::I32, Binary::Shl),
+    Numeric::Binary(ValueType::I32, Binary::Shr(Sign::Signed)),
+    Numeric::Binary(ValueType::I32, Binary::Shr(Sign::Unsigned)),
+    Numeric::Binary(ValueType::I32, Binary::Rotl),
+    Numeric::Binary(ValueType::I32, Binary::Rotr),
+    Numeric::Unary(ValueType::I64, Unary::Clz),
+    Numeric::Unary(ValueType::I64, Unary::Ctz),
+    Numeric::Unary(ValueType::I64, Unary::Popcnt),
+    Numeric::Binary(ValueType::I64, Binary::Add),
+    Numeric::Binary(ValueType::I64, Binary::Sub),
+    Numeric::Binary(ValueType::I64, Binary::Mul),
+    Numeric::Binary(ValueType::I64, Binary::Div(Sign::Signed)),
+    Numeric::Binary(ValueType::I64, Binary::Div(Sign::Unsigned)),
+    Numeric::Binary(ValueType::I64, Binary::Rem(Sign::Signed)),
+    Numeric::Binary(ValueType::I64, Binary::Rem(Sign::Unsigned)),
+    Numeric::Binary(ValueType::I64, Binary::And),
+    Numeric::Binary(ValueType::I64, Binary::Or),
+    Numeric::Binary(ValueType::I64, Binary::Xor),
+    Numeric::Binary(ValueType::I64, Binary::Shl),
+    Numeric::Binary(ValueType::I64, Binary::Shr(Sign::Signed)),
+    Numeric::Binary(ValueType::I64, Binary::Shr(Sign::Unsigned)),
+    Numeric::Binary(ValueType::I64, Binary::Rotl),
+    Numeric::Binary(ValueType::I64, Binary::Rotr),
+];
+
+/// From 0xC0 on: the sign extensions.
+pub const SIGN_EXTENSIONS: [Numeric; 5] = [
+    Numeric::Convert(Conversion::I32Extend8),
+    Numeric::Convert(Conversion::I32Extend16),
+    Numeric::Convert(Conversion::I64Extend8),
+    Numeric::Convert(Conversion::I64Extend16),
+    Numeric::Convert(Conversion::I64Extend32),
+];
