@@ -2,7 +2,7 @@
 """Applies a set of one transaction to ledgers of 2,000, 20,000 and 200,000 entries, and prints a row for each:
 entries, bytes, seconds and peak memory of the program, and seconds of sha256sum over the same file.
 
-usage: bench/ledgers.py PROGRAM
+usage: bench/ledgers.py PROGRAM (it needs GNU time at /usr/bin/time and sha256sum)
 """
 
 import hashlib
@@ -49,14 +49,18 @@ def extend(number):
 
 
 def measure(command):
-    """Seconds and peak memory in MiB of a command."""
+    """Seconds and peak memory in MiB of a command.
+
+    GNU time starts it: a child of this interpreter would be charged with the interpreter's own peak.
+    """
     start = time.monotonic()
-    process = subprocess.Popen(command, stdout=subprocess.DEVNULL)
-    _, status, usage = os.wait4(process.pid, 0)
+    done = subprocess.run(
+        ["/usr/bin/time", "-q", "-f", "%M", *command], stdout=subprocess.DEVNULL, stderr=subprocess.PIPE, text=True
+    )
     seconds = time.monotonic() - start
-    if status != 0:
-        sys.exit(f"{command[0]} ended with {os.waitstatus_to_exitcode(status)}")
-    return seconds, usage.ru_maxrss / 1024
+    if done.returncode != 0:
+        sys.exit(f"{command[0]} ended with {done.returncode}: {done.stderr}")
+    return seconds, int(done.stderr.split()[-1]) / 1024
 
 
 def main():
