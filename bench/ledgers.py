@@ -2,7 +2,7 @@
 """Applies a set of one transaction to ledgers of 2,000, 20,000 and 200,000 entries, and prints a row for each:
 entries, bytes, seconds and peak memory of the program, and seconds of sha256sum over the same file.
 
-usage: bench/ledgers.py PROGRAM (it needs GNU time at /usr/bin/time and sha256sum)
+usage: bench/ledgers.py PROGRAM (crates/soroban_cmd/out/soroban_cmd; it needs GNU time at /usr/bin/time and sha256sum)
 """
 
 import hashlib
@@ -14,7 +14,7 @@ import tempfile
 import time
 
 NETWORK = bytes([7]) * 32
-# The rows of settings, each a type of cost's limits and terms, as in examples/ledger.hex.
+# The terms of the kinds of cost, as in examples/ledger.hex: instructions (constant, linear), memory (constant, linear).
 SETTINGS = [
     (1, 0, 0, 0), (0, 0, 16, 128), (0, 128, 0, 0), (0, 128, 0, 0), (10, 0, 0, 0), (5, 0, 0, 0),
     (0, 128, 0, 0), (0, 128, 0, 0), (100, 128, 0, 0), (1000, 128, 0, 128), (100, 0, 0, 0),

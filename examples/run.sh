@@ -1,23 +1,35 @@
 #!/bin/sh
-# Builds the program and applies a small transaction set to a small ledger.
+# Builds the program, vets a module, shows a transaction, and applies a small transaction set to a small ledger.
 set -eu
 cd "$(dirname "$0")"
 out=$(mktemp -d)
 trap 'rm -rf "$out"' EXIT
 
-bytes() { sed 's/#.*//' "$1.hex" | xxd -r -p >"$out/$1.bin"; }
-bytes set
-bytes ledger
-bytes verdicts
-
-# The last word of a ledger's file is the last ledger in which its last entry is live.
-life() { printf '%d' "0x$(tail -c 4 "$1" | xxd -p)"; }
-
-echo "before: the entry lives until ledger $(life "$out/ledger.bin")"
+for name in set ledger verdicts module token; do
+    sed 's/#.*//' "$name.hex" | xxd -r -p >"$out/$name.bin"
+done
+cp envelope.b64 "$out"
 cd ../crates/soroban_cmd
-rt run -- apply --set "$out/set.bin" --ledger "$out/ledger.bin" --verdicts "$out/verdicts.bin" \
-    --close-time 1001 --workers 1 --report "$out/report.bin" --ledger-out "$out/next.bin" 2>"$out/log" || {
+# `rt run` builds the program before it runs it.
+rt run -- vet --module "$out/module.bin" >"$out/log" 2>&1 || {
     cat "$out/log" >&2
     exit 1
 }
-echo "after: the entry lives until ledger $(life "$out/next.bin")"
+program=$PWD/out/soroban_cmd
+cd "$out"
+
+soroban() {
+    echo "\$ soroban_cmd $*"
+    "$program" "$@"
+}
+
+soroban vet --module module.bin
+soroban show --kind envelope --file envelope.b64 --base64
+soroban show --kind ledger --file token.bin
+soroban show --kind set --file set.bin
+soroban show --kind ledger --file ledger.bin
+soroban apply --set set.bin --ledger ledger.bin --verdicts verdicts.bin --close-time 1001 --workers 1 \
+    --report report.bin --ledger-out next.bin
+echo '$ xxd -p -c 36 report.bin'
+xxd -p -c 36 report.bin
+soroban show --kind ledger --file next.bin

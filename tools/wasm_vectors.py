@@ -51,6 +51,7 @@ good("constants", f("i32.const -2147483648 drop i32.const 2147483647 drop i64.co
 ill("i64.add of an i32", f("local.get 0 i32.const 1 i64.add", "(param i64) (result i64)"))
 ill("i32.eqz of an i64", f("local.get 0 i32.eqz", "(param i64) (result i32)"))
 ill("comparison gives i32", f("local.get 0 local.get 0 i64.lt_u", "(param i64) (result i64)"))
+ill("clz of an i64", f("local.get 0 i32.clz", "(param i64) (result i32)"))
 ill("wrap of an i32", f("i32.const 1 i32.wrap_i64", "(result i32)"))
 ill("extension of an i32 to i64 in place", f("i32.const 1 i64.extend8_s", "(result i64)"))
 ill("no operand", f("i32.add", "(result i32)"))
@@ -85,6 +86,12 @@ ill("memory.grow by an i64", f("i64.const 1 memory.grow drop", "", M))
 ill("load at an i64", f("i64.const 0 i32.load drop", "", M))
 ill("store of another type", f("i32.const 0 i32.const 0 i64.store", "", M))
 ill("two memories", "(module (memory 1) (memory 1))")
+def aligned(code):
+    "One function without parameters and results, and one memory."
+    body = bytes([0]) + code + b"\x0b"
+    return b"\x00asm\x01\x00\x00\x00\x01\x04\x01\x60\x00\x00\x03\x02\x01\x00\x05\x03\x01\x00\x01\x0a" + bytes([len(body) + 2, 1, len(body)]) + body
+ill("a load's alignment above the natural one", aligned(b"\x41\x00\x28\x03\x00\x1a"))
+ill("a store's alignment above the natural one", aligned(b"\x41\x00\x41\x00\x3a\x01\x00"))
 ill("most below least pages", "(module (memory 2 1))")
 ill("too many pages at most", "(module (memory 0 65537))")
 good("pages at most", "(module (memory 64 65536))")
@@ -103,7 +110,8 @@ ill("branch without its value", f("block (result i64) br 0 end drop"))
 ill("branch with another type", f("block (result i64) i32.const 1 br 0 end drop"))
 ill("br_if with another type", f("block (result i64) i32.const 1 i32.const 1 br_if 0 drop i64.const 1 end drop"))
 ill("br_table to labels of two types", f("block (result i64) block i64.const 1 i32.const 0 br_table 0 1 end i64.const 1 end drop"))
-ill("a loop's label takes nothing", f("loop (result i64) br 0 end i32.eqz drop"))
+good("a loop's label takes nothing", f("loop (result i64) br 0 end drop"))
+ill("a loop gives its result", f("loop (result i64) br 0 end i32.eqz drop"))
 ill("operands left in a block", f("block i32.const 1 end"))
 ill("operand below the block", f("i32.const 1 block drop end"))
 ill("if without else and with a result", f("i32.const 1 if (result i32) i32.const 1 end drop"))
@@ -134,6 +142,8 @@ good("exports", "(module (func (export \"a\")) (func (export \"b\")) (global (ex
 ill("two exports of one name", "(module (func (export \"a\") (export \"a\")))")
 ill("export out of range", "(module (export \"a\" (func 0)))")
 ill("two results", "(module (type (func (result i64 i64))))")
+ill("a function of no type", b"\x00asm\x01\x00\x00\x00\x03\x02\x01\x00\x0a\x04\x01\x02\x00\x0b")
+ill("an import of no type", b"\x00asm\x01\x00\x00\x00\x02\x07\x01\x01a\x01b\x00\x00")
 
 # what is no module, by a change of one byte or a cut; judged by hand
 base = assemble("(module (memory 1) (func (export \"f\") (param i64) (result i64) local.get 0 i64.const 300 i64.add))")
@@ -156,6 +166,14 @@ none("six bytes of a number", base.replace(b"\x05\x03\x01\x00\x01", b"\x05\x08\x
 V.append(("five bytes of a number", base.replace(b"\x05\x03\x01\x00\x01", b"\x05\x07\x01\x00\x81\x80\x80\x80\x00"), VALID))
 V.append(("a custom section", base[:8] + b"\x00\x05\x02ab\xff\xff" + base[8:], VALID))
 none("a custom section without its name", base[:8] + b"\x00\x02\x02a" + base[8:])
+none("a section longer than the file", b"\x00asm\x01\x00\x00\x00\x01\xff\xff\xff\xff\x0f\x01\x60\x00\x00")
+none("a table behind a memory", b"\x00asm\x01\x00\x00\x00\x05\x03\x01\x00\x01\x04\x04\x01\x70\x00\x00")
+def code(body, memory=b""):
+    return b"\x00asm\x01\x00\x00\x00\x01\x04\x01\x60\x00\x00\x03\x02\x01\x00" + memory + b"\x0a" + bytes([len(body) + 2, 1, len(body)]) + body
+none("else without if", code(b"\x00\x05\x0b"))
+none("bytes behind a body's end", code(b"\x00\x0b\x01"))
+none("memory.size of memory 1", code(b"\x00\x3f\x01\x1a\x0b", b"\x05\x03\x01\x00\x01"))
+none("unused bits of a sign", b"\x00asm\x01\x00\x00\x00\x01\x05\x01\x60\x00\x01\x7f\x03\x02\x01\x00\x0a\x0a\x01\x08\x00\x41\xff\xff\xff\xff\x4f\x0b")
 none("a function without its body", assemble("(module (func))").split(b"\x0a")[0])
 
 out = ["//! Small modules made by an independent assembler, with what an independent validator says of them.", "",

@@ -1,21 +1,36 @@
--- What a transaction declares, and the checks that it passes before it runs (own, after CAP-0046-05 and CAP-0063).
-use Rattle.std.specs.Prelude.{Bool, true, false, ◌||◌, List, [], ◌∷◌, ◌++◌, length, Option, Some, None, nat_lt, nat_le, if◌then◌else◌}
+-- What a transaction declares, and the checks that it passes before it runs (own, after CAP-0021, CAP-0046-05 and CAP-0063).
+use Rattle.std.specs.Prelude.{ℕ, ◌+◌, ◌==◌, Bool, true, false, not, ◌||◌, ◌&&◌, List, [], ◌∷◌, ◌++◌, length, Option, Some, None, nat_lt, nat_le, if◌then◌else◌}
 use Rattle.std.specs.List.{list_any, list_all}
 use Rattle.std.specs.Str.{bytes_eq}
 use Rattle.ledger_types.specs.declared.key.LedgerKey.{LedgerKey}
 use Rattle.ledger_types.specs.declared.key.LedgerKey.TheVariants.{Account, Trustline, Offer, Data, ClaimableBalance, LiquidityPool, ContractData, ContractCode, Ttl}
+use Rattle.ledger_types.specs.declared.header.Header.{Header}
+use Rattle.tx_parts.specs.declared.bounds.TimeBounds.{TimeBounds}
+use Rattle.tx_parts.specs.declared.bounds.LedgerBounds.{LedgerBounds}
+use Rattle.tx_parts.specs.declared.preconditions.Preconditions.{Preconditions}
+use Rattle.tx_parts.specs.declared.preconditions.Preconditions.TheVariants as preconditions
 use Rattle.tx_xdr.specs.declared.transaction.Footprint.{Footprint}
 use Rattle.tx_xdr.specs.declared.transaction.Transaction.{Transaction}
 use Rattle.tx_xdr.specs.declared.transaction.TransactionExt.{TransactionExt}
-use Rattle.tx_xdr.specs.declared.transaction.TransactionExt.TheVariants.{Soroban}
-use Rattle.tx_xdr.specs.declared.results.TransactionOutcome.{TransactionOutcome}
-use Rattle.tx_xdr.specs.declared.results.TransactionOutcome.TheVariants.{MissingOperation, Malformed, SorobanInvalid}
+use Rattle.tx_xdr.specs.declared.transaction.TransactionExt.TheVariants as exts
+use Rattle.tx_results.specs.declared.results.TransactionOutcome.{TransactionOutcome}
+use Rattle.tx_results.specs.declared.results.TransactionOutcome.TheVariants.{TooEarly, TooLate, MissingOperation, Malformed, SorobanInvalid}
 use Rattle.ledger_spec.specs.LedgerMap.{key_bytes}
+
+-- the ledger that is being made
+abbrev pub next_seq : Header → ℕ
+next_seq header = header.seq + 1
 
 -- ---- footprints
 
+-- a transaction with ext 0 declares nothing
 abbrev pub footprint_in : TransactionExt → Footprint
-footprint_in (Soroban soroban) = soroban.footprint
+footprint_in exts.None = record { read_only = []; read_write = [] }
+footprint_in (exts.Soroban soroban) = soroban.footprint
+
+abbrev pub is_soroban : TransactionExt → Bool
+is_soroban exts.None = false
+is_soroban (exts.Soroban soroban) = true
 
 abbrev pub footprint_of : Transaction → Footprint
 footprint_of tx = footprint_in tx.ext
@@ -57,12 +72,52 @@ declared_keys footprint = footprint.read_only ++ footprint.read_write
 abbrev pub may_be_footprint : List LedgerKey → Bool
 may_be_footprint keys = if has_twice keys then false else list_all may_be_declared keys
 
+-- ---- when a transaction may run (CAP-0021): the header has the close time of the ledger that is being made
+
+abbrev pub time_bounds_of : Preconditions → Option TimeBounds
+time_bounds_of preconditions.None = None
+time_bounds_of (preconditions.Time bounds) = Some bounds
+time_bounds_of (preconditions.V2 v2) = v2.time_bounds
+
+abbrev pub ledger_bounds_of : Preconditions → Option LedgerBounds
+ledger_bounds_of preconditions.None = None
+ledger_bounds_of (preconditions.Time bounds) = None
+ledger_bounds_of (preconditions.V2 v2) = v2.ledger_bounds
+
+abbrev pub is_before_time : ℕ → Option TimeBounds → Bool
+is_before_time close_time None = false
+is_before_time close_time (Some bounds) = nat_lt close_time bounds.min_time
+
+-- a greatest time of 0 is none
+abbrev pub is_after_time : ℕ → Option TimeBounds → Bool
+is_after_time close_time None = false
+is_after_time close_time (Some bounds) = not (bounds.max_time == 0) && nat_lt bounds.max_time close_time
+
+abbrev pub is_before_ledger : ℕ → Option LedgerBounds → Bool
+is_before_ledger n None = false
+is_before_ledger n (Some bounds) = nat_lt n bounds.min_ledger
+
+-- the greatest ledger is the first that is too late, and 0 is none
+abbrev pub is_after_ledger : ℕ → Option LedgerBounds → Bool
+is_after_ledger n None = false
+is_after_ledger n (Some bounds) = not (bounds.max_ledger == 0) && nat_le bounds.max_ledger n
+
+abbrev pub is_too_early : Header → Transaction → Bool
+is_too_early header tx =
+    is_before_time header.close_time (time_bounds_of tx.preconditions) || is_before_ledger (next_seq header) (ledger_bounds_of tx.preconditions)
+
+abbrev pub is_too_late : Header → Transaction → Bool
+is_too_late header tx =
+    is_after_time header.close_time (time_bounds_of tx.preconditions) || is_after_ledger (next_seq header) (ledger_bounds_of tx.preconditions)
+
 -- ---- the checks: the first that fails decides
 
-abbrev pub checks_of : Transaction → List (Bool × TransactionOutcome)
-checks_of tx =
+abbrev pub checks_of : Header → Transaction → List (Bool × TransactionOutcome)
+checks_of header tx =
     (nat_lt 0 (length tx.operations), MissingOperation)
-    ∷ (nat_le (length tx.operations) 1, Malformed)
+    ∷ (not (is_too_early header tx), TooEarly)
+    ∷ (not (is_too_late header tx), TooLate)
+    ∷ (nat_le (length tx.operations) 1 && is_soroban tx.ext, Malformed)
     ∷ (may_be_footprint (declared_keys (footprint_of tx)), SorobanInvalid)
     ∷ []
 
@@ -70,5 +125,5 @@ abbrev pub first_failed : List (Bool × TransactionOutcome) → Option Transacti
 first_failed [] = None
 first_failed (check ∷ rest) = if check.0 then first_failed rest else Some check.1
 
-abbrev pub refusal_of : Transaction → Option TransactionOutcome
-refusal_of tx = first_failed (checks_of tx)
+abbrev pub refusal_of : Header → Transaction → Option TransactionOutcome
+refusal_of header tx = first_failed (checks_of header tx)

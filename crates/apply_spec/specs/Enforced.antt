@@ -5,23 +5,22 @@ use Rattle.ledger_types.specs.declared.key.LedgerKey.{LedgerKey}
 use Rattle.ledger_types.specs.declared.key.LedgerKey.TheVariants.{Account, Trustline, Offer, Data, ClaimableBalance, LiquidityPool, ContractData, ContractCode, Ttl}
 use Rattle.ledger_types.specs.declared.header.Header.{Header}
 use Rattle.ledger_types.specs.declared.header.Settings.{Settings}
+use Rattle.tx_xdr.specs.Limits.{today, takes_operation}
+use Rattle.tx_xdr.specs.Operation.{kind}
 use Rattle.tx_xdr.specs.declared.transaction.Footprint.{Footprint}
 use Rattle.tx_xdr.specs.declared.transaction.Operation.{Operation}
 use Rattle.tx_xdr.specs.declared.transaction.OperationBody.{OperationBody}
-use Rattle.tx_xdr.specs.declared.transaction.OperationBody.TheVariants.{ExtendFootprintTtl}
+use Rattle.tx_xdr.specs.declared.transaction.OperationBody.TheVariants.{InvokeHostFunction, ExtendFootprintTtl, RestoreFootprint}
 use Rattle.tx_xdr.specs.declared.transaction.Transaction.{Transaction}
-use Rattle.tx_xdr.specs.declared.results.ExtendResult.TheVariants as extends
-use Rattle.tx_xdr.specs.declared.results.OperationResult.TheVariants.{Extend}
-use Rattle.tx_xdr.specs.declared.results.TransactionOutcome.{TransactionOutcome}
-use Rattle.tx_xdr.specs.declared.results.TransactionOutcome.TheVariants.{Success, Failed, MissingOperation}
+use Rattle.tx_results.specs.declared.codes.ExtendResult.TheVariants as extends
+use Rattle.tx_results.specs.declared.operation.InnerResult.TheVariants.{Extend}
+use Rattle.tx_results.specs.declared.operation.OperationResult.TheVariants.{Inner, NotSupported}
+use Rattle.tx_results.specs.declared.results.TransactionOutcome.{TransactionOutcome}
+use Rattle.tx_results.specs.declared.results.TransactionOutcome.TheVariants.{Success, Failed, MissingOperation}
 use Rattle.ledger_spec.specs.LedgerMap.{LedgerMap}
 use Rattle.ledger_spec.specs.Seen.{Seen, live, absent, archived, seen}
 use Rattle.apply_spec.specs.declared.Extension.{Extension}
-use Rattle.apply_spec.specs.Checks.{footprint_of, refusal_of}
-
--- the ledger that is being made
-abbrev pub next_seq : Header → ℕ
-next_seq header = header.seq + 1
+use Rattle.apply_spec.specs.Checks.{footprint_of, next_seq, refusal_of}
 
 -- the outcome, and the lives that are to be longer, which are pending until they are put in
 pub record Enforced : Type 0 where
@@ -63,15 +62,22 @@ extensions_of n entries keys until = filter_map (λ key. extension_seen (seen n 
 abbrev pub extended : Header → LedgerMap → Footprint → ℕ → Enforced
 extended header entries footprint extend_to =
     if may_extend header.settings footprint extend_to then record {
-      outcome = Success (Extend extends.Success ∷ []);
+      outcome = Success (Inner (Extend extends.Success) ∷ []);
       extensions = extensions_of (next_seq header) entries footprint.read_only (next_seq header + extend_to);
     }
-    else without_effect (Failed (Extend extends.Malformed ∷ []))
+    else without_effect (Failed (Inner (Extend extends.Malformed) ∷ []))
 
 -- ---- any transaction
 
+-- the operations of the sets that run today
+abbrev pub runs_today : Transaction → Bool
+runs_today tx = list_all (λ operation. takes_operation today (kind operation.body)) tx.operations
+
+-- Only sets without host functions run today, so what is said of these here is not asked of any run.
 abbrev pub performed : Header → LedgerMap → Transaction → OperationBody → Enforced
 performed header entries tx (ExtendFootprintTtl extend_to) = extended header entries (footprint_of tx) extend_to
+performed header entries tx RestoreFootprint = without_effect (Failed (NotSupported ∷ []))
+performed header entries tx (InvokeHostFunction host_function auth) = without_effect (Failed (NotSupported ∷ []))
 
 -- its one operation; that there is one is checked before
 abbrev pub first_performed : Header → LedgerMap → Transaction → List Operation → Enforced
@@ -84,4 +90,4 @@ unless_refused None done = done
 
 -- the checks come first, and then the operation
 abbrev pub enforced : Header → LedgerMap → Transaction → Enforced
-enforced header entries tx = unless_refused (refusal_of tx) (first_performed header entries tx tx.operations)
+enforced header entries tx = unless_refused (refusal_of header tx) (first_performed header entries tx tx.operations)

@@ -3,11 +3,11 @@ use Rattle.std.specs.Prelude.{ℕ, ◌-◌, Bool, true, false, List, ◌++◌, l
 use Rattle.hex.specs.Hex.{encode_lower}
 use Rattle.sha2.specs.Sha256.{sha256}
 use Rattle.ledger_types.specs.declared.header.Header.{Header}
-use Rattle.tx_xdr.specs.Results.{report_bytes}
+use Rattle.tx_results.specs.Results.{report_bytes}
 use Rattle.tx_xdr.specs.declared.set.TxSet.{TxSet}
-use Rattle.tx_xdr.specs.declared.results.TransactionOutcome.{TransactionOutcome}
-use Rattle.tx_xdr.specs.declared.results.TransactionOutcome.TheVariants.{Success, Failed, MissingOperation, Malformed, SorobanInvalid}
-use Rattle.tx_xdr.specs.declared.results.TransactionResultPair.{TransactionResultPair}
+use Rattle.tx_results.specs.declared.results.TransactionOutcome.{TransactionOutcome}
+use Rattle.tx_results.specs.declared.results.TransactionOutcome.TheVariants.{Success, Failed, TooEarly, TooLate, MissingOperation, Malformed, SorobanInvalid}
+use Rattle.tx_results.specs.declared.results.TransactionResultPair.{TransactionResultPair}
 use Rattle.ledger_spec.specs.LedgerMap.{LedgerMap}
 use Rattle.ledger_spec.specs.LedgerFile.{ledger_bytes}
 use Rattle.apply_spec.specs.Runs.{Running, run_set, new_header}
@@ -18,6 +18,8 @@ use Rattle.apply_spec.specs.Runs.{Running, run_set, new_header}
 abbrev pub is_success : TransactionOutcome → Bool
 is_success (Success results) = true
 is_success (Failed results) = false
+is_success TooEarly = false
+is_success TooLate = false
 is_success MissingOperation = false
 is_success Malformed = false
 is_success SorobanInvalid = false

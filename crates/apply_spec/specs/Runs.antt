@@ -1,23 +1,24 @@
 -- What becomes of a set: its stages one after the other, a stage's clusters one after the other, and a cluster's
 -- transactions one after the other, on one map of all entries (own, after CAP-0063).
-use Rattle.std.specs.Prelude.{ℕ, pos, Bool, not, List, [], ◌∷◌, ◌++◌, fold, filter}
+use Rattle.std.specs.Prelude.{ℕ, pos, Bool, not, List, [], ◌∷◌, ◌++◌, map, fold, filter}
 use Rattle.std.specs.List.{flat_map}
 use Rattle.ledger_types.specs.declared.header.Header.{Header}
 use Rattle.tx_xdr.specs.Hashes.{transaction_hash}
 use Rattle.tx_xdr.specs.declared.transaction.Envelope.{Envelope}
 use Rattle.tx_xdr.specs.declared.transaction.Transaction.{Transaction}
+use Rattle.tx_xdr.specs.declared.set.Component.{Component}
 use Rattle.tx_xdr.specs.declared.set.Cluster.{Cluster}
 use Rattle.tx_xdr.specs.declared.set.Stage.{Stage}
 use Rattle.tx_xdr.specs.declared.set.Phase.{Phase}
-use Rattle.tx_xdr.specs.declared.set.Phase.TheVariants.{Parallel}
+use Rattle.tx_xdr.specs.declared.set.Phase.TheVariants.{Components, Parallel}
 use Rattle.tx_xdr.specs.declared.set.TxSet.{TxSet}
-use Rattle.tx_xdr.specs.declared.results.TransactionOutcome.{TransactionOutcome}
-use Rattle.tx_xdr.specs.declared.results.TransactionResultPair.{TransactionResultPair}
+use Rattle.tx_results.specs.declared.results.TransactionOutcome.{TransactionOutcome}
+use Rattle.tx_results.specs.declared.results.TransactionResultPair.{TransactionResultPair}
 use Rattle.ledger_spec.specs.LedgerMap.{LedgerMap}
 use Rattle.ledger_spec.specs.Changes.{raise}
 use Rattle.apply_spec.specs.declared.Extension.{Extension}
-use Rattle.apply_spec.specs.Checks.{declares_write}
-use Rattle.apply_spec.specs.Enforced.{Enforced, enforced, next_seq}
+use Rattle.apply_spec.specs.Checks.{declares_write, next_seq}
+use Rattle.apply_spec.specs.Enforced.{Enforced, enforced}
 
 -- the map so far, the extensions that are pending, and the results so far in the set's order
 pub record Running : Type 0 where
@@ -88,7 +89,12 @@ ended running = record running { entries = put_all_in running.entries running.pe
 abbrev pub run_stage : Header → Running → Stage → Running
 run_stage header running stage = ended (fold (run_next_cluster header) running stage.clusters)
 
+-- a component is a stage of one cluster
+abbrev pub component_stage : Component → Stage
+component_stage component = record { clusters = (record { envelopes = component.envelopes }) ∷ [] }
+
 abbrev pub stages_in : Phase → List Stage
+stages_in (Components components) = map component_stage components
 stages_in (Parallel base_fee stages) = stages
 
 abbrev pub stages_of : TxSet → List Stage

@@ -6,3 +6,6 @@ mod search;
 
 pub use map::EntryMap;
 pub use search::Slot;
+
+#[cfg(test)]
+mod tests;

@@ -1,6 +1,6 @@
 //! The entries of a ledger, found by their keys.
 
-ghost use Rattle.std.specs.Prelude.{◌≡◌, ◌↔◌, ◌≤◌, ◌+◌, ◌<◌, ◌^◌, [], ◌∷◌, ◌++◌, IsTrue, OnOk, OnErr, is_some, All};
+ghost use Rattle.std.specs.Prelude.{◌≡◌, ◌↔◌, ◌≤◌, ◌+◌, ◌<◌, ◌^◌, [], ◌∷◌, ◌++◌, IsTrue, OnOk, OnErr, is_some, max, All};
 ghost use Rattle.std.specs.Option.{option_copied};
 ghost use Rattle.std.specs.FinMap.{empty, entries, from_sorted, len};
 ghost use Rattle.ledger_types.specs.Key.{key_format};
@@ -38,6 +38,13 @@ impl Model for EntryMap {
     ghost view = { λ m. map_of m.slots.items };
 
     ghost invariant = { λ m. AreSlots m.slots.items };
+}
+
+/// The later of the last ledgers of two lives.
+fn later(one: u32, other: u32) -> u32
+    ensures { result ≡ max one other }
+{
+    one.max(other)
 }
 
 impl EntryMap {
@@ -96,7 +103,7 @@ impl EntryMap {
     {
         if let Some(place) = place_of(&self.slots, key) {
             let kept = &mut self.slots[place].kept;
-            kept.live_until = kept.live_until.max(live_until);
+            kept.live_until = later(kept.live_until, live_until);
         }
     }
 }

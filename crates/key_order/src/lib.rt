@@ -10,3 +10,6 @@ mod values;
 pub use feed::Feed;
 pub use keys::compare_key;
 pub use matcher::Matcher;
+
+#[cfg(test)]
+mod tests;

@@ -1,4 +1,6 @@
 pub mod Spelling
-pub mod Among
+pub mod Raising
+pub mod Waiting
+pub mod Written
 pub mod Effects
 pub mod On

@@ -1,36 +1,22 @@
 -- What stays known of what has become of transactions.
 use Rattle.std.specs.List.{AllByRecursion, flat_map}
-use Rattle.std.proofs.Common.{◌≡◌, ℕ, IsTrue, ◌+◌, ◌<◌, ◌≤◌, List, [], ◌∷◌, ◌++◌, length, get_or, take, fold, refl, sym, ap, subst, ◌∙◌, arith}
+use Rattle.std.proofs.Common.{◌≡◌, ℕ, ◌+◌, ◌<◌, ◌≤◌, List, [], ◌∷◌, ◌++◌, length, get_or, take, fold, sym, ap, subst, ◌∙◌, arith}
 use Rattle.std.proofs.lemmas.List.{take_more, append-nil}
 use Rattle.std.proofs.lemmas.Grind.{flat_map-append}
 use Rattle.std.proofs.Math.Seq.{take-length}
 use Rattle.std.proofs.lemmas.List.Sums.{fold-append}
-use Rattle.std.proofs.lemmas.List.Elements.{All-nil}
-use Rattle.ledger_types.specs.Key.{key_format}
 use Rattle.ledger_types.specs.declared.header.Header.{Header}
-use Rattle.ledger_spec.specs.LedgerFile.{are_settings, has_next}
-use Rattle.tx_xdr.specs.declared.results.TransactionResultPair.{TransactionResultPair}
-use Rattle.apply_spec.specs.declared.Extension.{Extension}
+use Rattle.tx_results.specs.declared.results.TransactionResultPair.{TransactionResultPair}
 use Rattle.ledger_apply.specs.declared.running.Running.{Running as State}
-use Rattle.ledger_apply.specs.State.{IsOn}
+use Rattle.ledger_apply.specs.declared.running.RunningCluster.{RunningCluster as ClusterState}
+use Rattle.ledger_apply.specs.State.{IsOn, IsOnInCluster}
 
--- on a header, and so on its own
-pub on_own : (header : Header) (state : State) → IsOn header state → IsOn state.ledger.header state
-on_own header state on = subst (λ (h : Header). IsOn h state) (sym on.headed) on
-
+-- on one header, and so on an equal one
 pub on_other : (header other : Header) (state : State) → header ≡ other → IsOn header state → IsOn other state
 on_other header other state e on = subst (λ (h : Header). IsOn h state) e on
 
--- nothing has become yet
-pub starts_on : (state : State) → IsTrue (are_settings state.ledger.header.settings) → IsTrue (has_next state.ledger.header) → state.pending.items ≡ [] → state.results.items ≡ [] → IsOn state.ledger.header state
-starts_on state settings next a b = record {
-  settings = settings;
-  next = next;
-  headed = refl;
-  keyed = rw a (All-nil (λ (e : Extension). key_format.fits e.key));
-  spelled = rw b tt;
-  few = rw b (omega arith);
-}
+pub on_other_in_cluster : (header other : Header) (state : ClusterState) → header ≡ other → IsOnInCluster header state → IsOnInCluster other state
+on_other_in_cluster header other state e on = subst (λ (h : Header). IsOnInCluster h state) e on
 
 pub recursion_append : (P : TransactionResultPair → Type 0) (xs ys : List TransactionResultPair) → AllByRecursion P xs → AllByRecursion P ys → AllByRecursion P (xs ++ ys)
 recursion_append P [] ys h k = k

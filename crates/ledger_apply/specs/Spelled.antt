@@ -1,12 +1,12 @@
--- Sets of transactions that have a hash.
+-- Sets of transactions that run today.
 use Rattle.std.specs.Prelude.{All}
-use Rattle.tx_xdr.specs.Limits.{whole}
+use Rattle.tx_xdr.specs.Limits.{today}
 use Rattle.tx_xdr.specs.Transaction.{transaction_format}
 use Rattle.tx_xdr.specs.declared.set.Cluster.{Cluster}
 use Rattle.tx_xdr.specs.declared.set.Stage.{Stage}
 
 abbrev pub IsCluster : Cluster → Type 0
-IsCluster cluster = All (λ envelope. (transaction_format whole).fits envelope.tx) cluster.envelopes
+IsCluster cluster = All (λ envelope. (transaction_format today).fits envelope.tx) cluster.envelopes
 
 abbrev pub IsStage : Stage → Type 0
 IsStage stage = All IsCluster stage.clusters

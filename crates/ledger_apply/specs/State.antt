@@ -1,22 +1,19 @@
 -- What the code holds, as what the meaning of a set speaks of.
-use Rattle.std.specs.Prelude.{◌≡◌, ◌<◌, ◌^◌, ℕ, Bool, IsTrue, List, All, length}
-use Rattle.std.specs.List.{list_any, AllByRecursion}
-use Rattle.std.specs.Str.{bytes_eq}
+use Rattle.std.specs.Prelude.{◌≡◌, ◌<◌, ◌^◌, IsTrue, All, length}
+use Rattle.std.specs.List.{AllByRecursion}
 use Rattle.ledger_types.specs.Key.{key_format}
 use Rattle.ledger_types.specs.declared.header.Header.{Header}
-use Rattle.ledger_spec.specs.LedgerMap.{key_bytes}
 use Rattle.ledger_spec.specs.LedgerFile.{are_settings, has_next}
-use Rattle.tx_xdr.specs.Results.{pair_format}
-use Rattle.apply_spec.specs.declared.Extension.{Extension}
+use Rattle.tx_results.specs.Results.{pair_format}
 use Rattle.apply_spec.specs.Runs.{Running}
 use Rattle.ledger_apply.specs.declared.running.Running.{Running as State}
+use Rattle.ledger_apply.specs.declared.running.RunningCluster.{RunningCluster as ClusterState}
 
 abbrev pub running_of : State → Running
 running_of state = record { entries = state.ledger.entries; pending = state.pending.items; results = state.results.items }
 
--- the key of an extension has one of these spellings
-abbrev pub is_among : List (List ℕ) → Extension → Bool
-is_among spellings extension = list_any (bytes_eq (key_bytes extension.key)) spellings
+abbrev pub running_in_cluster : ClusterState → Running
+running_in_cluster state = record { entries = state.ledger.entries; pending = state.pending; results = state.results.items }
 
 -- The ledger has this header, another ledger may follow it, what is pending has keys that are spelled, and the results
 -- have a spelling.
@@ -25,5 +22,13 @@ pub record IsOn (header : Header) (state : State) : Type 0 where
   pub next : IsTrue (has_next header)
   pub headed : state.ledger.header ≡ header
   pub keyed : All (λ e. key_format.fits e.key) state.pending.items
+  pub spelled : AllByRecursion pair_format.fits state.results.items
+  pub few : length state.results.items < 2 ^ 32
+
+-- the same within a cluster
+pub record IsOnInCluster (header : Header) (state : ClusterState) : Type 0 where
+  pub settings : IsTrue (are_settings header.settings)
+  pub next : IsTrue (has_next header)
+  pub headed : state.ledger.header ≡ header
   pub spelled : AllByRecursion pair_format.fits state.results.items
   pub few : length state.results.items < 2 ^ 32

@@ -2,14 +2,14 @@
 
 ghost use Rattle.std.specs.Prelude.{◌≡◌, [], All, IfOk, IsTrue};
 ghost use Rattle.ledger_spec.specs.LedgerFile.{are_settings, has_next};
-ghost use Rattle.tx_xdr.specs.Limits.{whole};
+ghost use Rattle.tx_xdr.specs.Limits.{today};
 ghost use Rattle.tx_xdr.specs.Transaction.{transaction_format};
 ghost use Rattle.apply_spec.specs.Runs.{run_cluster as run_cluster_in, run_next_cluster as run_next_cluster_in, run_stage as run_stage_in};
 ghost use Rattle.ledger_apply.specs.State.{running_of, IsOn};
 ghost use Rattle.ledger_apply.specs.Spelled.{IsCluster, IsStage};
 
-use crate::pending::put_all;
-use crate::running::{MOST_RESULTS, Running};
+use crate::pending::{Pending, put_all};
+use crate::running::{MOST_RESULTS, Running, RunningCluster};
 use crate::step::run_transaction;
 use ledger_file::Ledger;
 use std::alloc::Global;
@@ -24,16 +24,26 @@ pub fn run_cluster(alloc: Global, ledger: Ledger, cluster: &Cluster) -> Result<R
     ensures run { IfOk result (λ r. running_of r ≡ run_cluster_in ledger.header ledger.entries cluster.now) }
     ensures on { IfOk result (IsOn ledger.header) }
 {
-    let mut running = Running {
+    let mut running = RunningCluster {
         ledger,
-        pending: Vec::new(alloc),
+        pending: Pending::new(alloc),
         results: Vec::new(alloc),
     };
     let envelopes = cluster.envelopes.as_slice();
     for envelope in envelopes {
         running = run_transaction(alloc, running, envelope)?;
     }
-    Ok(running)
+    let RunningCluster {
+        ledger,
+        pending,
+        results,
+    } = running;
+    let pending = pending.into_vec(alloc)?;
+    Ok(Running {
+        ledger,
+        pending,
+        results,
+    })
 }
 
 /// Runs one more cluster of a stage.

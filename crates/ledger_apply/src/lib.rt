@@ -8,6 +8,10 @@ mod set;
 mod step;
 
 pub use cluster::run_cluster;
-pub use running::Running;
+pub use pending::Pending;
+pub use running::{Running, RunningCluster};
 pub use set::{Applied, apply_set};
 pub use step::run_transaction;
+
+#[cfg(test)]
+mod tests;

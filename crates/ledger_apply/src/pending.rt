@@ -1,20 +1,172 @@
-//! Extensions that are pending, and their putting in by maximum.
+//! Extensions that are pending in a cluster, and their putting in by maximum.
 
-ghost use Rattle.std.specs.Prelude.{◌≡◌, not, All, IfOk, filter};
-ghost use Rattle.std.specs.List.{list_any};
-ghost use Rattle.std.specs.Str.{bytes_eq};
+ghost use Rattle.std.specs.Prelude.{◌≡◌, ◌∷◌, ◌++◌, [], not, max, All, IfOk, OnOk, filter, if◌then◌else◌};
+ghost use Rattle.std.specs.Option.{option_map_or};
 ghost use Rattle.ledger_types.specs.Key.{key_format};
-ghost use Rattle.ledger_spec.specs.LedgerMap.{key_bytes};
+ghost use Rattle.apply_spec.specs.Checks.{is_key};
 ghost use Rattle.apply_spec.specs.Runs.{put_all_in};
-ghost use Rattle.tx_apply.specs.Twice.{bytes_of};
-ghost use Rattle.ledger_apply.specs.State.{is_among};
+ghost use Rattle.ledger_apply.specs.Pending.{is_awaited as is_awaited_in};
 
 use apply_spec::Extension;
 use entry_map::EntryMap;
-use key_order::compare_key;
 use ledger_types::LedgerKey;
 use std::alloc::Global;
+use std::collections::BTreeMap;
+use std::marker::Model;
+use value_xdr::encode;
 use xdr_core::NoMemory;
+
+/// What is pending of a key: the place in the row of all extensions from which on those of the key are pending, and the
+/// longest life among them.
+#[derive(Clone, Copy, Debug, PartialEq, Eq)]
+pub struct Awaited {
+    pub since: usize,
+    pub live_until: u32,
+}
+
+/// What is pending of a key after one more, which comes at the end of the row.
+fn awaited_with(before: Option<Awaited>, end: usize, live_until: u32) -> Awaited
+    ensures since { result.since ≡ option_map_or (λ a. a.since) before end }
+    ensures life { result.live_until ≡ option_map_or (λ a. max a.live_until live_until) before live_until }
+{
+    match before {
+        Some(awaited) => Awaited {
+            since: awaited.since,
+            live_until: awaited.live_until.max(live_until),
+        },
+        None => Awaited {
+            since: end,
+            live_until,
+        },
+    }
+}
+
+/// Whether the extension at a place of the row is still pending.
+fn is_awaited(awaited: Option<Awaited>, place: usize) -> bool
+    ensures { result ≡ is_awaited_in awaited place }
+{
+    match awaited {
+        Some(awaited) => awaited.since <= place,
+        None => false,
+    }
+}
+
+/// The extensions that are pending, in the order in which they came. To add one, or to put in those of a key, takes as
+/// many comparisons of keys as the number of keys has binary digits.
+///
+/// Contracts see it as the list.
+#[derive(Drop)]
+pub struct Pending {
+    /// All that came, those that were put in since included.
+    row: Vec<Extension>,
+    /// By a key's spelling. A key of which nothing is pending is not there.
+    by_key: BTreeMap<Vec<u8>, Awaited>,
+}
+
+impl Model for Pending {
+    ghost use Rattle.std.specs.Prelude.{List};
+    ghost use Rattle.std.specs.Coded.{coded_list};
+    ghost use Rattle.apply_spec.specs.contracts.Extension as extension;
+    ghost use Rattle.apply_spec.specs.declared.Extension.{Extension as ExtensionData};
+    ghost use Rattle.ledger_apply.specs.Pending.{awaiting, still_pending, IsAwaiting};
+
+    ghost Value = { List ExtensionData };
+
+    ghost coded = { coded_list extension.the_row.coded };
+
+    ghost view = { λ p. still_pending (awaiting p.by_key) 0 p.row.items };
+
+    ghost invariant = { λ p. IsAwaiting (awaiting p.by_key) p.row.items };
+}
+
+impl Pending {
+    pub fn new(alloc: Global) -> Pending
+        ensures { result ≡ [] }
+    {
+        Pending {
+            row: Vec::new(alloc),
+            by_key: BTreeMap::new(alloc),
+        }
+    }
+
+    /// One more.
+    pub fn with(self, alloc: Global, extension: Extension) -> Result<Pending, NoMemory>
+        requires { key_format.fits extension.key }
+        ensures { IfOk result (λ p. p ≡ self ++ extension ∷ []) }
+    {
+        let Pending {
+            mut row,
+            mut by_key,
+        } = self;
+        let key = encode(alloc, &extension.key)?;
+        let live_until = extension.live_until;
+        let before = by_key.get(key.as_slice()).copied();
+        by_key.insert(key, awaited_with(before, row.len(), live_until))?;
+        row.push(extension)?;
+        Ok(Pending { row, by_key })
+    }
+
+    /// More of them, in order.
+    pub fn with_all(self, alloc: Global, extensions: Vec<Extension>) -> Result<Pending, NoMemory>
+        requires { All (λ e. key_format.fits e.key) extensions.items }
+        ensures { IfOk result (λ p. p ≡ self ++ extensions.items) }
+    {
+        let mut pending = self;
+        for extension in extensions {
+            pending = pending.with(alloc, extension)?;
+        }
+        Ok(pending)
+    }
+
+    /// Puts in those of a key: what is there lives at least so long.
+    pub fn put_in(
+        &mut self,
+        alloc: Global,
+        entries: &mut EntryMap,
+        key: &LedgerKey,
+    ) -> Result<(), NoMemory>
+        requires { key_format.fits key.now }
+        ensures entries { OnOk result (entries.new ≡ put_all_in entries.old (filter (λ e. is_key e.key key.now) self.old)) }
+        ensures pending { OnOk result (self.new ≡ filter (λ e. not (is_key e.key key.now)) self.old) }
+    {
+        let bytes = encode(alloc, key)?;
+        if let Some(awaited) = self.by_key.remove(bytes.as_slice()) {
+            entries.raise(key, awaited.live_until);
+        }
+        Ok(())
+    }
+
+    /// Those that are pending, in order.
+    pub fn into_vec(self, alloc: Global) -> Result<Vec<Extension>, NoMemory>
+        ensures pending { IfOk result (λ v. v.items ≡ self) }
+        ensures spelled { IfOk result (λ v. All (λ e. key_format.fits e.key) v.items) }
+    {
+        let Pending { row, by_key } = self;
+        let mut pending = Vec::new(alloc);
+        let mut place = 0;
+        for extension in row {
+            let key = encode(alloc, &extension.key)?;
+            let awaited = is_awaited(by_key.get(key.as_slice()).copied(), place);
+            push_where(&mut pending, awaited, extension)?;
+            place += 1;
+        }
+        Ok(pending)
+    }
+}
+
+/// Adds an extension where it is awaited.
+fn push_where(
+    pending: &mut Vec<Extension>,
+    awaited: bool,
+    extension: Extension,
+) -> Result<(), NoMemory>
+    ensures { OnOk result (pending.new.items ≡ (if awaited then pending.old.items ++ extension ∷ [] else pending.old.items)) }
+{
+    if awaited {
+        pending.push(extension)?;
+    }
+    Ok(())
+}
 
 /// Puts extensions in: what is there lives at least so long.
 pub fn put_all(entries: &mut EntryMap, extensions: &[Extension])
@@ -24,46 +176,4 @@ pub fn put_all(entries: &mut EntryMap, extensions: &[Extension])
     for extension in extensions {
         entries.raise(&extension.key, extension.live_until);
     }
-}
-
-/// Whether a key's spelling is one of these.
-fn is_spelled(key: &LedgerKey, spellings: &[Vec<u8>]) -> bool
-    requires { key_format.fits key.now }
-    ensures { result ≡ list_any (bytes_eq (key_bytes key.now)) (bytes_of spellings.now) }
-{
-    for bytes in spellings {
-        if compare_key(key, bytes.as_slice()).is_eq() {
-            return true;
-        }
-    }
-    false
-}
-
-/// Extensions of keys with these spellings, and the others.
-#[derive(Drop)]
-pub struct Parted {
-    pub among: Vec<Extension>,
-    pub others: Vec<Extension>,
-}
-
-/// Parts extensions by whether their keys' spellings are among these.
-pub fn part(
-    alloc: Global,
-    extensions: Vec<Extension>,
-    spellings: &[Vec<u8>],
-) -> Result<Parted, NoMemory>
-    requires { All (λ e. key_format.fits e.key) extensions.items }
-    ensures among { IfOk result (λ p. p.among.items ≡ filter (is_among (bytes_of spellings.now)) extensions.items) }
-    ensures others { IfOk result (λ p. p.others.items ≡ filter (λ e. not (is_among (bytes_of spellings.now) e)) extensions.items) }
-{
-    let mut among = Vec::new(alloc);
-    let mut others = Vec::new(alloc);
-    for extension in extensions {
-        if is_spelled(&extension.key, spellings) {
-            among.push(extension)?;
-        } else {
-            others.push(extension)?;
-        }
-    }
-    Ok(Parted { among, others })
 }

@@ -3,8 +3,8 @@
 ghost use Rattle.std.specs.Prelude.{◌≡◌, [], All, IfOk, IsTrue, fold};
 ghost use Rattle.ledger_spec.specs.LedgerFile.{are_settings, has_next};
 ghost use Rattle.tx_xdr.specs.Limits.{today};
-ghost use Rattle.tx_xdr.specs.Set.{set_format};
-ghost use Rattle.tx_xdr.specs.Results.{result_set_format};
+ghost use Rattle.tx_xdr.specs.Set.{set_format, phase_format};
+ghost use Rattle.tx_results.specs.Results.{result_set_format};
 ghost use Rattle.apply_spec.specs.Runs.{run_stage as run_stage_in, run_set, new_header, stages_in};
 ghost use Rattle.ledger_apply.specs.State.{running_of, IsOn};
 ghost use Rattle.ledger_apply.specs.Spelled.{IsStage};
@@ -14,7 +14,8 @@ use crate::running::Running;
 use ledger_file::Ledger;
 use ledger_types::Header;
 use std::alloc::Global;
-use tx_xdr::{Phase, ResultSet, Stage, TxSet};
+use tx_results::ResultSet;
+use tx_xdr::{Phase, Stage, TxSet};
 use value_types::Items;
 use xdr_core::NoMemory;
 
@@ -25,12 +26,12 @@ pub struct Applied {
     pub results: ResultSet,
 }
 
+/// The stages of a phase that runs today, which are its own.
 fn stages_of(phase: &Phase) -> &[Stage]
+    requires { (phase_format today).fits phase.now }
     ensures { result.now ≡ stages_in phase.now }
 {
-    match phase {
-        Phase::Parallel { stages, .. } => stages.as_slice(),
-    }
+    phase.stages()
 }
 
 fn run_stages(alloc: Global, running: Running, stages: &[Stage]) -> Result<Running, NoMemory>

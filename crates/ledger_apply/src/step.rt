@@ -1,77 +1,86 @@
 //! One transaction in its cluster.
 
 ghost use Rattle.std.specs.Prelude.{◌≡◌, IfOk};
-ghost use Rattle.tx_xdr.specs.Limits.{whole};
+ghost use Rattle.tx_xdr.specs.Limits.{today};
 ghost use Rattle.tx_xdr.specs.Transaction.{transaction_format};
 ghost use Rattle.apply_spec.specs.Runs.{before, run_transaction as run_transaction_in};
-ghost use Rattle.ledger_apply.specs.State.{running_of, IsOn};
+ghost use Rattle.ledger_apply.specs.State.{running_in_cluster, IsOnInCluster};
 
-use crate::pending::{part, put_all};
-use crate::running::{MOST_RESULTS, Running};
+use crate::running::{MOST_RESULTS, RunningCluster};
 use ledger_file::Ledger;
 use std::alloc::Global;
-use tx_apply::{enforce, footprint_of, spell_keys};
-use tx_xdr::{Envelope, Transaction, TransactionResult, TransactionResultPair, tx_hash};
+use tx_apply::{enforce, read_write_of};
+use tx_results::{TransactionResult, TransactionResultPair};
+use tx_xdr::{Envelope, Transaction, tx_hash};
 use xdr_core::NoMemory;
 
 /// Puts in what is pending of the keys that a transaction declares read-write.
-fn put_written(alloc: Global, running: Running, tx: &Transaction) -> Result<Running, NoMemory>
-    requires fits { (transaction_format whole).fits tx.now }
-    requires on { IsOn running.ledger.header running }
-    ensures run { IfOk result (λ r. running_of r ≡ before tx.now (running_of running)) }
-    ensures on { IfOk result (IsOn running.ledger.header) }
+fn put_written(
+    alloc: Global,
+    running: RunningCluster,
+    tx: &Transaction,
+) -> Result<RunningCluster, NoMemory>
+    requires fits { (transaction_format today).fits tx.now }
+    requires on { IsOnInCluster running.ledger.header running }
+    ensures run { IfOk result (λ r. running_in_cluster r ≡ before tx.now (running_in_cluster running)) }
+    ensures on { IfOk result (IsOnInCluster running.ledger.header) }
 {
-    let Running {
+    let RunningCluster {
         ledger,
-        pending,
+        mut pending,
         results,
     } = running;
-    let mut spellings = Vec::new(alloc);
-    spell_keys(
-        alloc,
-        footprint_of(tx).read_write.as_slice(),
-        &mut spellings,
-    )?;
-    let parted = part(alloc, pending, &spellings)?;
     let Ledger {
         header,
         mut entries,
     } = ledger;
-    put_all(&mut entries, &parted.among);
-    Ok(Running {
+    let keys = read_write_of(tx);
+    for key in keys {
+        pending.put_in(alloc, &mut entries, key)?;
+    }
+    Ok(RunningCluster {
         ledger: Ledger { header, entries },
-        pending: parted.others,
+        pending,
         results,
     })
 }
 
 /// Runs a transaction on what its cluster has become: what it writes is put in before it, its extensions are pending
-/// after it, and its result comes last.
+/// after it, and its result comes last. Beside the transaction itself, this takes as many steps as it declares keys,
+/// each with as many comparisons as the number of pending keys has binary digits.
 pub fn run_transaction(
     alloc: Global,
-    running: Running,
+    running: RunningCluster,
     envelope: &Envelope,
-) -> Result<Running, NoMemory>
-    requires fits { (transaction_format whole).fits envelope.now.tx }
-    requires on { IsOn running.ledger.header running }
-    ensures run { IfOk result (λ r. running_of r ≡ run_transaction_in running.ledger.header (running_of running) envelope.now) }
-    ensures on { IfOk result (IsOn running.ledger.header) }
+) -> Result<RunningCluster, NoMemory>
+    requires fits { (transaction_format today).fits envelope.now.tx }
+    requires on { IsOnInCluster running.ledger.header running }
+    ensures run { IfOk result (λ r. running_in_cluster r ≡ run_transaction_in running.ledger.header (running_in_cluster running) envelope.now) }
+    ensures on { IfOk result (IsOnInCluster running.ledger.header) }
 {
     let tx = &envelope.tx;
-    let mut running = put_written(alloc, running, tx)?;
-    if running.results.as_slice().len() >= MOST_RESULTS {
+    let RunningCluster {
+        ledger,
+        pending,
+        mut results,
+    } = put_written(alloc, running, tx)?;
+    if results.as_slice().len() >= MOST_RESULTS {
         return Err(NoMemory);
     }
-    let header = running.ledger.header;
-    let done = enforce(alloc, &running.ledger, &header, tx)?;
+    let header = ledger.header;
+    let done = enforce(alloc, &ledger, &header, tx)?;
     let hash = tx_hash(alloc, &header.network_id, tx)?;
-    running.pending.append(&mut done.extensions.into_vec())?;
-    running.results.push(TransactionResultPair {
+    let pending = pending.with_all(alloc, done.extensions.into_vec())?;
+    results.push(TransactionResultPair {
         hash,
         result: TransactionResult {
             fee_charged: 0,
             outcome: done.outcome,
         },
     })?;
-    Ok(running)
+    Ok(RunningCluster {
+        ledger,
+        pending,
+        results,
+    })
 }

@@ -23,11 +23,11 @@ const HEADER: [u8; 244] = [
     0,
 ];
 
-const W0: &[u8] = &[0, 0, 0, 0];
+const WORD_0: &[u8] = &[0, 0, 0, 0];
 
-const W1: &[u8] = &[0, 0, 0, 1];
+const WORD_1: &[u8] = &[0, 0, 0, 1];
 
-const W2: &[u8] = &[0, 0, 0, 2];
+const WORD_2: &[u8] = &[0, 0, 0, 2];
 
 // The value 41 of the contract 07 07 .. at `ab`, live until ledger 5000.
 const DATA: [u8; 112] = [
@@ -87,7 +87,7 @@ fn life(ledger: &Ledger, alloc: Global, key: &[u8]) -> Result<Option<u32>, Fail>
 
 #[test]
 fn read_found_and_written(rt: HostRuntime) -> Result<(), Fail> {
-    let bytes = joined(rt.alloc(), &[&HEADER, W2, &DATA, &CODE])?;
+    let bytes = joined(rt.alloc(), &[&HEADER, WORD_2, &DATA, &CODE])?;
     let ledger = read_ledger(rt.alloc(), &bytes, true)?;
     assert_eq!(rt; ledger.header.seq, 100);
     assert_eq!(rt; life(&ledger, rt.alloc(), &KEY)?, Some(5000));
@@ -104,7 +104,7 @@ fn read_found_and_written(rt: HostRuntime) -> Result<(), Fail> {
     );
     let again = write_ledger(rt.alloc(), &ledger)?;
     assert_eq!(rt; again.as_slice(), bytes.as_slice());
-    let empty = joined(rt.alloc(), &[&HEADER, W0])?;
+    let empty = joined(rt.alloc(), &[&HEADER, WORD_0])?;
     let again = write_ledger(rt.alloc(), &read_ledger(rt.alloc(), &empty, true)?)?;
     assert_eq!(rt; again.as_slice(), empty.as_slice());
     Ok(())
@@ -113,15 +113,15 @@ fn read_found_and_written(rt: HostRuntime) -> Result<(), Fail> {
 #[test]
 fn refusals_of_records(rt: HostRuntime) -> Result<(), Fail> {
     let rows: [(&[&[u8]], LedgerWhy, u64); 5] = [
-        (&[&HEADER, W2, &DATA, &DATA], LedgerWhy::Order, 1),
-        (&[&HEADER, W2, &CODE, &DATA], LedgerWhy::Order, 1),
+        (&[&HEADER, WORD_2, &DATA, &DATA], LedgerWhy::Order, 1),
+        (&[&HEADER, WORD_2, &CODE, &DATA], LedgerWhy::Order, 1),
         (
-            &[&HEADER, W1, &DATA[..76], &CODE[88..]],
+            &[&HEADER, WORD_1, &DATA[..76], &CODE[88..]],
             LedgerWhy::TtlHash,
             0,
         ),
-        (&[&HEADER, W1, &OTHER_CODE], LedgerWhy::CodeHash, 0),
-        (&[&HEADER, W2, &DATA, &CODE[..100]], LedgerWhy::Xdr, 460),
+        (&[&HEADER, WORD_1, &OTHER_CODE], LedgerWhy::CodeHash, 0),
+        (&[&HEADER, WORD_2, &DATA, &CODE[..100]], LedgerWhy::Xdr, 460),
     ];
     for (parts, why, at) in rows {
         assert_eq!(rt; read(rt.alloc(), parts, true)?, refused(why, at));
@@ -135,7 +135,7 @@ fn changed(
     changes: &[(usize, u8)],
     follows: bool,
 ) -> Result<Option<LedgerErr>, Fail> {
-    let mut bytes = joined(alloc, &[&HEADER, W0])?;
+    let mut bytes = joined(alloc, &[&HEADER, WORD_0])?;
     for (place, byte) in changes {
         if let Some(old) = bytes.get_mut(*place) {
             *old = *byte;
@@ -171,13 +171,13 @@ fn refusals_of_headers(rt: HostRuntime) -> Result<(), Fail> {
 
 #[test]
 fn verdicts(rt: HostRuntime) -> Result<(), Fail> {
-    let bytes = joined(rt.alloc(), &[W1, &[1; 32], &[2; 32]])?;
+    let bytes = joined(rt.alloc(), &[WORD_1, &[1; 32], &[2; 32]])?;
     let verdicts = read_verdicts(rt.alloc(), &bytes)?;
     assert!(rt; verdicts.holds(&Hash([1; 32]), &Hash([2; 32])));
     let end = ReadXdr::Bad(XdrErr {
         at: 4,
         why: Why::End,
     });
-    assert_eq!(rt; read_verdicts(rt.alloc(), W1).err(), Some(end));
+    assert_eq!(rt; read_verdicts(rt.alloc(), WORD_1).err(), Some(end));
     Ok(())
 }

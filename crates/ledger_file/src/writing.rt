@@ -1,7 +1,8 @@
 //! Ledgers written as bytes.
 
-ghost use Rattle.std.specs.Prelude.{◌≡◌, ◌++◌, All, OnOk, IfOk};
+ghost use Rattle.std.specs.Prelude.{◌≡◌, ◌++◌, All, OnOk, OnErr, IfOk};
 ghost use Rattle.std.specs.List.{flat_map};
+ghost use Rattle.xdr_core.specs.Writes.{StartsWith};
 ghost use Rattle.ledger_types.specs.Header.{header_format};
 ghost use Rattle.ledger_types.specs.Record.{record_format};
 ghost use Rattle.ledger_spec.specs.LedgerMap.{IsKeptAt};
@@ -21,7 +22,8 @@ use xdr_core::{NoMemory, Out};
 #[tactic(auto, unfolding(ledger_types::specs::Record::record_format))]
 fn write_record(slot: &Slot, out: &mut Out) -> Result<(), NoMemory>
     requires { IsKeptAt slot.now.key slot.now.kept }
-    ensures { OnOk result (out.new ≡ out.old ++ record_format.spell (record_of slot.now.kept)) }
+    ensures ok { OnOk result (out.new ≡ out.old ++ record_format.spell (record_of slot.now.kept)) }
+    ensures err { OnErr result (StartsWith out.new out.old) }
 {
     slot.kept.entry.write(out)?;
     let ttl = TtlEntry {
@@ -34,7 +36,8 @@ fn write_record(slot: &Slot, out: &mut Out) -> Result<(), NoMemory>
 /// Writes the records of entries.
 fn write_records(slots: &[Slot], out: &mut Out) -> Result<(), NoMemory>
     requires { All (λ e. IsKeptAt e.0 e.1) (pairs_of slots.now) }
-    ensures { OnOk result (out.new ≡ out.old ++ flat_map (λ slot. record_format.spell (record_of slot.kept)) slots.now) }
+    ensures ok { OnOk result (out.new ≡ out.old ++ flat_map (λ slot. record_format.spell (record_of slot.kept)) slots.now) }
+    ensures err { OnErr result (StartsWith out.new out.old) }
 {
     for slot in slots {
         write_record(slot, out)?;

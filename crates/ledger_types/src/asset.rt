@@ -30,13 +30,13 @@ impl Copy for AssetCode4 {}
 impl Xdr for AssetCode4 {
     ghost format = { code4_format };
 
-    fn read(_alloc: Global, input: &mut Cursor<'_>) -> Result<AssetCode4, ReadXdr> {
+    fn read_parts(_alloc: Global, input: &mut Cursor<'_>) -> Result<AssetCode4, ReadXdr> {
         let mut bytes = [0u8; 4];
         bytes.copy_from_slice(input.fixed(4)?);
         Ok(AssetCode4(bytes))
     }
 
-    fn write(&self, out: &mut Out) -> Result<(), NoMemory> {
+    fn write_parts(&self, out: &mut Out) -> Result<(), NoMemory> {
         out.put_fixed(&self.0)
     }
 
@@ -67,13 +67,13 @@ impl Copy for AssetCode12 {}
 impl Xdr for AssetCode12 {
     ghost format = { code12_format };
 
-    fn read(_alloc: Global, input: &mut Cursor<'_>) -> Result<AssetCode12, ReadXdr> {
+    fn read_parts(_alloc: Global, input: &mut Cursor<'_>) -> Result<AssetCode12, ReadXdr> {
         let mut bytes = [0u8; 12];
         bytes.copy_from_slice(input.fixed(12)?);
         Ok(AssetCode12(bytes))
     }
 
-    fn write(&self, out: &mut Out) -> Result<(), NoMemory> {
+    fn write_parts(&self, out: &mut Out) -> Result<(), NoMemory> {
         out.put_fixed(&self.0)
     }
 
@@ -122,7 +122,7 @@ impl AssetType {
 impl Xdr for AssetType {
     ghost format = { type_format };
 
-    fn read(_alloc: Global, input: &mut Cursor<'_>) -> Result<AssetType, ReadXdr> {
+    fn read_parts(_alloc: Global, input: &mut Cursor<'_>) -> Result<AssetType, ReadXdr> {
         let place = input.place();
         let number = input.u32()?;
         AssetType::from_number(number).ok_or(ReadXdr::Bad(XdrErr {
@@ -131,7 +131,7 @@ impl Xdr for AssetType {
         }))
     }
 
-    fn write(&self, out: &mut Out) -> Result<(), NoMemory> {
+    fn write_parts(&self, out: &mut Out) -> Result<(), NoMemory> {
         out.put_u32(self.number())
     }
 
@@ -213,12 +213,12 @@ fn read_arm(
 impl Xdr for TrustLineAsset {
     ghost format = { asset_format };
 
-    fn read(alloc: Global, input: &mut Cursor<'_>) -> Result<TrustLineAsset, ReadXdr> {
+    fn read_parts(alloc: Global, input: &mut Cursor<'_>) -> Result<TrustLineAsset, ReadXdr> {
         let kind = AssetType::read(alloc, input)?;
         read_arm(alloc, input, kind)
     }
 
-    fn write(&self, out: &mut Out) -> Result<(), NoMemory> {
+    fn write_parts(&self, out: &mut Out) -> Result<(), NoMemory> {
         self.kind().write(out)?;
         match self {
             TrustLineAsset::Native => Ok(()),

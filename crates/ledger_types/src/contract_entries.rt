@@ -43,7 +43,7 @@ impl Clone for ContractDataEntry {
 impl Xdr for ContractDataEntry {
     ghost format = { data_format };
 
-    fn read(alloc: Global, input: &mut Cursor<'_>) -> Result<ContractDataEntry, ReadXdr> {
+    fn read_parts(alloc: Global, input: &mut Cursor<'_>) -> Result<ContractDataEntry, ReadXdr> {
         read_head(input, NO_EXTENSION)?;
         let contract = ScAddress::read(alloc, input)?;
         let key = ScVal::read(alloc, input)?;
@@ -57,7 +57,7 @@ impl Xdr for ContractDataEntry {
         })
     }
 
-    fn write(&self, out: &mut Out) -> Result<(), NoMemory> {
+    fn write_parts(&self, out: &mut Out) -> Result<(), NoMemory> {
         out.put_u32(NO_EXTENSION)?;
         self.contract.write(out)?;
         self.key.write(out)?;
@@ -99,14 +99,14 @@ impl Clone for ContractCodeEntry {
 impl Xdr for ContractCodeEntry {
     ghost format = { code_format };
 
-    fn read(alloc: Global, input: &mut Cursor<'_>) -> Result<ContractCodeEntry, ReadXdr> {
+    fn read_parts(alloc: Global, input: &mut Cursor<'_>) -> Result<ContractCodeEntry, ReadXdr> {
         read_head(input, NO_EXTENSION)?;
         let hash = Hash::read(alloc, input)?;
         let code = read_blob(alloc, input, u32::MAX)?;
         Ok(ContractCodeEntry { hash, code })
     }
 
-    fn write(&self, out: &mut Out) -> Result<(), NoMemory> {
+    fn write_parts(&self, out: &mut Out) -> Result<(), NoMemory> {
         out.put_u32(NO_EXTENSION)?;
         self.hash.write(out)?;
         write_blob(&self.code, out)

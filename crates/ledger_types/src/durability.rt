@@ -41,7 +41,7 @@ impl Durability {
 impl Xdr for Durability {
     ghost format = { durability_format };
 
-    fn read(_alloc: Global, input: &mut Cursor<'_>) -> Result<Durability, ReadXdr> {
+    fn read_parts(_alloc: Global, input: &mut Cursor<'_>) -> Result<Durability, ReadXdr> {
         let place = input.place();
         let number = input.u32()?;
         Durability::from_number(number).ok_or(ReadXdr::Bad(XdrErr {
@@ -50,7 +50,7 @@ impl Xdr for Durability {
         }))
     }
 
-    fn write(&self, out: &mut Out) -> Result<(), NoMemory> {
+    fn write_parts(&self, out: &mut Out) -> Result<(), NoMemory> {
         out.put_u32(self.number())
     }
 

@@ -41,7 +41,7 @@ impl ContractEntryType {
 impl Xdr for ContractEntryType {
     ghost format = { type_format };
 
-    fn read(_alloc: Global, input: &mut Cursor<'_>) -> Result<ContractEntryType, ReadXdr> {
+    fn read_parts(_alloc: Global, input: &mut Cursor<'_>) -> Result<ContractEntryType, ReadXdr> {
         let place = input.place();
         let number = input.u32()?;
         ContractEntryType::from_number(number).ok_or(ReadXdr::Bad(XdrErr {
@@ -50,7 +50,7 @@ impl Xdr for ContractEntryType {
         }))
     }
 
-    fn write(&self, out: &mut Out) -> Result<(), NoMemory> {
+    fn write_parts(&self, out: &mut Out) -> Result<(), NoMemory> {
         out.put_u32(self.number())
     }
 
@@ -117,12 +117,12 @@ fn read_arm(
 impl Xdr for LedgerEntryData {
     ghost format = { body_format };
 
-    fn read(alloc: Global, input: &mut Cursor<'_>) -> Result<LedgerEntryData, ReadXdr> {
+    fn read_parts(alloc: Global, input: &mut Cursor<'_>) -> Result<LedgerEntryData, ReadXdr> {
         let kind = ContractEntryType::read(alloc, input)?;
         read_arm(alloc, input, kind)
     }
 
-    fn write(&self, out: &mut Out) -> Result<(), NoMemory> {
+    fn write_parts(&self, out: &mut Out) -> Result<(), NoMemory> {
         self.kind().write(out)?;
         match self {
             LedgerEntryData::ContractData(entry) => entry.write(out),
@@ -165,7 +165,7 @@ impl Clone for LedgerEntry {
 impl Xdr for LedgerEntry {
     ghost format = { entry_format };
 
-    fn read(alloc: Global, input: &mut Cursor<'_>) -> Result<LedgerEntry, ReadXdr> {
+    fn read_parts(alloc: Global, input: &mut Cursor<'_>) -> Result<LedgerEntry, ReadXdr> {
         let last_modified_ledger_seq = u32::read(alloc, input)?;
         let data = LedgerEntryData::read(alloc, input)?;
         read_head(input, NO_EXTENSION)?;
@@ -175,7 +175,7 @@ impl Xdr for LedgerEntry {
         })
     }
 
-    fn write(&self, out: &mut Out) -> Result<(), NoMemory> {
+    fn write_parts(&self, out: &mut Out) -> Result<(), NoMemory> {
         self.last_modified_ledger_seq.write(out)?;
         self.data.write(out)?;
         out.put_u32(NO_EXTENSION)

@@ -60,7 +60,7 @@ impl LedgerEntryType {
 impl Xdr for LedgerEntryType {
     ghost format = { type_format };
 
-    fn read(_alloc: Global, input: &mut Cursor<'_>) -> Result<LedgerEntryType, ReadXdr> {
+    fn read_parts(_alloc: Global, input: &mut Cursor<'_>) -> Result<LedgerEntryType, ReadXdr> {
         let place = input.place();
         let number = input.u32()?;
         LedgerEntryType::from_number(number).ok_or(ReadXdr::Bad(XdrErr {
@@ -69,7 +69,7 @@ impl Xdr for LedgerEntryType {
         }))
     }
 
-    fn write(&self, out: &mut Out) -> Result<(), NoMemory> {
+    fn write_parts(&self, out: &mut Out) -> Result<(), NoMemory> {
         out.put_u32(self.number())
     }
 

@@ -26,14 +26,14 @@ pub struct LedgerFile {
 impl Xdr for LedgerFile {
     ghost format = { file_format };
 
-    fn read(alloc: Global, input: &mut Cursor<'_>) -> Result<LedgerFile, ReadXdr> {
+    fn read_parts(alloc: Global, input: &mut Cursor<'_>) -> Result<LedgerFile, ReadXdr> {
         read_head(input, LEDGER_FILE_VERSION)?;
         let header = Header::read(alloc, input)?;
         let records = Items::<LedgerRecord, 4294967295>::read(alloc, input)?;
         Ok(LedgerFile { header, records })
     }
 
-    fn write(&self, out: &mut Out) -> Result<(), NoMemory> {
+    fn write_parts(&self, out: &mut Out) -> Result<(), NoMemory> {
         out.put_u32(LEDGER_FILE_VERSION)?;
         self.header.write(out)?;
         self.records.write(out)

@@ -41,7 +41,7 @@ impl Copy for Settings {}
 impl Xdr for Settings {
     ghost format = { settings_format };
 
-    fn read(alloc: Global, input: &mut Cursor<'_>) -> Result<Settings, ReadXdr> {
+    fn read_parts(alloc: Global, input: &mut Cursor<'_>) -> Result<Settings, ReadXdr> {
         let min_temporary_ttl = u32::read(alloc, input)?;
         let min_persistent_ttl = u32::read(alloc, input)?;
         let max_entry_ttl = u32::read(alloc, input)?;
@@ -56,7 +56,7 @@ impl Xdr for Settings {
         })
     }
 
-    fn write(&self, out: &mut Out) -> Result<(), NoMemory> {
+    fn write_parts(&self, out: &mut Out) -> Result<(), NoMemory> {
         self.min_temporary_ttl.write(out)?;
         self.min_persistent_ttl.write(out)?;
         self.max_entry_ttl.write(out)?;
@@ -99,7 +99,7 @@ impl Copy for Header {}
 impl Xdr for Header {
     ghost format = { header_format };
 
-    fn read(alloc: Global, input: &mut Cursor<'_>) -> Result<Header, ReadXdr> {
+    fn read_parts(alloc: Global, input: &mut Cursor<'_>) -> Result<Header, ReadXdr> {
         let network_id = Hash::read(alloc, input)?;
         let seq = u32::read(alloc, input)?;
         let close_time = u64::read(alloc, input)?;
@@ -112,7 +112,7 @@ impl Xdr for Header {
         })
     }
 
-    fn write(&self, out: &mut Out) -> Result<(), NoMemory> {
+    fn write_parts(&self, out: &mut Out) -> Result<(), NoMemory> {
         self.network_id.write(out)?;
         self.seq.write(out)?;
         self.close_time.write(out)?;

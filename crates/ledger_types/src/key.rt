@@ -180,12 +180,12 @@ fn read_arm(
 impl Xdr for LedgerKey {
     ghost format = { key_format };
 
-    fn read(alloc: Global, input: &mut Cursor<'_>) -> Result<LedgerKey, ReadXdr> {
+    fn read_parts(alloc: Global, input: &mut Cursor<'_>) -> Result<LedgerKey, ReadXdr> {
         let kind = LedgerEntryType::read(alloc, input)?;
         read_arm(alloc, input, kind)
     }
 
-    fn write(&self, out: &mut Out) -> Result<(), NoMemory> {
+    fn write_parts(&self, out: &mut Out) -> Result<(), NoMemory> {
         self.kind().write(out)?;
         match self {
             LedgerKey::Account(account) => account.write(out),

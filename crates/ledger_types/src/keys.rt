@@ -1,7 +1,8 @@
 //! The key of an entry, and the hash of a key.
 
-ghost use Rattle.std.specs.Prelude.{◌≡◌, ◌++◌, OnOk, IfOk};
+ghost use Rattle.std.specs.Prelude.{◌≡◌, ◌++◌, OnOk, OnErr, IfOk};
 ghost use Rattle.sha2.specs.Sha256.{sha256};
+ghost use Rattle.xdr_core.specs.Writes.{StartsWith};
 ghost use Rattle.ledger_types.specs.Key.{key_format};
 ghost use Rattle.ledger_types.specs.Entry.{entry_format, key_of as key_of_entry};
 
@@ -34,7 +35,8 @@ pub fn key_of(entry: &LedgerEntry) -> Result<LedgerKey, AllocError>
 #[tactic(auto, unfolding(crate::specs::Key::key_format, crate::specs::EntryType::type_format, crate::specs::Entry::entry_format, crate::specs::Entry::body_format, crate::specs::ContractEntries::data_format, crate::specs::ContractEntries::code_format))]
 pub fn write_key_of(entry: &LedgerEntry, out: &mut Out) -> Result<(), NoMemory>
     requires { entry_format.fits entry.now }
-    ensures { OnOk result (out.new ≡ out.old ++ key_format.spell (key_of_entry entry.now)) }
+    ensures ok { OnOk result (out.new ≡ out.old ++ key_format.spell (key_of_entry entry.now)) }
+    ensures err { OnErr result (StartsWith out.new out.old) }
 {
     match &entry.data {
         LedgerEntryData::ContractData(entry) => {

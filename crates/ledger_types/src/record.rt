@@ -36,7 +36,7 @@ impl Copy for TtlEntry {}
 impl Xdr for TtlEntry {
     ghost format = { ttl_format };
 
-    fn read(alloc: Global, input: &mut Cursor<'_>) -> Result<TtlEntry, ReadXdr> {
+    fn read_parts(alloc: Global, input: &mut Cursor<'_>) -> Result<TtlEntry, ReadXdr> {
         let key_hash = Hash::read(alloc, input)?;
         let live_until_ledger_seq = u32::read(alloc, input)?;
         Ok(TtlEntry {
@@ -45,7 +45,7 @@ impl Xdr for TtlEntry {
         })
     }
 
-    fn write(&self, out: &mut Out) -> Result<(), NoMemory> {
+    fn write_parts(&self, out: &mut Out) -> Result<(), NoMemory> {
         self.key_hash.write(out)?;
         self.live_until_ledger_seq.write(out)
     }
@@ -80,13 +80,13 @@ impl Clone for LedgerRecord {
 impl Xdr for LedgerRecord {
     ghost format = { record_format };
 
-    fn read(alloc: Global, input: &mut Cursor<'_>) -> Result<LedgerRecord, ReadXdr> {
+    fn read_parts(alloc: Global, input: &mut Cursor<'_>) -> Result<LedgerRecord, ReadXdr> {
         let entry = LedgerEntry::read(alloc, input)?;
         let ttl = TtlEntry::read(alloc, input)?;
         Ok(LedgerRecord { entry, ttl })
     }
 
-    fn write(&self, out: &mut Out) -> Result<(), NoMemory> {
+    fn write_parts(&self, out: &mut Out) -> Result<(), NoMemory> {
         self.entry.write(out)?;
         self.ttl.write(out)
     }

@@ -1,7 +1,8 @@
 //! The spelling of what each kind of cost costs.
 
-ghost use Rattle.std.specs.Prelude.{◌≡◌, ◌++◌, OnOk};
+ghost use Rattle.std.specs.Prelude.{◌≡◌, ◌++◌, OnOk, OnErr};
 ghost use Rattle.xdr_core.specs.Reads.{Reads};
+ghost use Rattle.xdr_core.specs.Writes.{StartsWith};
 ghost use Rattle.ledger_types.specs.Terms.{row_format, terms_format};
 
 use budget_meter::{KindTerms, LinearCost, Terms};
@@ -30,14 +31,28 @@ fn read_row(alloc: Global, input: &mut Cursor<'_>) -> Result<KindTerms, ReadXdr>
 }
 
 #[tactic(auto, unfolding(crate::specs::Terms::row_format))]
-fn write_row(terms: KindTerms, out: &mut Out) -> Result<(), NoMemory>
+fn write_row_parts(terms: KindTerms, out: &mut Out) -> Result<(), NoMemory>
     requires { row_format.fits terms }
-    ensures { OnOk result (out.new ≡ out.old ++ row_format.spell terms) }
+    ensures ok { OnOk result (out.new ≡ out.old ++ row_format.spell terms) }
+    ensures err { OnErr result (StartsWith out.new out.old) }
 {
     terms.instructions.constant.write(out)?;
     terms.instructions.linear.write(out)?;
     terms.memory.constant.write(out)?;
     terms.memory.linear.write(out)
+}
+
+fn write_row(terms: KindTerms, out: &mut Out) -> Result<(), NoMemory>
+    requires { row_format.fits terms }
+    ensures ok { OnOk result (out.new ≡ out.old ++ row_format.spell terms) }
+    ensures err { OnErr result (out.new ≡ out.old) }
+{
+    let start = out.len();
+    let result = write_row_parts(terms, out);
+    if result.is_err() {
+        out.cut_back(start);
+    }
+    result
 }
 
 /// Reads the rows of all kinds, in the order of their numbers.
@@ -64,7 +79,8 @@ pub fn read_terms(alloc: Global, input: &mut Cursor<'_>) -> Result<Terms, ReadXd
 #[tactic(auto, unfolding(crate::specs::Terms::terms_format))]
 pub fn write_terms(terms: &Terms, out: &mut Out) -> Result<(), NoMemory>
     requires { terms_format.fits terms.now }
-    ensures { OnOk result (out.new ≡ out.old ++ terms_format.spell terms.now) }
+    ensures ok { OnOk result (out.new ≡ out.old ++ terms_format.spell terms.now) }
+    ensures err { OnErr result (StartsWith out.new out.old) }
 {
     write_row(terms.wasm_insn_exec, out)?;
     write_row(terms.mem_alloc, out)?;

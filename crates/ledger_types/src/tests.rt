@@ -7,23 +7,23 @@ use value_types::Hash;
 use value_xdr::{Xdr, decode, encode};
 use xdr_core::{ReadXdr, Why, XdrErr};
 
-const W0: &[u8] = &[0, 0, 0, 0];
+const WORD_0: &[u8] = &[0, 0, 0, 0];
 
-const W1: &[u8] = &[0, 0, 0, 1];
+const WORD_1: &[u8] = &[0, 0, 0, 1];
 
-const W2: &[u8] = &[0, 0, 0, 2];
+const WORD_2: &[u8] = &[0, 0, 0, 2];
 
-const W3: &[u8] = &[0, 0, 0, 3];
+const WORD_3: &[u8] = &[0, 0, 0, 3];
 
-const W4: &[u8] = &[0, 0, 0, 4];
+const WORD_4: &[u8] = &[0, 0, 0, 4];
 
-const W5: &[u8] = &[0, 0, 0, 5];
+const WORD_5: &[u8] = &[0, 0, 0, 5];
 
-const W6: &[u8] = &[0, 0, 0, 6];
+const WORD_6: &[u8] = &[0, 0, 0, 6];
 
-const W7: &[u8] = &[0, 0, 0, 7];
+const WORD_7: &[u8] = &[0, 0, 0, 7];
 
-const W9: &[u8] = &[0, 0, 0, 9];
+const WORD_9: &[u8] = &[0, 0, 0, 9];
 
 const INSTANCE: &[u8] = &[0, 0, 0, 20];
 
@@ -50,23 +50,23 @@ fn spell_key(alloc: Global, parts: &[&[u8]]) -> Result<bool, Fail> {
 #[test]
 fn keys(rt: HostRuntime) -> Result<(), Fail> {
     let rows: [&[&[u8]]; 12] = [
-        &[W0, W0, ID],
-        &[W1, W0, ID, W0],
-        &[W1, W0, ID, W1, b"USDC", W0, ID],
-        &[W1, W0, ID, W2, b"USDCandSoOn.", W0, ID],
-        &[W1, W0, ID, W3, ID],
-        &[W2, W0, ID, W9, W7],
-        &[W3, W0, ID, W2, b"ab\0\0"],
-        &[W4, W0, ID],
-        &[W5, ID],
-        &[W6, W1, ID, INSTANCE, W1],
-        &[W7, ID],
-        &[W9, ID],
+        &[WORD_0, WORD_0, ID],
+        &[WORD_1, WORD_0, ID, WORD_0],
+        &[WORD_1, WORD_0, ID, WORD_1, b"USDC", WORD_0, ID],
+        &[WORD_1, WORD_0, ID, WORD_2, b"USDCandSoOn.", WORD_0, ID],
+        &[WORD_1, WORD_0, ID, WORD_3, ID],
+        &[WORD_2, WORD_0, ID, WORD_9, WORD_7],
+        &[WORD_3, WORD_0, ID, WORD_2, b"ab\0\0"],
+        &[WORD_4, WORD_0, ID],
+        &[WORD_5, ID],
+        &[WORD_6, WORD_1, ID, INSTANCE, WORD_1],
+        &[WORD_7, ID],
+        &[WORD_9, ID],
     ];
     for parts in rows {
         assert!(rt; spell_key(rt.alloc(), parts)?);
     }
-    let bytes = joined(rt.alloc(), &[W7, ID])?;
+    let bytes = joined(rt.alloc(), &[WORD_7, ID])?;
     let hash = key_hash(rt.alloc(), &decode::<LedgerKey>(rt.alloc(), &bytes)?)?;
     assert_eq!(rt; hash.0[0], 117);
     assert_eq!(rt; hash.0[31], 16);
@@ -89,51 +89,60 @@ fn at(at: u64, why: Why) -> Option<XdrErr> {
 fn refusals(rt: HostRuntime) -> Result<(), Fail> {
     let rows: [(&[&[u8]], u64, Why); 4] = [
         (&[&[0, 0, 0, 8]], 0, Why::Tag),
-        (&[W4, W1, ID], 4, Why::Tag),
-        (&[W3, W0, ID, &[0, 0, 0, 65]], 40, Why::Limit),
-        (&[W6, W1, ID, INSTANCE, W2], 44, Why::Tag),
+        (&[WORD_4, WORD_1, ID], 4, Why::Tag),
+        (&[WORD_3, WORD_0, ID, &[0, 0, 0, 65]], 40, Why::Limit),
+        (&[WORD_6, WORD_1, ID, INSTANCE, WORD_2], 44, Why::Tag),
     ];
     for (parts, place, why) in rows {
         assert_eq!(rt; refusal::<LedgerKey>(rt.alloc(), parts)?, at(place, why));
     }
     assert_eq!(rt;
-        refusal::<LedgerEntry>(rt.alloc(), &[W0, W5])?,
+        refusal::<LedgerEntry>(rt.alloc(), &[WORD_0, WORD_5])?,
         at(4, Why::Tag)
     );
-    assert_eq!(rt; refusal::<LedgerFile>(rt.alloc(), &[W2])?, at(0, Why::Tag));
+    assert_eq!(rt;
+        refusal::<LedgerFile>(rt.alloc(), &[WORD_2])?,
+        at(0, Why::Tag)
+    );
     Ok(())
 }
 
 // A data entry with the key `ab` and the value 41, written in ledger 50.
 const DATA_ENTRY: [&[u8]; 11] = [
     &[0, 0, 0, 50],
-    W6,
-    W0,
-    W1,
+    WORD_6,
+    WORD_0,
+    WORD_1,
     ID,
     SYMBOL,
-    W2,
+    WORD_2,
     b"ab\0\0",
-    W1,
-    W3,
+    WORD_1,
+    WORD_3,
     &[0, 0, 0, 41],
 ];
 
 #[test]
 fn entries(rt: HostRuntime) -> Result<(), Fail> {
     let mut bytes = joined(rt.alloc(), &DATA_ENTRY)?;
-    bytes.extend_from_slice(W0)?;
+    bytes.extend_from_slice(WORD_0)?;
     let entry = decode::<LedgerEntry>(rt.alloc(), &bytes)?;
     assert_eq!(rt; entry.size(), 76);
     let key = encode(rt.alloc(), &key_of(&entry)?)?;
-    let wanted = joined(rt.alloc(), &[W6, W1, ID, SYMBOL, W2, b"ab\0\0", W1])?;
+    let wanted = joined(
+        rt.alloc(),
+        &[WORD_6, WORD_1, ID, SYMBOL, WORD_2, b"ab\0\0", WORD_1],
+    )?;
     assert_eq!(rt; key.as_slice(), wanted.as_slice());
     Ok(())
 }
 
 #[test]
 fn verdicts(rt: HostRuntime) -> Result<(), Fail> {
-    let bytes = joined(rt.alloc(), &[W2, &[1; 32], &[2; 32], &[3; 32], &[4; 32]])?;
+    let bytes = joined(
+        rt.alloc(),
+        &[WORD_2, &[1; 32], &[2; 32], &[3; 32], &[4; 32]],
+    )?;
     let verdicts = decode::<Verdicts>(rt.alloc(), &bytes)?;
     assert!(rt; verdicts.holds(&Hash([3; 32]), &Hash([4; 32])));
     assert!(rt; !verdicts.holds(&Hash([1; 32]), &Hash([4; 32])));

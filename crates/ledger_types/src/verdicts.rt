@@ -33,13 +33,13 @@ impl Copy for Verdict {}
 impl Xdr for Verdict {
     ghost format = { verdict_format };
 
-    fn read(alloc: Global, input: &mut Cursor<'_>) -> Result<Verdict, ReadXdr> {
+    fn read_parts(alloc: Global, input: &mut Cursor<'_>) -> Result<Verdict, ReadXdr> {
         let key = Hash::read(alloc, input)?;
         let payload = Hash::read(alloc, input)?;
         Ok(Verdict { key, payload })
     }
 
-    fn write(&self, out: &mut Out) -> Result<(), NoMemory> {
+    fn write_parts(&self, out: &mut Out) -> Result<(), NoMemory> {
         self.key.write(out)?;
         self.payload.write(out)
     }
@@ -75,12 +75,12 @@ impl Verdicts {
 impl Xdr for Verdicts {
     ghost format = { verdicts_format };
 
-    fn read(alloc: Global, input: &mut Cursor<'_>) -> Result<Verdicts, ReadXdr> {
+    fn read_parts(alloc: Global, input: &mut Cursor<'_>) -> Result<Verdicts, ReadXdr> {
         let pairs = Items::<Verdict, 4294967295>::read(alloc, input)?;
         Ok(Verdicts { pairs })
     }
 
-    fn write(&self, out: &mut Out) -> Result<(), NoMemory> {
+    fn write_parts(&self, out: &mut Out) -> Result<(), NoMemory> {
         self.pairs.write(out)
     }
 

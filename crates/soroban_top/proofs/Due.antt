@@ -2,6 +2,7 @@
 use Rattle.std.proofs.Common.{◌≡◌, ◌↔◌, ℕ, ◌^◌, List, length, Bool, true, false, Option, Some, None, Result, Ok, Err, refl}
 use Rattle.std.specs.Prelude.{nat_lt, if◌then◌else◌}
 use Rattle.std.specs.FinMap.{get}
+use Rattle.base64_text.specs.Text.{bytes_in}
 use Rattle.ledger_types.specs.Verdicts.{verdicts_format, verdicts_lawful}
 use Rattle.ledger_types.specs.declared.verdicts.Verdicts.{Verdicts}
 use Rattle.tx_xdr.specs.Limits.{today}
@@ -13,7 +14,7 @@ use Rattle.xdr_spec.specs.Refusal.{Spells, Refuses}
 use Rattle.xdr_spec.specs.declared.Why.{Why}
 use Rattle.xdr_spec.specs.declared.XdrErr.{XdrErr}
 use Rattle.xdr_spec.proofs.Decoding.{decoded_refuses, decoded_spells, spells_decoded}
-use Rattle.soroban_top.specs.Judged.{as_set, as_verdicts, bytes_of, set_in, verdicts_in}
+use Rattle.soroban_top.specs.Judged.{as_bytes, as_verdicts, bytes_of, set_in, set_opened, verdicts_in}
 use Rattle.soroban_top.specs.Laws.{DoneLaw, MalformedLaw, VerdictsLaw}
 use Rattle.soroban_top.specs.Outcome.{applied, outputs_of}
 use Rattle.soroban_top.specs.Product.{file}
@@ -21,60 +22,44 @@ use Rattle.soroban_top.specs.Steps.{◌>>=◌, status_of}
 use Rattle.soroban_top.specs.declared.status.Status.{Status}
 use Rattle.soroban_top.specs.declared.status.Status.TheVariants as status
 use Rattle.soroban_top.proofs.Decoding.{refuses_decoded}
-
--- the status after a set that was decoded so
-abbrev set_status : {B : Type 0} → Result TxSet XdrErr → (TxSet → B) → Status
-set_status r f = status_of (as_set r >>= (λ s. Ok (f s)))
-
-malformed_is : {B : Type 0} (r : Result TxSet XdrErr) (f : TxSet → B) (at : ℕ) (why : Why) → set_status r f ≡ status.Malformed at why → (e : XdrErr) × (r ≡ Err e) × (e.at ≡ at) × (e.why ≡ why)
-malformed_is (Ok s) f at why h = absurd cc
-malformed_is (Err e) f at why h = (e, refl, cc, cc)
-
-done_is : {B : Type 0} (r : Result TxSet XdrErr) (f : TxSet → B) → set_status r f ≡ status.Done → (s : TxSet) × (r ≡ Ok s)
-done_is (Ok s) f h = (s, refl)
-done_is (Err e) f h = absurd cc
-
-malformed_due : {B : Type 0} (bytes : List ℕ) (f : TxSet → B) (at : ℕ) (why : Why) → IsBytes bytes → (set_status (decoded (set_format today) bytes) f ≡ status.Malformed at why) ↔ Refuses (set_format today) bytes at why
-malformed_due bytes f at why fit = (
-  λ h. let e = malformed_is (decoded (set_format today) bytes) f at why h in
-      let refuses : Refuses (set_format today) bytes e.0.at e.0.why = decoded_refuses (set_format today) (set_lawful today) bytes fit e.0 e.1 in
-      rw (e.2, e.3) at refuses,
-  λ refuses. rw (refuses_decoded (set_format today) (set_lawful today) bytes (record { at = at; why = why }) fit refuses) refl,
-)
-
-done_due : {B : Type 0} (bytes : List ℕ) (f : TxSet → B) → IsBytes bytes → (set_status (decoded (set_format today) bytes) f ≡ status.Done) ↔ ((set : TxSet) × Spells (set_format today) set bytes)
-done_due bytes f fit = (
-  λ h. let s = done_is (decoded (set_format today) bytes) f h in (s.0, decoded_spells (set_format today) (set_lawful today) bytes fit s.0 s.1),
-  λ s. rw (spells_decoded (set_format today) (set_lawful today) s.0 bytes s.1) refl,
-)
+use Rattle.soroban_top.proofs.Statuses.{done_due, malformed_due, spelled_status}
 
 pub malformed_law : MalformedLaw
 unfolding verdicts_in set_in
 malformed_law a m bytes inputs at why =
     let given = inputs.before in
     let verdicts = spells_decoded verdicts_format verdicts_lawful inputs.verdicts inputs.bytes inputs.spells in
-    rw (given.is_ledger, given.has_verdicts, verdicts, inputs.has_set) (malformed_due bytes _ at why inputs.are_bytes)
+    rw (given.is_ledger, given.has_verdicts, verdicts, inputs.has_set, inputs.opens) (malformed_due (set_format today) (set_lawful today) bytes _ at why inputs.are_bytes)
 
 pub done_law : DoneLaw
 unfolding verdicts_in set_in
 done_law a m bytes inputs =
     let given = inputs.before in
     let verdicts = spells_decoded verdicts_format verdicts_lawful inputs.verdicts inputs.bytes inputs.spells in
-    rw (given.is_ledger, given.has_verdicts, verdicts, inputs.has_set) (done_due bytes _ inputs.are_bytes)
+    rw (given.is_ledger, given.has_verdicts, verdicts, inputs.has_set, inputs.opens) (done_due (set_format today) (set_lawful today) bytes _ inputs.are_bytes)
 
 -- what is read after the verdicts is not at fault as they are
-no_verdicts_of_set : {B : Type 0} (r : Result TxSet XdrErr) (f : TxSet → B) (at : ℕ) → set_status r f ≡ status.Verdicts at → ⊥
+no_verdicts_of_set : {B : Type 0} (r : Result TxSet XdrErr) (f : TxSet → B) (at : ℕ) → spelled_status r f ≡ status.Verdicts at → ⊥
 no_verdicts_of_set (Ok s) f at h = cc
 no_verdicts_of_set (Err e) f at h = cc
 
-by_length : {B : Type 0} (long : Bool) (name bytes : List ℕ) (f : TxSet → B) (at : ℕ) → status_of ((if long then Err (status.TooLong name) else Ok bytes) >>= set_in >>= (λ s. Ok (f s))) ≡ status.Verdicts at → ⊥
+no_verdicts_opened : {B : Type 0} (o : Option (List ℕ)) (name : List ℕ) (f : TxSet → B) (at : ℕ) → status_of (as_bytes name o >>= set_in >>= (λ s. Ok (f s))) ≡ status.Verdicts at → ⊥
 unfolding set_in
-by_length true name bytes f at h = cc
-by_length false name bytes f at h = no_verdicts_of_set (decoded (set_format today) bytes) f at h
+no_verdicts_opened None name f at h = cc
+no_verdicts_opened (Some bytes) name f at h = no_verdicts_of_set (decoded (set_format today) bytes) f at h
 
-no_verdicts : {B : Type 0} (found : Option (List ℕ)) (name : List ℕ) (f : TxSet → B) (at : ℕ) → status_of (bytes_of found name >>= set_in >>= (λ s. Ok (f s))) ≡ status.Verdicts at → ⊥
-no_verdicts None name f at h = cc
-no_verdicts (Some bytes) name f at h = by_length (nat_lt (2 ^ 30) (length bytes)) name bytes f at h
+by_flag : {B : Type 0} (base64 : Bool) (name text : List ℕ) (f : TxSet → B) (at : ℕ) → status_of (set_opened base64 name text >>= (λ s. Ok (f s))) ≡ status.Verdicts at → ⊥
+unfolding set_in
+by_flag false name text f at h = no_verdicts_of_set (decoded (set_format today) text) f at h
+by_flag true name text f at h = no_verdicts_opened (bytes_in text) name f at h
+
+by_length : {B : Type 0} (long base64 : Bool) (name bytes : List ℕ) (f : TxSet → B) (at : ℕ) → status_of ((if long then Err (status.TooLong name) else Ok bytes) >>= set_opened base64 name >>= (λ s. Ok (f s))) ≡ status.Verdicts at → ⊥
+by_length true base64 name bytes f at h = cc
+by_length false base64 name bytes f at h = by_flag base64 name bytes f at h
+
+no_verdicts : {B : Type 0} (found : Option (List ℕ)) (base64 : Bool) (name : List ℕ) (f : TxSet → B) (at : ℕ) → status_of (bytes_of found name >>= set_opened base64 name >>= (λ s. Ok (f s))) ≡ status.Verdicts at → ⊥
+no_verdicts None base64 name f at h = cc
+no_verdicts (Some bytes) base64 name f at h = by_length (nat_lt (2 ^ 30) (length bytes)) base64 name bytes f at h
 
 verdicts_is : {B : Type 0} (r : Result Verdicts XdrErr) (rest : Verdicts → Result B Status) (at : ℕ) → ((v : Verdicts) → status_of (rest v) ≡ status.Verdicts at → ⊥) → status_of (as_verdicts r >>= rest) ≡ status.Verdicts at → (e : XdrErr) × (r ≡ Err e) × (e.at ≡ at)
 verdicts_is (Ok v) rest at none h = absurd (none v h)
@@ -91,4 +76,4 @@ verdicts_due bytes rest at fit none = (
 pub verdicts_law : VerdictsLaw
 unfolding verdicts_in
 verdicts_law a m bytes given at =
-    rw (given.is_ledger, given.has_verdicts) (verdicts_due bytes _ at given.are_bytes (λ v h. no_verdicts (get m a.set) a.set (λ s. applied (file 3 a.report) (file 4 a.ledger_out) (outputs_of given.ledger s a.close_time)) at h))
+    rw (given.is_ledger, given.has_verdicts) (verdicts_due bytes _ at given.are_bytes (λ v h. no_verdicts (get m a.set) a.base64 a.set (λ s. applied (file 3 a.report) (file 4 a.ledger_out) (outputs_of given.ledger s a.close_time)) at h))

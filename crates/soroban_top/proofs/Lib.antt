@@ -4,8 +4,9 @@ mod Due
 mod Made
 mod Leaving
 mod PutTogether
-mod Names
-mod Numbers
 mod Present
 mod Saying
+mod Shows
+mod Statuses
 mod Storing
+mod Vets

@@ -6,9 +6,9 @@ use Rattle.apply_spec.specs.Runs.{Running, new_header}
 use Rattle.ledger_spec.specs.LedgerFile.{has_next}
 use Rattle.ledger_types.specs.Header.{header_format}
 use Rattle.ledger_types.specs.declared.header.Header.{Header}
-use Rattle.tx_xdr.specs.Results.{report_bytes}
-use Rattle.tx_xdr.specs.declared.results.ResultSet.{ResultSet}
-use Rattle.tx_xdr.specs.declared.results.TransactionResultPair.{TransactionResultPair}
+use Rattle.tx_results.specs.Results.{report_bytes}
+use Rattle.tx_results.specs.declared.results.ResultSet.{ResultSet}
+use Rattle.tx_results.specs.declared.results.TransactionResultPair.{TransactionResultPair}
 use Rattle.xdr_spec.specs.Format.{number32, number64}
 
 -- the header of the ledger that follows can be written

@@ -2,20 +2,31 @@
 use Rattle.std.proofs.Common.{ℕ, ◌^◌, List, Bool, true, false, length, Option, Some, None, Result, Ok, Err, IfSome, IsSome}
 use Rattle.std.specs.Prelude.{⊤, nat_lt, if◌then◌else◌}
 use Rattle.std.specs.FinMap.{get}
+use Rattle.base64_text.specs.Text.{bytes_in}
+use Rattle.command_words.specs.declared.request.Request.{Request}
+use Rattle.command_words.specs.declared.request.Request.TheVariants.{Apply, Show, Vet}
+use Rattle.command_words.specs.declared.request.ShowKind.{ShowKind}
+use Rattle.command_words.specs.declared.request.ShowKind.TheVariants as kinds
 use Rattle.edge_io.specs.Contents.{Contents, FileMap}
 use Rattle.ledger_spec.specs.LedgerFile.{ledger_of}
 use Rattle.ledger_spec.specs.declared.LedgerRefusal.{LedgerRefusal}
 use Rattle.ledger_types.specs.Verdicts.{verdicts_format}
-use Rattle.tx_xdr.specs.Limits.{today}
+use Rattle.module_vet.specs.Verdict.{verdict_of}
+use Rattle.module_vet.specs.declared.Flaw.{Flaw}
+use Rattle.module_vet.specs.declared.Flaw.TheVariants as flaw
+use Rattle.module_vet.specs.declared.Sizes.{Sizes}
+use Rattle.tx_xdr.specs.Limits.{today, whole}
 use Rattle.tx_xdr.specs.Set.{set_format}
+use Rattle.tx_xdr.specs.Transaction.{envelope_format}
+use Rattle.value_types.specs.Formats.{scval_format}
 use Rattle.xdr_spec.specs.Decoded.{decoded}
 use Rattle.xdr_spec.specs.declared.XdrErr.{XdrErr}
 use Rattle.soroban_top.specs.Asked.{reads_named}
-use Rattle.soroban_top.specs.Judged.{AreThere, as_ledger, as_set, as_verdicts, bytes_of, content_of, ledger_at, ledger_in, set_at, set_in, verdicts_at, verdicts_in}
+use Rattle.soroban_top.specs.Judged.{AreThere, as_bytes, as_ledger, as_spelled, as_verdicts, bytes_of, content_of, ledger_at, ledger_in, opened, set_at, set_in, set_opened, verdicts_at, verdicts_in}
 use Rattle.soroban_top.specs.Outcome.{due}
+use Rattle.soroban_top.specs.Shown.{any_envelope_in, any_ledger_in, any_set_in, shown, shown_at, shown_opened, value_in}
 use Rattle.soroban_top.specs.Steps.{◌>>=◌, UnlessFault, status_of}
-use Rattle.soroban_top.specs.declared.request.Request.{Request}
-use Rattle.soroban_top.specs.declared.request.Request.TheVariants.{Apply}
+use Rattle.soroban_top.specs.Vetted.{as_vetted, vetted, vetted_at}
 use Rattle.soroban_top.specs.declared.status.Status.{Status}
 use Rattle.soroban_top.specs.declared.status.Status.TheVariants.{Fault, TooLong}
 
@@ -44,9 +55,9 @@ as_verdicts_judged : {A : Type 0} (r : Result A XdrErr) → IsNoFault (status_of
 as_verdicts_judged (Ok x) = tt
 as_verdicts_judged (Err e) = tt
 
-as_set_judged : {A : Type 0} (r : Result A XdrErr) → IsNoFault (status_of (as_set r))
-as_set_judged (Ok x) = tt
-as_set_judged (Err e) = tt
+as_spelled_judged : {A : Type 0} (r : Result A XdrErr) → IsNoFault (status_of (as_spelled r))
+as_spelled_judged (Ok x) = tt
+as_spelled_judged (Err e) = tt
 
 ledger_judged : (bytes : List ℕ) → IsNoFault (status_of (ledger_in bytes))
 unfolding ledger_in
@@ -58,7 +69,39 @@ verdicts_judged bytes = as_verdicts_judged (decoded verdicts_format bytes)
 
 set_judged : (bytes : List ℕ) → IsNoFault (status_of (set_in bytes))
 unfolding set_in
-set_judged bytes = as_set_judged (decoded (set_format today) bytes)
+set_judged bytes = as_spelled_judged (decoded (set_format today) bytes)
+
+-- text in Base64 is no fault
+bytes_judged : (name : List ℕ) (o : Option (List ℕ)) → IsNoFault (status_of (as_bytes name o))
+bytes_judged name None = tt
+bytes_judged name (Some bytes) = tt
+
+opened_judged : (base64 : Bool) (name text : List ℕ) → IsNoFault (status_of (opened base64 name text))
+opened_judged false name text = tt
+opened_judged true name text = bytes_judged name (bytes_in text)
+
+set_opened_judged : (base64 : Bool) (name text : List ℕ) → IsNoFault (status_of (set_opened base64 name text))
+set_opened_judged base64 name text = both (opened base64 name text) set_in (opened_judged base64 name text) set_judged
+
+as_vetted_judged : (r : Result Sizes Flaw) → IsNoFault (status_of (as_vetted r))
+as_vetted_judged (Ok sizes) = tt
+as_vetted_judged (Err flaw.NotAModule) = tt
+as_vetted_judged (Err (flaw.Ill func)) = tt
+as_vetted_judged (Err (flaw.Unlinked k)) = tt
+
+vetted_judged : (bytes : List ℕ) → IsNoFault (status_of (vetted bytes))
+unfolding vetted
+vetted_judged bytes = as_vetted_judged (verdict_of bytes)
+
+shown_judged : (kind : ShowKind) (bytes : List ℕ) → IsNoFault (status_of (shown kind bytes))
+unfolding any_set_in any_envelope_in any_ledger_in value_in
+shown_judged kinds.Set bytes = both (any_set_in bytes) _ (as_spelled_judged (decoded (set_format whole) bytes)) (λ set. tt)
+shown_judged kinds.Envelope bytes = both (any_envelope_in bytes) _ (as_spelled_judged (decoded (envelope_format whole) bytes)) (λ envelope. tt)
+shown_judged kinds.Ledger bytes = both (any_ledger_in bytes) _ (as_ledger_judged (ledger_of false bytes)) (λ ledger. tt)
+shown_judged kinds.Value bytes = both (value_in bytes) _ (as_spelled_judged (decoded scval_format bytes)) (λ value. tt)
+
+shown_opened_judged : (base64 : Bool) (kind : ShowKind) (name text : List ℕ) → IsNoFault (status_of (shown_opened base64 kind name text))
+shown_opened_judged base64 kind name text = both (opened base64 name text) (shown kind) (opened_judged base64 name text) (shown_judged kind)
 
 -- a file that is there and then judged
 judged : {A : Type 0} (m : FileMap) (name : List ℕ) (judge : List ℕ → Result A Status) → IsSome (get m name) → ((bytes : List ℕ) → IsNoFault (status_of (judge bytes))) → IsNoFault (status_of (content_of m name >>= judge))
@@ -69,7 +112,11 @@ no_fault None m there = tt
 no_fault (Some (Apply a)) m there =
     both (ledger_at m a.ledger) _ (judged m a.ledger ledger_in there.0 ledger_judged)
     (λ ledger. both (verdicts_at m a.verdicts) _ (judged m a.verdicts verdicts_in there.1.0 verdicts_judged)
-    (λ verdicts. both (set_at m a.set) _ (judged m a.set set_in there.1.1.0 set_judged) (λ set. tt)))
+    (λ verdicts. both (set_at m a.base64 a.set) _ (judged m a.set (set_opened a.base64 a.set) there.1.1.0 (set_opened_judged a.base64 a.set)) (λ set. tt)))
+no_fault (Some (Show s)) m there =
+    both (shown_at m s) _ (judged m s.file (shown_opened s.base64 s.kind s.file) there.0 (shown_opened_judged s.base64 s.kind s.file)) (λ lines. tt)
+no_fault (Some (Vet v)) m there =
+    both (vetted_at m v.module_file) _ (judged m v.module_file vetted there.0 vetted_judged) (λ lines. tt)
 
 unless : (P : Type 0) (status : Status) → IsNoFault status → UnlessFault status P → P
 unless P (Fault name) none h = absurd none

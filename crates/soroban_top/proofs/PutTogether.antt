@@ -4,7 +4,7 @@ use Rattle.std.specs.Prelude.{codes, decimal}
 use Rattle.hex.specs.Hex.{encode_lower}
 use Rattle.sha2.specs.Sha256.{sha256}
 use Rattle.apply_spec.specs.Outputs.{count_line, hash_line, successes}
-use Rattle.tx_xdr.specs.declared.results.TransactionResultPair.{TransactionResultPair}
+use Rattle.tx_results.specs.declared.results.TransactionResultPair.{TransactionResultPair}
 
 pub counted : (a b c d e : List ℕ) (seq count good : ℕ) (results : List TransactionResultPair) → good ≡ successes results → count ≡ length results → a ≡ codes "ledger " → b ≡ a ++ decimal seq ++ codes ": " → c ≡ b ++ decimal count ++ codes " transactions, "
     → d ≡ c ++ decimal good ++ codes " succeeded, " → e ≡ d ++ decimal (count - good) ++ codes " failed\n" → e ≡ count_line seq results

@@ -1,16 +1,20 @@
 -- The files that a command reads and stores, by the numbers of its options (own).
 use Rattle.std.specs.Prelude.{List, [], ◌∷◌, ◌++◌, Option, Some, None}
 use Rattle.soroban_top.specs.Product.{File, file}
-use Rattle.soroban_top.specs.declared.request.Request.{Request}
-use Rattle.soroban_top.specs.declared.request.Request.TheVariants.{Apply}
+use Rattle.command_words.specs.declared.request.Request.{Request}
+use Rattle.command_words.specs.declared.request.Request.TheVariants.{Apply, Show, Vet}
 
 -- the files that it reads, in order
 abbrev pub reads_of : Request → List File
 reads_of (Apply a) = file 1 a.ledger ∷ file 2 a.verdicts ∷ file 0 a.set ∷ []
+reads_of (Show s) = file 0 s.file ∷ []
+reads_of (Vet v) = file 0 v.module_file ∷ []
 
 -- the files that it stores, in order
 abbrev pub writes_of : Request → List File
 writes_of (Apply a) = file 3 a.report ∷ file 4 a.ledger_out ∷ []
+writes_of (Show s) = []
+writes_of (Vet v) = []
 
 -- the files that the words name for it to read
 abbrev pub reads_named : Option Request → List File

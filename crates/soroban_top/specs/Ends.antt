@@ -6,7 +6,7 @@ use Rattle.soroban_top.specs.Left.{Leaves}
 use Rattle.soroban_top.specs.Lines.{Finishes}
 use Rattle.soroban_top.specs.Outcome.{outcome_if, says_of}
 use Rattle.soroban_top.specs.Steps.{Gives, status_of}
-use Rattle.soroban_top.specs.declared.request.Request.{Request}
+use Rattle.command_words.specs.declared.request.Request.{Request}
 use Rattle.soroban_top.specs.declared.status.Status.{Status}
 
 -- the files that are stored and the text that is said

@@ -1,6 +1,7 @@
 -- The files that a command reads: each is there, not too long, and judged (own).
-use Rattle.std.specs.Prelude.{ℕ, true, ◌^◌, List, [], ◌∷◌, length, Option, Some, None, Result, Ok, Err, IsSome, nat_lt, if◌then◌else◌, ⊤}
+use Rattle.std.specs.Prelude.{ℕ, Bool, true, false, ◌^◌, List, [], ◌∷◌, length, Option, Some, None, Result, Ok, Err, IsSome, nat_lt, if◌then◌else◌, ⊤}
 use Rattle.std.specs.FinMap.{get}
+use Rattle.base64_text.specs.Text.{bytes_in}
 use Rattle.edge_io.specs.Contents.{FileMap}
 use Rattle.ledger_spec.specs.LedgerFile.{ledger_of}
 use Rattle.ledger_spec.specs.LedgerMap.{LedgerMap}
@@ -17,7 +18,7 @@ use Rattle.soroban_top.specs.Product.{File}
 use Rattle.soroban_top.specs.Steps.{◌>>=◌}
 use Rattle.soroban_top.specs.declared.status.Status.{Status}
 use Rattle.soroban_top.specs.declared.status.Status.TheVariants as status
-use Rattle.soroban_top.specs.declared.status.Status.TheVariants.{Fault, TooLong}
+use Rattle.soroban_top.specs.declared.status.Status.TheVariants.{Fault, TooLong, NotBase64}
 
 -- a file's bytes, if it is there and not too long
 abbrev pub bytes_of : Option (List ℕ) → List ℕ → Result (List ℕ) Status
@@ -31,6 +32,16 @@ content_of m name = bytes_of (get m name) name
 abbrev pub AreThere : List File → FileMap → Type 0
 AreThere [] m = ⊤
 AreThere (file ∷ files) m = IsSome (get m file.name) × AreThere files m
+
+-- the bytes of which a text is the encoding in Base64
+abbrev pub as_bytes : List ℕ → Option (List ℕ) → Result (List ℕ) Status
+as_bytes name None = Err (NotBase64 name)
+as_bytes name (Some bytes) = Ok bytes
+
+-- what stands in a file of this name, which may be text in Base64
+abbrev pub opened : Bool → List ℕ → List ℕ → Result (List ℕ) Status
+opened false name text = Ok text
+opened true name text = as_bytes name (bytes_in text)
 
 -- ---- what a file's bytes mean
 
@@ -49,13 +60,19 @@ as_verdicts (Err e) = Err (status.Verdicts e.at)
 unfoldable pub verdicts_in : List ℕ → Result Verdicts Status
 verdicts_in bytes = as_verdicts (decoded verdicts_format bytes)
 
-abbrev pub as_set : {A : Type 0} → Result A XdrErr → Result A Status
-as_set (Ok set) = Ok set
-as_set (Err e) = Err (status.Malformed e.at e.why)
+abbrev pub as_spelled : {A : Type 0} → Result A XdrErr → Result A Status
+as_spelled (Ok set) = Ok set
+as_spelled (Err e) = Err (status.Malformed e.at e.why)
 
 -- a set of those that run today
 unfoldable pub set_in : List ℕ → Result TxSet Status
-set_in bytes = as_set (decoded (set_format today) bytes)
+set_in bytes = as_spelled (decoded (set_format today) bytes)
+
+-- the same, of a file that may be text in Base64
+abbrev pub set_opened : Bool → List ℕ → List ℕ → Result TxSet Status
+set_opened base64 name text = do
+  bytes ← opened base64 name text
+  set_in bytes
 
 -- ---- the files of these names
 
@@ -69,7 +86,7 @@ verdicts_at m name = do
   bytes ← content_of m name
   verdicts_in bytes
 
-abbrev pub set_at : FileMap → List ℕ → Result TxSet Status
-set_at m name = do
-  bytes ← content_of m name
-  set_in bytes
+abbrev pub set_at : FileMap → Bool → List ℕ → Result TxSet Status
+set_at m base64 name = do
+  text ← content_of m name
+  set_opened base64 name text

@@ -1,20 +1,31 @@
 -- What apply comes to, in terms of what the bytes of its files spell (RFC 4506) alone.
-use Rattle.std.specs.Prelude.{◌≡◌, ◌↔◌, ℕ, List, Ok, Some}
+use Rattle.std.specs.Prelude.{◌≡◌, ◌↔◌, ℕ, List, Result, Ok, Some}
+use Rattle.command_words.specs.declared.request.ApplyRequest.{ApplyRequest}
+use Rattle.command_words.specs.declared.request.Request.TheVariants.{Apply, Show, Vet}
+use Rattle.command_words.specs.declared.request.ShowKind.{ShowKind}
+use Rattle.command_words.specs.declared.request.ShowKind.TheVariants as kinds
+use Rattle.command_words.specs.declared.request.ShowRequest.{ShowRequest}
+use Rattle.command_words.specs.declared.request.VetRequest.{VetRequest}
 use Rattle.edge_io.specs.Contents.{FileMap}
 use Rattle.ledger_spec.specs.LedgerMap.{LedgerMap}
 use Rattle.ledger_types.specs.Verdicts.{verdicts_format}
 use Rattle.ledger_types.specs.declared.header.Header.{Header}
 use Rattle.ledger_types.specs.declared.verdicts.Verdicts.{Verdicts}
-use Rattle.tx_xdr.specs.Limits.{today}
+use Rattle.module_vet.specs.Verdict.{IsVerdict}
+use Rattle.module_vet.specs.declared.Flaw.{Flaw}
+use Rattle.module_vet.specs.declared.Sizes.{Sizes}
+use Rattle.tx_xdr.specs.Limits.{today, whole}
 use Rattle.tx_xdr.specs.Set.{set_format}
+use Rattle.tx_xdr.specs.Transaction.{envelope_format}
 use Rattle.tx_xdr.specs.declared.set.TxSet.{TxSet}
-use Rattle.xdr_spec.specs.Format.{IsBytes}
+use Rattle.value_types.specs.Formats.{scval_format}
+use Rattle.xdr_spec.specs.Format.{Format, IsBytes}
 use Rattle.xdr_spec.specs.Refusal.{Spells, Refuses}
 use Rattle.xdr_spec.specs.declared.Why.{Why}
-use Rattle.soroban_top.specs.Judged.{content_of, ledger_at}
-use Rattle.soroban_top.specs.Outcome.{due}
-use Rattle.soroban_top.specs.declared.request.ApplyRequest.{ApplyRequest}
-use Rattle.soroban_top.specs.declared.request.Request.TheVariants.{Apply}
+use Rattle.soroban_top.specs.Judged.{content_of, ledger_at, opened}
+use Rattle.soroban_top.specs.Outcome.{due, only_said, outcome_of}
+use Rattle.soroban_top.specs.Steps.{◌>>=◌}
+use Rattle.soroban_top.specs.Vetted.{as_vetted}
 use Rattle.soroban_top.specs.declared.status.Status.{Status}
 use Rattle.soroban_top.specs.declared.status.Status.TheVariants as status
 
@@ -25,13 +36,15 @@ pub record HasLedger (a : ApplyRequest) (m : FileMap) (verdicts : List ℕ) : Ty
   pub has_verdicts : content_of m a.verdicts ≡ Ok verdicts
   pub are_bytes : IsBytes verdicts
 
--- the verdicts' file is right too, and the set's file has these bytes
+-- the verdicts' file is right too, and what stands in the set's file, which may be text in Base64, are these bytes
 pub record HasInputs (a : ApplyRequest) (m : FileMap) (set : List ℕ) : Type 0 where
   pub bytes : List ℕ
   pub before : HasLedger a m bytes
   pub verdicts : Verdicts
   pub spells : Spells verdicts_format verdicts bytes
-  pub has_set : content_of m a.set ≡ Ok set
+  pub text : List ℕ
+  pub has_set : content_of m a.set ≡ Ok text
+  pub opens : opened a.base64 a.set text ≡ Ok set
   pub are_bytes : IsBytes set
 
 -- the status that is due of this command
@@ -52,3 +65,50 @@ MalformedLaw = (a : ApplyRequest) (m : FileMap) (bytes : List ℕ) → HasInputs
 abbrev pub DoneLaw : Type 0
 DoneLaw = (a : ApplyRequest) (m : FileMap) (bytes : List ℕ) → HasInputs a m bytes
     → (due_of a m ≡ status.Done) ↔ ((set : TxSet) × Spells (set_format today) set bytes)
+
+-- ---- show and vet
+
+-- what stands in the file that is shown are these bytes
+pub record HasShown (s : ShowRequest) (m : FileMap) (bytes : List ℕ) : Type 0 where
+  pub text : List ℕ
+  pub has_text : content_of m s.file ≡ Ok text
+  pub opens : opened s.base64 s.file text ≡ Ok bytes
+  pub are_bytes : IsBytes bytes
+
+-- the status that is due of a show
+abbrev pub due_of_show : ShowRequest → FileMap → Status
+due_of_show s m = due (Some (Show s)) m
+
+-- Where such a file is shown, Malformed is due exactly where the bytes are refused, at that place and for that reason.
+abbrev pub ShownMalformed : ShowKind → {A : Type 0} → Format A → Type 0
+ShownMalformed kind F = (s : ShowRequest) (m : FileMap) (bytes : List ℕ) → s.kind ≡ kind → HasShown s m bytes → (at : ℕ) (why : Why)
+    → (due_of_show s m ≡ status.Malformed at why) ↔ Refuses F bytes at why
+
+-- Done is due exactly where they spell one.
+abbrev pub ShownDone : ShowKind → {A : Type 0} → Format A → Type 0
+ShownDone kind {A} F = (s : ShowRequest) (m : FileMap) (bytes : List ℕ) → s.kind ≡ kind → HasShown s m bytes
+    → (due_of_show s m ≡ status.Done) ↔ ((x : A) × Spells F x bytes)
+
+-- Sets and envelopes are those of the whole grammar.
+abbrev pub SetMalformedLaw : Type 0
+SetMalformedLaw = ShownMalformed kinds.Set (set_format whole)
+
+abbrev pub SetDoneLaw : Type 0
+SetDoneLaw = ShownDone kinds.Set (set_format whole)
+
+abbrev pub EnvelopeMalformedLaw : Type 0
+EnvelopeMalformedLaw = ShownMalformed kinds.Envelope (envelope_format whole)
+
+abbrev pub EnvelopeDoneLaw : Type 0
+EnvelopeDoneLaw = ShownDone kinds.Envelope (envelope_format whole)
+
+abbrev pub ValueMalformedLaw : Type 0
+ValueMalformedLaw = ShownMalformed kinds.Value scval_format
+
+abbrev pub ValueDoneLaw : Type 0
+ValueDoneLaw = ShownDone kinds.Value scval_format
+
+-- What vet comes to is what is so of the module that the file's bytes spell.
+abbrev pub VetLaw : Type 0
+VetLaw = (v : VetRequest) (m : FileMap) (bytes : List ℕ) (verdict : Result Sizes Flaw) → content_of m v.module_file ≡ Ok bytes → IsVerdict bytes verdict
+    → outcome_of (Vet v) m ≡ (as_vetted verdict >>= λ line. Ok (only_said line))

@@ -8,6 +8,7 @@ pub mod Lines
 pub mod Outcome
 pub mod Product
 pub mod Seen
+pub mod Shown
 pub mod Steps
+pub mod Vetted
 pub mod Views
-pub mod Words

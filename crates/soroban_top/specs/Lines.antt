@@ -1,5 +1,5 @@
 -- The lines of each status, and how far they were said (own).
-use Rattle.std.specs.Prelude.{◌≡◌, ◌⊎◌, ℕ, List, [], ◌++◌, take, Option, Result, Ok, Err, codes, decimal, ⊤}
+use Rattle.std.specs.Prelude.{◌≡◌, ◌⊎◌, ℕ, List, [], ◌++◌, take, Option, Some, None, Result, Ok, Err, codes, decimal, ⊤}
 use Rattle.edge_io.specs.Counts.{Rose}
 use Rattle.edge_io.specs.Text.{extended}
 use Rattle.edge_io.specs.declared.failed.EdgeErr.{EdgeErr}
@@ -8,7 +8,7 @@ use Rattle.soroban_top.specs.Steps.{status_of}
 use Rattle.ledger_spec.specs.declared.LedgerWhy.{LedgerWhy}
 use Rattle.ledger_spec.specs.declared.LedgerWhy.TheVariants as why
 use Rattle.soroban_top.specs.declared.status.Status.{Status}
-use Rattle.soroban_top.specs.declared.status.Status.TheVariants.{Done, Usage, Fault, TooLong, Ledger, Verdicts, Malformed, NoMemory}
+use Rattle.soroban_top.specs.declared.status.Status.TheVariants.{Done, Usage, Fault, TooLong, Ledger, Verdicts, Malformed, NotBase64, NotAModule, Ill, Unlinked, NoMemory}
 use Rattle.xdr_spec.specs.declared.Why.{Why}
 use Rattle.xdr_spec.specs.declared.Why.TheVariants.{End, Padding, Boolean, Tag, Limit, Depth, Trailing}
 
@@ -31,6 +31,11 @@ number_of why.CodeHash = codes "ledger refused: 4 at "
 number_of why.Settings = codes "ledger refused: 5 at "
 number_of why.SeqEnd = codes "ledger refused: 6 at "
 
+-- the line of an ill typed module, by the function at fault
+abbrev pub ill_line : Option ℕ → List ℕ
+ill_line None = codes "ill typed: module\n"
+ill_line (Some func) = codes "ill typed: function " ++ decimal func ++ codes "\n"
+
 -- the line of a status that has no others
 abbrev pub line_of : Status → List ℕ
 line_of Done = []
@@ -40,6 +45,10 @@ line_of (TooLong name) = codes "too long: " ++ name ++ codes "\n"
 line_of (Ledger why at) = number_of why ++ decimal at ++ codes "\n"
 line_of (Verdicts at) = codes "verdicts refused at " ++ decimal at ++ codes "\n"
 line_of (Malformed at why) = codes "refused at " ++ decimal at ++ name_of why
+line_of (NotBase64 name) = codes "not base64: " ++ name ++ codes "\n"
+line_of NotAModule = codes "not a module\n"
+line_of (Ill func) = ill_line func
+line_of (Unlinked k) = codes "unlinked: import " ++ decimal k ++ codes "\n"
 line_of NoMemory = codes "no memory\n"
 
 -- the number that the program ends with
@@ -51,6 +60,10 @@ code_of (TooLong name) = 6
 code_of (Ledger why at) = 3
 code_of (Verdicts at) = 3
 code_of (Malformed at why) = 1
+code_of (NotBase64 name) = 1
+code_of NotAModule = 1
+code_of (Ill func) = 1
+code_of (Unlinked k) = 1
 code_of NoMemory = 5
 
 -- the lines that are due of a command that came to this: its own lines, or a status

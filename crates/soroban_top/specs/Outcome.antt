@@ -1,15 +1,17 @@
 -- What a command comes to, where its files are told (own).
 use Rattle.std.specs.Prelude.{◌≡◌, ℕ, List, [], ◌∷◌, Option, Some, None, Result, Ok, Err, ⊤}
 use Rattle.apply_spec.specs.Outputs.{Outputs, outputs}
+use Rattle.command_words.specs.declared.request.Request.{Request}
+use Rattle.command_words.specs.declared.request.Request.TheVariants.{Apply, Show, Vet}
 use Rattle.edge_io.specs.Contents.{FileMap}
 use Rattle.ledger_spec.specs.LedgerMap.{LedgerMap}
 use Rattle.ledger_types.specs.declared.header.Header.{Header}
 use Rattle.tx_xdr.specs.declared.set.TxSet.{TxSet}
 use Rattle.soroban_top.specs.Judged.{ledger_at, verdicts_at, set_at}
 use Rattle.soroban_top.specs.Product.{Made, File, file}
+use Rattle.soroban_top.specs.Shown.{shown_at}
 use Rattle.soroban_top.specs.Steps.{◌>>=◌, status_of}
-use Rattle.soroban_top.specs.declared.request.Request.{Request}
-use Rattle.soroban_top.specs.declared.request.Request.TheVariants.{Apply}
+use Rattle.soroban_top.specs.Vetted.{vetted_at}
 use Rattle.soroban_top.specs.declared.status.Status.{Status}
 use Rattle.soroban_top.specs.declared.status.Status.TheVariants.{Usage, NoMemory}
 
@@ -20,6 +22,10 @@ applied report ledger_out made = record {
   says = made.lines;
 }
 
+-- nothing is stored, and these lines are said
+abbrev pub only_said : List ℕ → Made
+only_said lines = record { stores = []; says = lines }
+
 -- what a set makes of a ledger, at a close time
 unfoldable pub outputs_of : Header × LedgerMap → TxSet → ℕ → Outputs
 outputs_of ledger set close_time = outputs ledger.0 ledger.1 set close_time
@@ -29,8 +35,14 @@ abbrev pub outcome_of : Request → FileMap → Result Made Status
 outcome_of (Apply a) m = do
   ledger ← ledger_at m a.ledger
   verdicts ← verdicts_at m a.verdicts
-  set ← set_at m a.set
+  set ← set_at m a.base64 a.set
   Ok (applied (file 3 a.report) (file 4 a.ledger_out) (outputs_of ledger set a.close_time))
+outcome_of (Show s) m = do
+  lines ← shown_at m s
+  Ok (only_said lines)
+outcome_of (Vet v) m = do
+  lines ← vetted_at m v.module_file
+  Ok (only_said lines)
 
 -- what the words come to
 abbrev pub outcome_if : Option Request → FileMap → Result Made Status

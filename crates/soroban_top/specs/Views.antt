@@ -4,10 +4,6 @@ use Rattle.soroban_top.specs.Product.{File, Job, Made}
 use Rattle.soroban_top.specs.declared.product.FileArg.{FileArg}
 use Rattle.soroban_top.specs.declared.product.Store.{Store}
 use Rattle.soroban_top.specs.declared.product.Product.{Product}
-use Rattle.soroban_top.specs.declared.request.Request.{Request}
-use Rattle.soroban_top.specs.Words.{ApplyNames, apply_of}
-use Rattle.soroban_top.specs.declared.words.ApplyFiles.{ApplyFiles}
-use Rattle.soroban_top.specs.declared.words.ApplyOptions.{ApplyOptions}
 
 abbrev pub file_of : FileArg → File
 file_of f = record { option = f.option; name = f.name.now }
@@ -24,15 +20,3 @@ targets_of = map (λ (s : Store). file_of s.file)
 
 abbrev pub made_of : Product → Made
 made_of p = record { stores = jobs_of p.stores.items; says = p.says.items }
-
-abbrev pub names_of : ApplyFiles → ApplyNames
-names_of f = record {
-  set = f.set.now;
-  ledger = f.ledger.now;
-  verdicts = f.verdicts.now;
-  report = f.report.now;
-  ledger_out = f.ledger_out.now;
-}
-
-abbrev pub asked_by : ApplyOptions → Request
-asked_by o = apply_of (names_of o.files) o.close_time o.workers

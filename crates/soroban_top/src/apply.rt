@@ -1,16 +1,17 @@
 // The command apply: a transaction set over a ledger.
 ghost use Rattle.std.specs.Prelude.{◌≡◌, [], ◌∷◌, IfOk, IfErr, IfSome};
+ghost use Rattle.command_words.specs.declared.request.Request.TheVariants.{Apply as Asked};
 ghost use Rattle.soroban_top.specs.Asked.{reads_of, writes_of};
 ghost use Rattle.soroban_top.specs.Counts.{HasCause, NoLower, SameCounts};
 ghost use Rattle.soroban_top.specs.Outcome.{applied, outcome_of};
 ghost use Rattle.soroban_top.specs.Product.{file};
 ghost use Rattle.soroban_top.specs.Steps.{Gives, UnlessFault, status_of};
 ghost use Rattle.soroban_top.specs.Views.{made_of, targets_of};
-ghost use Rattle.soroban_top.specs.declared.request.Request.TheVariants.{Apply as Asked};
 
 use crate::judged::{read_ledger, read_set, read_verdicts};
 use crate::outputs::{Outputs, make_outputs};
-use crate::{ApplyRequest, FileArg, Product, Status, Store};
+use crate::{FileArg, Product, Status, Store};
+use command_words::ApplyRequest;
 use edge_io::Files;
 use std::alloc::{AllocError, Global};
 
@@ -30,7 +31,7 @@ pub fn apply<'a, F: Files>(
 {
     let ledger = read_ledger(alloc, files, 1, &request.ledger)?;
     let _verdicts = read_verdicts(alloc, files, 2, &request.verdicts)?;
-    let set = read_set(alloc, files, 0, &request.set)?;
+    let set = read_set(alloc, files, 0, &request.set, request.base64)?;
     let outputs = make_outputs(alloc, ledger, &set, request.close_time)?;
     let product = product_of(alloc, request, outputs)?;
     Ok(product)

@@ -1,7 +1,7 @@
 // The end of every command: its status says its lines.
 ghost use Rattle.std.specs.Prelude.{◌≡◌, ◌⊎◌, ◌≤◌, ◌++◌};
 ghost use Rattle.edge_io.specs.Counts.{OnFailed, Rose};
-ghost use Rattle.soroban_top.specs.Lines.{Finishes, HasSayCause, IsStatusAfter, SaysLines, line_of, name_of, number_of};
+ghost use Rattle.soroban_top.specs.Lines.{Finishes, HasSayCause, IsStatusAfter, SaysLines, ill_line, line_of, name_of, number_of};
 ghost use Rattle.soroban_top.specs.Steps.{viewed};
 
 use crate::Status;
@@ -66,7 +66,33 @@ fn say_status<S: Say>(say: &mut S, status: &Status) -> Result<(), EdgeErr>
             let at = digits.format(*at);
             say_parts(say, b"refused at ", at.as_bytes(), name_of(*why))
         }
+        Status::NotBase64 { name } => {
+            say_parts(say, b"not base64: ", name.as_str().as_bytes(), b"\n")
+        }
+        Status::NotAModule => say_part(say, b"not a module\n"),
+        Status::Ill { func } => say_ill(say, *func),
+        Status::Unlinked { import } => {
+            let number = digits.format(*import);
+            say_parts(say, b"unlinked: import ", number.as_bytes(), b"\n")
+        }
         Status::NoMemory => say_part(say, b"no memory\n"),
+    }
+}
+
+// Says the line of an ill typed module.
+fn say_ill<S: Say>(say: &mut S, func: Option<u32>) -> Result<(), EdgeErr>
+    ensures said { SaysLines result (ill_line func) (S.text say.old) (S.text say.new) }
+    ensures counts { S.faults say.old ≤ S.faults say.new }
+    ensures cause { OnFailed result (Rose (S.faults say.old) (S.faults say.new)) }
+    ensures steady { S.steady say.old → OnFailed result ⊥ × S.steady say.new × (S.faults say.new ≡ S.faults say.old) }
+{
+    let mut digits = Buffer::new();
+    match func {
+        None => say_part(say, b"ill typed: module\n"),
+        Some(func) => {
+            let number = digits.format(func);
+            say_parts(say, b"ill typed: function ", number.as_bytes(), b"\n")
+        }
     }
 }
 

@@ -5,12 +5,13 @@ ghost use Rattle.ledger_types.specs.Header.{header_format};
 ghost use Rattle.tx_xdr.specs.Limits.{today};
 ghost use Rattle.tx_xdr.specs.Set.{set_format};
 ghost use Rattle.soroban_top.specs.Counts.{HasCause, IsOfBytes, NoLower, SameCounts};
-ghost use Rattle.soroban_top.specs.Judged.{ledger_at, ledger_in, verdicts_at, verdicts_in, set_at, set_in};
+ghost use Rattle.soroban_top.specs.Judged.{ledger_at, ledger_in, verdicts_at, verdicts_in, set_at, set_in, set_opened};
 ghost use Rattle.soroban_top.specs.Product.{file};
 ghost use Rattle.soroban_top.specs.Seen.{seen};
 ghost use Rattle.soroban_top.specs.Steps.{Gives, UnlessFault, status_of};
 
 use crate::drive::read_file;
+use crate::opened::open_text;
 use crate::{FileArg, Status};
 use edge_io::{Files, Word};
 use ledger_file::{Ledger, LedgerErr};
@@ -60,24 +61,39 @@ pub fn read_verdicts<F: Files>(
     verdicts_in(alloc, bytes.as_slice())
 }
 
-/// The transaction set in a file.
+/// The transaction set in a file, which may be text in Base64.
 pub fn read_set<F: Files>(
     alloc: Global,
     files: &mut F,
     option: u8,
     name: &Word,
+    base64: bool,
 ) -> Result<TxSet, Status>
     requires { option < 8 }
-    ensures given { IfSome (F.contents files.old) (λ m. Gives (λ s. s) result (set_at m name.now)) }
+    ensures given { IfSome (F.contents files.old) (λ m. Gives (λ s. s) result (set_at m base64 name.now)) }
     ensures fits { IfOk result (set_format today).fits }
     ensures same { F.contents files.new ≡ F.contents files.old }
     ensures counts { NoLower (F.faults files.old) (F.faults files.new) }
     ensures cause { IfErr result (HasCause (file option name.now ∷ []) (F.faults files.old) (F.faults files.new)) }
-    ensures steady { F.steady files.old → IfSome (F.contents files.old) (λ m. UnlessFault (status_of (set_at m name.now))
+    ensures steady { F.steady files.old → IfSome (F.contents files.old) (λ m. UnlessFault (status_of (set_at m base64 name.now))
         (F.steady files.new × SameCounts (F.faults files.old) (F.faults files.new))) }
 {
-    let bytes = read_file(alloc, files, &FileArg { option, name })?;
-    set_in(alloc, bytes.as_slice())
+    let text = read_file(alloc, files, &FileArg { option, name })?;
+    set_opened(alloc, base64, name, text.as_slice())
+}
+
+// The set that a file's text spells.
+fn set_opened(alloc: Global, base64: bool, name: &Word, text: &[u8]) -> Result<TxSet, Status>
+    ensures given { Gives (λ s. s) result (set_opened base64 name.now text.now) }
+    ensures fits { IfOk result (set_format today).fits }
+    ensures cause { IfErr result IsOfBytes }
+{
+    if base64 {
+        let bytes = open_text(alloc, name, text)?;
+        set_in(alloc, &bytes)
+    } else {
+        set_in(alloc, text)
+    }
 }
 
 #[tactic(auto, unfolding(crate::specs::Judged::ledger_in))]
@@ -116,7 +132,7 @@ fn set_in(alloc: Global, bytes: &[u8]) -> Result<TxSet, Status>
     ensures fits { IfOk result (set_format today).fits }
     ensures cause { IfErr result IsOfBytes }
 {
-    match tx_xdr::read_set(alloc, bytes) {
+    match tx_xdr::read_set_today(alloc, bytes) {
         Ok(set) => Ok(set),
         Err(ReadXdr::Bad(error)) => Err(Status::Malformed {
             at: error.at,

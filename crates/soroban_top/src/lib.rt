@@ -2,6 +2,7 @@
 #![tactic(auto)]
 
 ghost use Rattle.std.specs.Prelude.{◌≡◌, ◌≤◌, ◌⊎◌, None, IfOk, IfErr, IfSome};
+ghost use Rattle.command_words.specs.Words.{asked_of};
 ghost use Rattle.edge_io.specs.Text.{extended};
 ghost use Rattle.soroban_top.specs.Asked.{reads_of, reads_named, files_named};
 ghost use Rattle.soroban_top.specs.Counts.{NoLower, SameCounts, FaultHasCause, HasCause, HasCauseFor, NoneRose};
@@ -11,7 +12,6 @@ ghost use Rattle.soroban_top.specs.Left.{Leaves, OnRefused};
 ghost use Rattle.soroban_top.specs.Lines.{line_of};
 ghost use Rattle.soroban_top.specs.Outcome.{due, outcome_if, outcome_of, says_of};
 ghost use Rattle.soroban_top.specs.Steps.{Gives, UnlessFault, UnlessFree, status_of};
-ghost use Rattle.soroban_top.specs.Words.{asked_of};
 
 mod apply;
 mod drive;
@@ -19,24 +19,27 @@ mod ending;
 mod judged;
 mod laws;
 mod lines;
+mod opened;
 mod outputs;
 mod product;
 mod request;
+mod show;
+mod spelled;
 mod status;
 #[cfg(test)]
 mod tests;
-mod words;
+mod vetting;
 
+use command_words::Request;
 use drive::store_all;
 use edge_io::{Files, Gate, Say, Word};
 pub use ending::finish;
-pub use laws::apply_laws;
+pub use laws::{apply_laws, show_laws, vet_law};
 use product::{FileArg, Product, Store};
-use request::{ApplyRequest, Request, produce};
+use request::{asked, produce};
 pub use status::Status;
 use std::alloc::Global;
 use std::thread::Threads;
-use words::request_of;
 
 /// Does what the words ask for, and says the lines of its status.
 pub fn soroban<R: Threads + Sync, F: Files, S: Say, G: Gate + Sync>(
@@ -96,7 +99,7 @@ fn perform<F: Files>(alloc: Global, words: &[Word], files: &mut F) -> Result<Vec
         (SameCounts (F.faults files.old) (F.faults files.new))) }
     ensures counts { NoLower (F.faults files.old) (F.faults files.new) }
 {
-    let request = request_of(words)?;
+    let request = asked(alloc, words)?;
     run(alloc, &request, files)
 }
 

@@ -1,11 +1,11 @@
 // The lines of a set that was applied.
-ghost use Rattle.std.specs.Prelude.{◌≡◌, ◌≤◌, ◌++◌, length, OnOk, IfOk, decimal};
+ghost use Rattle.std.specs.Prelude.{◌≡◌, ◌≤◌, ◌++◌, length, OnOk, IfOk};
 ghost use Rattle.apply_spec.specs.Outputs.{count_line, hash_line, is_success, outputs_with, successes};
 
-use itoa::Buffer;
 use sha2::{Digest, Sha256};
 use std::alloc::{AllocError, Global};
-use tx_xdr::{TransactionOutcome, TransactionResultPair};
+use text_lines::push_number;
+use tx_results::{TransactionOutcome, TransactionResultPair};
 
 /// The line that counts the transactions of ledger `seq`, and the hashes of the report and the ledger's file.
 pub fn lines(
@@ -53,15 +53,6 @@ fn is_success(outcome: &TransactionOutcome) -> bool
     ensures { result ≡ is_success outcome.now }
 {
     matches!(outcome, TransactionOutcome::Success(_))
-}
-
-// A number and what follows it.
-fn push_number(line: &mut Vec<u8>, number: u64, after: &[u8]) -> Result<(), AllocError>
-    ensures { OnOk result (line.new.items ≡ line.old.items ++ decimal number ++ after.now) }
-{
-    let mut digits = Buffer::new();
-    line.extend_from_slice(digits.format(number).as_bytes())?;
-    line.extend_from_slice(after)
 }
 
 // The SHA-256 of bytes, behind their name.

@@ -11,7 +11,8 @@ use crate::lines::lines;
 use ledger_apply::apply_set;
 use ledger_file::{Ledger, write_ledger};
 use std::alloc::Global;
-use tx_xdr::{TxSet, write_report};
+use tx_results::write_report;
+use tx_xdr::TxSet;
 use xdr_core::NoMemory;
 
 /// The report, the new ledger's file, and the lines.

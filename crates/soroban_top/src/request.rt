@@ -1,38 +1,29 @@
 // What the words ask for.
 ghost use Rattle.std.specs.Prelude.{◌≡◌, IfOk, IfErr, IfSome};
+ghost use Rattle.command_words.specs.Words.{asked_of};
 ghost use Rattle.soroban_top.specs.Asked.{reads_of, writes_of};
 ghost use Rattle.soroban_top.specs.Counts.{HasCause, NoLower, SameCounts};
-ghost use Rattle.soroban_top.specs.Outcome.{outcome_of};
+ghost use Rattle.soroban_top.specs.Outcome.{ReadsWords, outcome_of};
 ghost use Rattle.soroban_top.specs.Steps.{Gives, UnlessFault, status_of};
 ghost use Rattle.soroban_top.specs.Views.{made_of, targets_of};
 
 use crate::apply::apply;
+use crate::show::show;
+use crate::vetting::vet;
 use crate::{Product, Status};
+use command_words::{Request, WordsErr, request_of};
 use edge_io::{Files, Word};
 use std::alloc::Global;
 
-/// The options of `apply`.
-#[derive(Debug, Drop)]
-pub struct ApplyRequest {
-    /// The file of the transaction set.
-    pub set: Word,
-    /// The file of the ledger before the set.
-    pub ledger: Word,
-    pub verdicts: Word,
-    /// When the new ledger closes, in seconds since 1970.
-    pub close_time: u64,
-    /// How many workers share the work, from 1 to 64. The answer is the same for any number.
-    pub workers: u64,
-    /// The file that gets the results.
-    pub report: Word,
-    /// The file that gets the new ledger.
-    pub ledger_out: Word,
-}
-
-/// A command, with its options.
-#[derive(Debug, Drop)]
-pub enum Request {
-    Apply(ApplyRequest),
+/// The command of these words.
+pub fn asked(alloc: Global, words: &[Word]) -> Result<Request, Status>
+    ensures { ReadsWords result (asked_of words.now) }
+{
+    match request_of(alloc, words) {
+        Ok(request) => Ok(request),
+        Err(WordsErr::Usage) => Err(Status::Usage),
+        Err(WordsErr::NoMemory) => Err(Status::NoMemory),
+    }
 }
 
 /// Reads the files of a command, and makes what it stores and says.
@@ -51,5 +42,7 @@ pub fn produce<'a, F: Files>(
 {
     match request {
         Request::Apply(options) => apply(alloc, files, options),
+        Request::Show(options) => show(alloc, files, options),
+        Request::Vet(options) => vet(alloc, files, options),
     }
 }

@@ -24,6 +24,14 @@ pub enum Status {
     Verdicts { at: u64 },
     /// The bytes are no spelling of what they are to be: they are at fault at this place.
     Malformed { at: u64, why: Why },
+    /// This file's text is the encoding of no bytes in Base64.
+    NotBase64 { name: Word },
+    /// The bytes spell no WebAssembly module.
+    NotAModule,
+    /// The module is ill typed: the least function that is, imports counted, or none where a rule outside bodies is broken.
+    Ill { func: Option<u32> },
+    /// The first import of the module that the host does not have with its type.
+    Unlinked { import: u32 },
     NoMemory,
 }
 
@@ -36,7 +44,11 @@ impl Status {
     {
         match self {
             Status::Done => 0,
-            Status::Malformed { .. } => 1,
+            Status::Malformed { .. }
+            | Status::NotBase64 { .. }
+            | Status::NotAModule
+            | Status::Ill { .. }
+            | Status::Unlinked { .. } => 1,
             Status::Usage => 2,
             Status::Ledger { .. } | Status::Verdicts { .. } => 3,
             Status::Fault { .. } => 4,

@@ -1,5 +1,8 @@
 // Commands over files in memory: their stores and lines, their refusals, and each call that fails. Hashes are those of the
 // bytes of the formats, as another program computes them.
+mod failed;
+mod told;
+
 use super::*;
 use edge_io::{EdgeErr, Failed, MemFiles, MemSay, OpenGate};
 use std::alloc::AllocError;
@@ -266,10 +269,17 @@ fn length(alloc: Global, files: &MemFiles, name: &str) -> Result<usize, Fail> {
     }
 }
 
+// A failure of the call after the last one, of each kind, is never met.
 #[test]
 fn extends(rt: HostRuntime) -> Result<(), Fail> {
     let alloc = rt.alloc();
-    let ran = run(&rt, alloc, EXTENSION, Vec::new(alloc), Vec::new(alloc))?;
+    let ran = run(
+        &rt,
+        alloc,
+        EXTENSION,
+        vec![in alloc; 11]?,
+        vec![in alloc; 1]?,
+    )?;
     assert_eq!(rt; ran.status.code(), 0);
     assert_eq!(rt; ran.say.text(), EXTENDED.as_bytes());
     assert!(rt; has(alloc, &ran.files, "report", &[REPORT])?);
@@ -316,11 +326,13 @@ fn sets_and_refusals(rt: HostRuntime) -> Result<(), Fail> {
         let ran = run(&rt, alloc, case, Vec::new(alloc), Vec::new(alloc))?;
         assert_eq!(rt; ran.say.text(), text.as_bytes());
         assert_eq!(rt; ran.status.code(), code);
-        // Nothing is stored at a refusal.
-        assert_eq!(rt;
-            length(alloc, &ran.files, "report")?,
-            if code == 0 { 4 } else { 0 }
-        );
+        if code == 0 {
+            assert!(rt; has(alloc, &ran.files, "report", &["00000000"])?);
+        } else {
+            // Nothing is stored at a refusal.
+            assert_eq!(rt; length(alloc, &ran.files, "report")?, 0);
+            assert_eq!(rt; length(alloc, &ran.files, "next")?, 0);
+        }
     }
     Ok(())
 }
@@ -465,8 +477,8 @@ fn lines_fail(rt: HostRuntime) -> Result<(), Fail> {
     };
     assert_eq!(rt; name.as_str(), "");
     assert_eq!(rt; ran.say.text().len(), EXTENDED.len() / 2);
-    assert_eq!(rt; length(alloc, &ran.files, "report")?, 72);
-    assert_eq!(rt; length(alloc, &ran.files, "next")?, 360);
+    assert!(rt; has(alloc, &ran.files, "report", &[REPORT])?);
+    assert!(rt; has(alloc, &ran.files, "next", &LONGER)?);
     Ok(())
 }
 

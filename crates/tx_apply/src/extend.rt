@@ -10,7 +10,6 @@ use apply_spec::Extension;
 use contract_storage::Ground;
 use ledger_types::{LedgerKey, Settings};
 use std::alloc::Global;
-use tx_xdr::Footprint;
 use xdr_core::NoMemory;
 
 /// Whether the entry of a key has a life to extend.
@@ -30,10 +29,15 @@ fn have_lives(keys: &[LedgerKey]) -> bool
 }
 
 /// Whether the footprint and the new life are those of an extension.
-pub fn may_extend(settings: &Settings, footprint: &Footprint, extend_to: u32) -> bool
-    ensures { result ≡ may_extend_in settings.now footprint.now extend_to }
+pub fn may_extend(
+    settings: &Settings,
+    read_only: &[LedgerKey],
+    read_write: &[LedgerKey],
+    extend_to: u32,
+) -> bool
+    ensures { result ≡ may_extend_in settings.now (record { read_only = read_only.now; read_write = read_write.now }) extend_to }
 {
-    if !footprint.read_write.as_slice().is_empty() || !have_lives(footprint.read_only.as_slice()) {
+    if !read_write.is_empty() || !have_lives(read_only) {
         return false;
     }
     extend_to < settings.max_entry_ttl

@@ -4,22 +4,33 @@ ghost use Rattle.std.specs.Prelude.{◌≡◌, ◌++◌, All, IfOk, OnOk, map};
 ghost use Rattle.std.specs.List.{list_all};
 ghost use Rattle.ledger_types.specs.Key.{key_format};
 ghost use Rattle.ledger_spec.specs.LedgerMap.{key_bytes};
-ghost use Rattle.apply_spec.specs.Checks.{footprint_of as footprint_in, may_be_declared as is_declarable, may_be_footprint as is_footprint, declared_keys};
+ghost use Rattle.apply_spec.specs.Checks.{footprint_of, may_be_declared as is_declarable, may_be_footprint as is_footprint};
 ghost use Rattle.tx_apply.specs.Twice.{bytes_of, stand_twice};
 
 use ledger_types::LedgerKey;
 use std::alloc::Global;
 use std::collections::BTreeSet;
-use tx_xdr::{Footprint, Transaction, TransactionExt};
+use tx_xdr::{Transaction, TransactionExt};
 use value_xdr::encode;
 use xdr_core::NoMemory;
 
-/// The footprint that a transaction declares.
-pub fn footprint_of(tx: &Transaction) -> &Footprint
-    ensures { result.now ≡ footprint_in tx.now }
+/// The keys that a transaction declares read-only.
+pub fn read_only_of(tx: &Transaction) -> &[LedgerKey]
+    ensures { result.now ≡ (footprint_of tx.now).read_only }
 {
     match &tx.ext {
-        TransactionExt::Soroban(soroban) => &soroban.footprint,
+        TransactionExt::None => &[],
+        TransactionExt::Soroban(soroban) => soroban.footprint.read_only.as_slice(),
+    }
+}
+
+/// The keys that a transaction declares read-write.
+pub fn read_write_of(tx: &Transaction) -> &[LedgerKey]
+    ensures { result.now ≡ (footprint_of tx.now).read_write }
+{
+    match &tx.ext {
+        TransactionExt::None => &[],
+        TransactionExt::Soroban(soroban) => soroban.footprint.read_write.as_slice(),
     }
 }
 
@@ -41,7 +52,7 @@ pub fn may_be_declared(key: &LedgerKey) -> bool
 }
 
 /// Adds the spellings of keys.
-pub fn spell_keys(
+fn spell_keys(
     alloc: Global,
     keys: &[LedgerKey],
     spellings: &mut Vec<Vec<u8>>,
@@ -70,13 +81,15 @@ fn has_twice(alloc: Global, spellings: &[Vec<u8>]) -> Result<bool, NoMemory>
 }
 
 /// Whether no key stands twice, and each may be declared. The time grows with n log n of the number of keys.
-pub fn may_be_footprint(alloc: Global, footprint: &Footprint) -> Result<bool, NoMemory>
-    requires read_only { All (λ key. key_format.fits key) footprint.now.read_only }
-    requires read_write { All (λ key. key_format.fits key) footprint.now.read_write }
-    ensures { IfOk result (λ b. b ≡ is_footprint (declared_keys footprint.now)) }
+pub fn may_be_footprint(
+    alloc: Global,
+    read_only: &[LedgerKey],
+    read_write: &[LedgerKey],
+) -> Result<bool, NoMemory>
+    requires read_only { All (λ key. key_format.fits key) read_only.now }
+    requires read_write { All (λ key. key_format.fits key) read_write.now }
+    ensures { IfOk result (λ b. b ≡ is_footprint (read_only.now ++ read_write.now)) }
 {
-    let read_only = footprint.read_only.as_slice();
-    let read_write = footprint.read_write.as_slice();
     let mut spellings = Vec::new(alloc);
     spell_keys(alloc, read_only, &mut spellings)?;
     spell_keys(alloc, read_write, &mut spellings)?;

@@ -1,10 +1,11 @@
 //! What becomes of one transaction over the entries of a ledger.
 #![tactic(auto)]
 
+mod bounds;
 mod checks;
 mod extend;
 mod footprint;
 mod transaction;
 
-pub use footprint::{footprint_of, spell_keys};
+pub use footprint::{read_only_of, read_write_of};
 pub use transaction::{TxDone, enforce};

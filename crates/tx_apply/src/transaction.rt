@@ -3,20 +3,21 @@
 ghost use Rattle.std.specs.Prelude.{◌≡◌, [], ◌∷◌, All, IfOk, IsTrue};
 ghost use Rattle.ledger_types.specs.Key.{key_format};
 ghost use Rattle.ledger_spec.specs.LedgerFile.{are_settings, has_next};
-ghost use Rattle.apply_spec.specs.Checks.{footprint_of as footprint_in};
-ghost use Rattle.apply_spec.specs.Enforced.{enforced, first_performed, extended};
+ghost use Rattle.apply_spec.specs.Checks.{footprint_of};
+ghost use Rattle.tx_xdr.specs.Limits.{today, takes_operation};
+ghost use Rattle.tx_xdr.specs.Operation.{kind};
+ghost use Rattle.apply_spec.specs.Enforced.{enforced, extended, performed, runs_today, without_effect as without_effect_in};
 ghost use Rattle.tx_apply.specs.Done.{done_of};
 
 use crate::checks::refusal_of;
 use crate::extend::{extensions, may_extend};
-use crate::footprint::footprint_of;
+use crate::footprint::{read_only_of, read_write_of};
 use apply_spec::Extension;
 use contract_storage::Ground;
 use ledger_types::Header;
 use std::alloc::Global;
-use tx_xdr::{
-    ExtendResult, Footprint, OperationBody, OperationResult, Transaction, TransactionOutcome,
-};
+use tx_results::{ExtendResult, InnerResult, OperationResult, TransactionOutcome};
+use tx_xdr::{OperationBody, Transaction};
 use value_types::Items;
 use xdr_core::NoMemory;
 
@@ -40,13 +41,27 @@ fn without_effect(alloc: Global, outcome: TransactionOutcome) -> TxDone
 
 fn one_result(
     alloc: Global,
-    result_of_extend: ExtendResult,
+    only: OperationResult,
 ) -> Result<Items<OperationResult, 4294967295>, NoMemory>
-    ensures { IfOk result (λ results. results ≡ OperationResult.Extend result_of_extend ∷ []) }
+    ensures { IfOk result (λ results. results ≡ only ∷ []) }
 {
     let mut results = Vec::new(alloc);
-    results.push(OperationResult::Extend(result_of_extend))?;
+    results.push(only)?;
     Ok(Items::from_vec(results))
+}
+
+fn extension(result_of_extend: ExtendResult) -> OperationResult
+    ensures { result ≡ OperationResult.Inner (InnerResult.Extend result_of_extend) }
+{
+    OperationResult::Inner(InnerResult::Extend(result_of_extend))
+}
+
+/// A transaction whose one operation failed.
+fn failed(alloc: Global, only: OperationResult) -> Result<TxDone, NoMemory>
+    ensures { IfOk result (λ done. done_of done ≡ without_effect_in (TransactionOutcome.Failed (only ∷ []))) }
+{
+    let results = one_result(alloc, only)?;
+    Ok(without_effect(alloc, TransactionOutcome::Failed(results)))
 }
 
 /// EXTEND_FOOTPRINT_TTL.
@@ -54,50 +69,69 @@ fn extend<G: Ground>(
     alloc: Global,
     ground: &G,
     header: &Header,
-    footprint: &Footprint,
+    tx: &Transaction,
     extend_to: u32,
 ) -> Result<TxDone, NoMemory>
-    requires read_only { All (λ key. key_format.fits key) footprint.now.read_only }
+    requires read_only { All (λ key. key_format.fits key) (footprint_of tx.now).read_only }
     requires settings { IsTrue (are_settings header.now.settings) }
     requires next { IsTrue (has_next header.now) }
-    ensures { IfOk result (λ done. done_of done ≡ extended header.now (G.map ground.now) footprint.now extend_to) }
+    ensures { IfOk result (λ done. done_of done ≡ extended header.now (G.map ground.now) (footprint_of tx.now) extend_to) }
 {
-    if !may_extend(&header.settings, footprint, extend_to) {
-        let results = one_result(alloc, ExtendResult::Malformed)?;
-        return Ok(without_effect(alloc, TransactionOutcome::Failed(results)));
+    let keys = read_only_of(tx);
+    if !may_extend(&header.settings, keys, read_write_of(tx), extend_to) {
+        return failed(alloc, extension(ExtendResult::Malformed));
     }
     let n = header.seq + 1;
-    let keys = footprint.read_only.as_slice();
     let extensions = extensions(alloc, ground, n, keys, n + extend_to)?;
-    let results = one_result(alloc, ExtendResult::Success)?;
+    let results = one_result(alloc, extension(ExtendResult::Success))?;
     Ok(TxDone {
         outcome: TransactionOutcome::Success(results),
         extensions: Items::from_vec(extensions),
     })
 }
 
-/// What becomes of a transaction over a ground, in the ledger after that of the header.
+/// The one operation of a transaction that passed its checks.
+fn perform<G: Ground>(
+    alloc: Global,
+    ground: &G,
+    header: &Header,
+    tx: &Transaction,
+    body: &OperationBody,
+) -> Result<TxDone, NoMemory>
+    requires runs { IsTrue (takes_operation today (kind body.now)) }
+    requires read_only { All (λ key. key_format.fits key) (footprint_of tx.now).read_only }
+    requires settings { IsTrue (are_settings header.now.settings) }
+    requires next { IsTrue (has_next header.now) }
+    ensures { IfOk result (λ done. done_of done ≡ performed header.now (G.map ground.now) tx.now body.now) }
+{
+    match body {
+        OperationBody::ExtendFootprintTtl { extend_to } => {
+            extend(alloc, ground, header, tx, *extend_to)
+        }
+        OperationBody::RestoreFootprint => failed(alloc, OperationResult::NotSupported),
+        OperationBody::InvokeHostFunction { .. } => unreachable!(),
+    }
+}
+
+/// What becomes of a transaction over a ground, in the ledger after that of the header, whose close time the header has.
 pub fn enforce<G: Ground>(
     alloc: Global,
     ground: &G,
     header: &Header,
     tx: &Transaction,
 ) -> Result<TxDone, NoMemory>
-    requires read_only { All (λ key. key_format.fits key) (footprint_in tx.now).read_only }
-    requires read_write { All (λ key. key_format.fits key) (footprint_in tx.now).read_write }
+    requires runs { IsTrue (runs_today tx.now) }
+    requires read_only { All (λ key. key_format.fits key) (footprint_of tx.now).read_only }
+    requires read_write { All (λ key. key_format.fits key) (footprint_of tx.now).read_write }
     requires settings { IsTrue (are_settings header.now.settings) }
     requires next { IsTrue (has_next header.now) }
     ensures { IfOk result (λ done. done_of done ≡ enforced header.now (G.map ground.now) tx.now) }
 {
-    if let Some(outcome) = refusal_of(alloc, tx)? {
+    if let Some(outcome) = refusal_of(alloc, header, tx)? {
         return Ok(without_effect(alloc, outcome));
     }
     match tx.operations.as_slice() {
         [] => Ok(without_effect(alloc, TransactionOutcome::MissingOperation)),
-        [operation, ..] => match operation.body {
-            OperationBody::ExtendFootprintTtl { extend_to } => {
-                extend(alloc, ground, header, footprint_of(tx), extend_to)
-            }
-        },
+        [operation, ..] => perform(alloc, ground, header, tx, &operation.body),
     }
 }

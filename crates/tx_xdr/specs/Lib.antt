@@ -1,9 +1,8 @@
 pub mod Limits
-pub mod Account
-pub mod Conditions
+pub mod Among
 pub mod Operation
 pub mod Soroban
+pub mod Ext
 pub mod Transaction
 pub mod Set
-pub mod Results
 pub mod Hashes

@@ -1,10 +1,26 @@
--- How many members the lists of a set may have at most. The grammar of sets is one, and this is its parameter.
+-- How wide the grammar of sets is. The grammar is one, and this is its parameter.
+use Rattle.std.specs.Prelude.{Bool, true, false}
 use Rattle.tx_xdr.specs.declared.limits.Limits.{Limits}
+use Rattle.tx_xdr.specs.declared.transaction.OperationType.{OperationType}
+use Rattle.tx_xdr.specs.declared.transaction.OperationType.TheVariants as operations
+use Rattle.tx_xdr.specs.declared.set.PhaseType.{PhaseType}
+use Rattle.tx_xdr.specs.declared.set.PhaseType.TheVariants as phases
 
--- every set: counts are bounded by their word, and a transaction has at most 100 operations (XDR file Stellar-transaction, MAX_OPS_PER_TX)
+-- every set: counts are bounded by their word alone, and both types of phases and all types of operations are taken
 abbrev pub whole : Limits
-whole = record { parts = 4294967295; envelopes = 4294967295; operations = 100 }
+whole = record { parts = 4294967295; component_phases = true; host_functions = true }
 
--- the sets that run today (own): at most one of each
+-- the sets that run today (own): at most one phase of one stage of one cluster, without host functions
 abbrev pub today : Limits
-today = record { parts = 1; envelopes = 1; operations = 1 }
+today = record { parts = 1; component_phases = false; host_functions = false }
+
+-- whether phases of a type are taken
+abbrev pub takes_phase : Limits → PhaseType → Bool
+takes_phase limits phases.Components = limits.component_phases
+takes_phase limits phases.Parallel = true
+
+-- whether operations of a type are taken
+abbrev pub takes_operation : Limits → OperationType → Bool
+takes_operation limits operations.InvokeHostFunction = limits.host_functions
+takes_operation limits operations.ExtendFootprintTtl = true
+takes_operation limits operations.RestoreFootprint = true

@@ -1,24 +1,46 @@
--- Transaction sets (XDR file Stellar-ledger, `GeneralizedTransactionSet`, after CAP-0063): phases of stages of clusters of envelopes.
-use Rattle.std.specs.Prelude.{◌≡◌, ℤ, List, Option}
+-- Transaction sets (XDR file Stellar-ledger, `GeneralizedTransactionSet`, after CAP-0063): phases, which are components of envelopes
+-- or stages of clusters of envelopes.
+use Rattle.std.specs.Prelude.{◌≡◌, ◌<◌, ◌^◌, ℕ, ℤ, List, [], ◌∷◌, Option, Some, None}
 use Rattle.std.proofs.Common.{refl, arith}
-use Rattle.xdr_spec.specs.Format.{Format, via, pair, list, optional, signed64}
+use Rattle.xdr_spec.specs.Format.{Format, via, pair, list, arm, optional, signed64, enumeration, find_kind}
 use Rattle.xdr_spec.specs.Laws.{IsFormat}
 use Rattle.xdr_spec.proofs.Pairs.{pair_lawful}
-use Rattle.xdr_spec.proofs.Remade.{via_lawful}
-use Rattle.xdr_spec.proofs.Derived.{list_lawful, optional_lawful, signed64_lawful}
+use Rattle.xdr_spec.proofs.Remade.{via_lawful, arm_lawful, arm_kind}
+use Rattle.xdr_spec.proofs.Derived.{list_lawful, optional_lawful, signed64_lawful, enumeration_lawful, find_kind-back}
 use Rattle.value_types.specs.Headed.{headed, headed_lawful}
 use Rattle.value_types.specs.Hash.{hash_format, hash_lawful}
 use Rattle.value_types.specs.declared.hash.Hash.{Hash}
+use Rattle.tx_xdr.specs.Limits.{takes_phase}
+use Rattle.tx_xdr.specs.Among.{union_among, union_among_lawful}
 use Rattle.tx_xdr.specs.Transaction.{envelope_format, envelope_lawful}
 use Rattle.tx_xdr.specs.declared.limits.Limits.{Limits}
 use Rattle.tx_xdr.specs.declared.transaction.Envelope.{Envelope}
+use Rattle.tx_xdr.specs.declared.set.Component.{Component}
 use Rattle.tx_xdr.specs.declared.set.Cluster.{Cluster}
 use Rattle.tx_xdr.specs.declared.set.Stage.{Stage}
+use Rattle.tx_xdr.specs.declared.set.PhaseType.{PhaseType}
+use Rattle.tx_xdr.specs.declared.set.PhaseType.TheVariants as types
 use Rattle.tx_xdr.specs.declared.set.Phase.{Phase}
-use Rattle.tx_xdr.specs.declared.set.Phase.TheVariants.{Parallel}
+use Rattle.tx_xdr.specs.declared.set.Phase.TheVariants as phases
 use Rattle.tx_xdr.specs.declared.set.TxSet.{TxSet}
 
--- ---- clusters
+-- ---- components: the number 0, an optional base fee, and envelopes
+
+abbrev pub component_of : Option ℤ × List Envelope → Component
+component_of f = record { base_fee = f.0; envelopes = f.1 }
+
+abbrev pub component_fields : Component → Option ℤ × List Envelope
+component_fields component = (component.base_fee, component.envelopes)
+
+unfoldable pub component_format : Limits → Format Component
+component_format limits = headed 0 (via component_of component_fields (pair (optional signed64) (list 4294967295 (envelope_format limits))))
+
+pub component_lawful : (limits : Limits) → IsFormat (component_format limits)
+unfolding component_format
+component_lawful limits = headed_lawful 0 _ (omega arith) (via_lawful component_of component_fields _ (λ f. refl) (λ component. refl)
+    (pair_lawful _ _ (optional_lawful _ signed64_lawful) (list_lawful 4294967295 _ (envelope_lawful limits))))
+
+-- ---- clusters: envelopes
 
 abbrev pub cluster_of : List Envelope → Cluster
 cluster_of envelopes = record { envelopes = envelopes }
@@ -27,13 +49,13 @@ abbrev pub envelopes_of : Cluster → List Envelope
 envelopes_of cluster = cluster.envelopes
 
 unfoldable pub cluster_format : Limits → Format Cluster
-cluster_format limits = via cluster_of envelopes_of (list limits.envelopes (envelope_format limits))
+cluster_format limits = via cluster_of envelopes_of (list 4294967295 (envelope_format limits))
 
 pub cluster_lawful : (limits : Limits) → IsFormat (cluster_format limits)
 unfolding cluster_format
-cluster_lawful limits = via_lawful cluster_of envelopes_of _ (λ envelopes. refl) (λ cluster. refl) (list_lawful limits.envelopes _ (envelope_lawful limits))
+cluster_lawful limits = via_lawful cluster_of envelopes_of _ (λ envelopes. refl) (λ cluster. refl) (list_lawful 4294967295 _ (envelope_lawful limits))
 
--- ---- stages
+-- ---- stages: clusters
 
 abbrev pub stage_of : List Cluster → Stage
 stage_of clusters = record { clusters = clusters }
@@ -48,27 +70,90 @@ pub stage_lawful : (limits : Limits) → IsFormat (stage_format limits)
 unfolding stage_format
 stage_lawful limits = via_lawful stage_of clusters_of _ (λ clusters. refl) (λ stage. refl) (list_lawful limits.parts _ (cluster_lawful limits))
 
--- ---- phases: the number 1, an optional base fee, and stages
+-- ---- phases: 0 and components, or 1, an optional base fee and stages
 
-abbrev pub phase_of : Option ℤ × List Stage → Phase
-phase_of f = Parallel f.0 f.1
+abbrev pub phase_number : PhaseType → ℕ
+phase_number types.Components = 0
+phase_number types.Parallel = 1
 
-abbrev pub phase_fields : Phase → Option ℤ × List Stage
-phase_fields (Parallel base_fee stages) = (base_fee, stages)
+abbrev pub phase_types : List PhaseType
+phase_types = types.Components ∷ types.Parallel ∷ []
 
-abbrev pub stages_of : Phase → List Stage
-stages_of (Parallel base_fee stages) = stages
+abbrev pub phase_type_of : ℕ → Option PhaseType
+phase_type_of = find_kind phase_number phase_types
+
+unfoldable pub phase_type_format : Format PhaseType
+phase_type_format = enumeration phase_number phase_type_of
+
+abbrev pub phase_type : Phase → PhaseType
+phase_type (phases.Components components) = types.Components
+phase_type (phases.Parallel base_fee stages) = types.Parallel
+
+abbrev pub components_phase : List Component → Phase
+components_phase components = phases.Components components
+
+abbrev pub as_components : Phase → Option (List Component)
+as_components (phases.Components components) = Some components
+as_components _ = None
+
+abbrev pub parallel_phase : Option ℤ × List Stage → Phase
+parallel_phase f = phases.Parallel f.0 f.1
+
+abbrev pub as_parallel : Phase → Option (Option ℤ × List Stage)
+as_parallel (phases.Parallel base_fee stages) = Some (base_fee, stages)
+as_parallel _ = None
+
+abbrev pub phase_arms : Limits → PhaseType → Format Phase
+phase_arms limits types.Components = arm components_phase as_components (list 4294967295 (component_format limits))
+phase_arms limits types.Parallel = arm parallel_phase as_parallel (pair (optional signed64) (list limits.parts (stage_format limits)))
 
 unfoldable pub phase_format : Limits → Format Phase
-phase_format limits = headed 1 (via phase_of phase_fields (pair (optional signed64) (list limits.parts (stage_format limits))))
+phase_format limits = union_among (takes_phase limits) phase_number phase_type_of phase_type (phase_arms limits)
 
-same_phase : (phase : Phase) → phase_of (phase_fields phase) ≡ phase
-same_phase (Parallel base_fee stages) = refl
+-- the stages that a phase has as such: one of components has none
+abbrev pub parallel_stages : Phase → List Stage
+parallel_stages (phases.Components components) = []
+parallel_stages (phases.Parallel base_fee stages) = stages
+
+small : (k : PhaseType) → phase_number k < 2 ^ 32
+small types.Components = omega arith
+small types.Parallel = omega arith
+
+there : (k : PhaseType) → phase_type_of (phase_number k) ≡ Some k
+there types.Components = refl
+there types.Parallel = refl
+
+pub phase_type_lawful : IsFormat phase_type_format
+unfolding phase_type_format
+phase_type_lawful = enumeration_lawful phase_number phase_type_of types.Parallel small there (find_kind-back phase_number phase_types)
+
+back_components : (v : Phase) (x : List Component) → as_components v ≡ Some x → components_phase x ≡ v
+back_components (phases.Components components) x e = cc
+back_components _ x e = absurd cc
+
+back_parallel : (v : Phase) (x : Option ℤ × List Stage) → as_parallel v ≡ Some x → parallel_phase x ≡ v
+back_parallel (phases.Parallel base_fee stages) x e = cc
+back_parallel _ x e = absurd cc
+
+arms_lawful : (limits : Limits) (k : PhaseType) → IsFormat (phase_arms limits k)
+arms_lawful limits types.Components = arm_lawful components_phase as_components _ (λ x. refl) back_components (list_lawful 4294967295 _ (component_lawful limits))
+arms_lawful limits types.Parallel = arm_lawful parallel_phase as_parallel _ (λ x. refl) back_parallel
+    (pair_lawful _ _ (optional_lawful _ signed64_lawful) (list_lawful limits.parts _ (stage_lawful limits)))
+
+coherent : (limits : Limits) (k : PhaseType) (v : Phase) → (phase_arms limits k).fits v → phase_type v ≡ k
+coherent limits types.Components v h = arm_kind phase_type types.Components components_phase as_components (list 4294967295 (component_format limits)) (λ x. refl) back_components v h
+coherent limits types.Parallel v h = arm_kind phase_type types.Parallel parallel_phase as_parallel (pair (optional signed64) (list limits.parts (stage_format limits))) (λ x. refl) back_parallel v h
 
 pub phase_lawful : (limits : Limits) → IsFormat (phase_format limits)
 unfolding phase_format
-phase_lawful limits = headed_lawful 1 _ (omega arith) (via_lawful phase_of phase_fields _ (λ f. refl) same_phase
-    (pair_lawful _ _ (optional_lawful _ signed64_lawful) (list_lawful limits.parts _ (stage_lawful limits))))
+phase_lawful limits = union_among_lawful (takes_phase limits) phase_number phase_type_of phase_type (phase_arms limits) (record {
+  some = types.Parallel;
+  small = small;
+  there = there;
+  back = find_kind-back phase_number phase_types;
+  bodies = arms_lawful limits;
+  coherent = coherent limits;
+}) refl
 
 -- ---- sets: version 1, the hash of the ledger before, and phases
 

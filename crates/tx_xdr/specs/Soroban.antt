@@ -1,5 +1,5 @@
 -- What a transaction declares (XDR file Stellar-transaction, `LedgerFootprint`, `SorobanResources` and `SorobanTransactionData`).
-use Rattle.std.specs.Prelude.{◌≡◌, ℕ, ℤ, List}
+use Rattle.std.specs.Prelude.{ℕ, ℤ, List}
 use Rattle.std.proofs.Common.{refl, arith}
 use Rattle.xdr_spec.specs.Format.{Format, via, pair, list, number32, signed64}
 use Rattle.xdr_spec.specs.Laws.{IsFormat}
@@ -11,8 +11,6 @@ use Rattle.ledger_types.specs.Key.{key_format, key_lawful}
 use Rattle.ledger_types.specs.declared.key.LedgerKey.{LedgerKey}
 use Rattle.tx_xdr.specs.declared.transaction.Footprint.{Footprint}
 use Rattle.tx_xdr.specs.declared.transaction.SorobanData.{SorobanData}
-use Rattle.tx_xdr.specs.declared.transaction.TransactionExt.{TransactionExt}
-use Rattle.tx_xdr.specs.declared.transaction.TransactionExt.TheVariants.{Soroban}
 
 -- ---- the footprint: the keys that are read alone, and those that are written
 
@@ -47,21 +45,3 @@ pub soroban_lawful : IsFormat soroban_format
 unfolding soroban_format
 soroban_lawful = headed_lawful 0 _ (omega arith) (via_lawful soroban_of soroban_fields _ (λ f. refl) (λ soroban. refl)
     (pair_lawful _ _ footprint_lawful (pair_lawful _ _ number32_lawful (pair_lawful _ _ number32_lawful (pair_lawful _ _ number32_lawful signed64_lawful)))))
-
--- ---- what follows a transaction's operations: the number 1, and what is declared
-
-abbrev pub ext_of : SorobanData → TransactionExt
-ext_of soroban = Soroban soroban
-
-abbrev pub declared_in : TransactionExt → SorobanData
-declared_in (Soroban soroban) = soroban
-
-unfoldable pub ext_format : Format TransactionExt
-ext_format = headed 1 (via ext_of declared_in soroban_format)
-
-same_ext : (ext : TransactionExt) → ext_of (declared_in ext) ≡ ext
-same_ext (Soroban soroban) = refl
-
-pub ext_lawful : IsFormat ext_format
-unfolding ext_format
-ext_lawful = headed_lawful 1 _ (omega arith) (via_lawful ext_of declared_in soroban_format (λ soroban. refl) same_ext soroban_lawful)

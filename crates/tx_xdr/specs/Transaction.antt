@@ -1,28 +1,29 @@
--- Transactions and their envelopes (XDR file Stellar-transaction, `Transaction`, `DecoratedSignature` and `TransactionEnvelope`).
+-- Transactions and their envelopes (XDR file Stellar-transaction, `Transaction` and `TransactionEnvelope`).
 use Rattle.std.specs.Prelude.{ℕ, ℤ, List}
 use Rattle.std.proofs.Common.{refl, arith}
-use Rattle.xdr_spec.specs.Format.{Format, via, pair, list, opaque, fixed_opaque, number32, signed64}
+use Rattle.xdr_spec.specs.Format.{Format, via, pair, list, number32, signed64}
 use Rattle.xdr_spec.specs.Laws.{IsFormat}
 use Rattle.xdr_spec.proofs.Pairs.{pair_lawful}
 use Rattle.xdr_spec.proofs.Remade.{via_lawful}
-use Rattle.xdr_spec.proofs.FixedOpaque.{fixed_opaque_lawful}
-use Rattle.xdr_spec.proofs.Derived.{list_lawful, opaque_lawful, number32_lawful, signed64_lawful}
+use Rattle.xdr_spec.proofs.Derived.{list_lawful, number32_lawful, signed64_lawful}
 use Rattle.value_types.specs.Headed.{headed, headed_lawful}
-use Rattle.tx_xdr.specs.Account.{account_format, account_lawful}
-use Rattle.tx_xdr.specs.Conditions.{preconditions_format, preconditions_lawful, memo_format, memo_lawful}
+use Rattle.tx_parts.specs.MuxedAccount.{account_format, account_lawful}
+use Rattle.tx_parts.specs.Preconditions.{preconditions_format, preconditions_lawful}
+use Rattle.tx_parts.specs.Memo.{memo_format, memo_lawful}
+use Rattle.tx_parts.specs.Signature.{signature_format, signature_lawful}
+use Rattle.tx_parts.specs.declared.account.MuxedAccount.{MuxedAccount}
+use Rattle.tx_parts.specs.declared.preconditions.Preconditions.{Preconditions}
+use Rattle.tx_parts.specs.declared.memo.Memo.{Memo}
+use Rattle.tx_parts.specs.declared.signature.DecoratedSignature.{DecoratedSignature}
 use Rattle.tx_xdr.specs.Operation.{operation_format, operation_lawful}
-use Rattle.tx_xdr.specs.Soroban.{ext_format, ext_lawful}
+use Rattle.tx_xdr.specs.Ext.{ext_format, ext_lawful}
 use Rattle.tx_xdr.specs.declared.limits.Limits.{Limits}
-use Rattle.tx_xdr.specs.declared.transaction.MuxedAccount.{MuxedAccount}
-use Rattle.tx_xdr.specs.declared.transaction.Preconditions.{Preconditions}
-use Rattle.tx_xdr.specs.declared.transaction.Memo.{Memo}
 use Rattle.tx_xdr.specs.declared.transaction.Operation.{Operation}
 use Rattle.tx_xdr.specs.declared.transaction.TransactionExt.{TransactionExt}
 use Rattle.tx_xdr.specs.declared.transaction.Transaction.{Transaction}
-use Rattle.tx_xdr.specs.declared.transaction.DecoratedSignature.{DecoratedSignature}
 use Rattle.tx_xdr.specs.declared.transaction.Envelope.{Envelope}
 
--- ---- the transaction: its fields in order
+-- ---- the transaction: its fields in order, with at most 100 operations (MAX_OPS_PER_TX)
 
 abbrev pub TransactionFields : Type 0
 TransactionFields = MuxedAccount × (ℕ × (ℤ × (Preconditions × (Memo × (List Operation × TransactionExt)))))
@@ -35,28 +36,13 @@ transaction_fields tx = (tx.source, (tx.fee, (tx.seq_num, (tx.preconditions, (tx
 
 unfoldable pub transaction_format : Limits → Format Transaction
 transaction_format limits = via transaction_of transaction_fields
-    (pair account_format (pair number32 (pair signed64 (pair preconditions_format (pair memo_format (pair (list limits.operations operation_format) ext_format))))))
+    (pair account_format (pair number32 (pair signed64 (pair preconditions_format (pair memo_format (pair (list 100 (operation_format limits)) ext_format))))))
 
 pub transaction_lawful : (limits : Limits) → IsFormat (transaction_format limits)
 unfolding transaction_format
 transaction_lawful limits = via_lawful transaction_of transaction_fields _ (λ f. refl) (λ tx. refl)
     (pair_lawful _ _ account_lawful (pair_lawful _ _ number32_lawful (pair_lawful _ _ signed64_lawful (pair_lawful _ _ preconditions_lawful
-    (pair_lawful _ _ memo_lawful (pair_lawful _ _ (list_lawful limits.operations _ operation_lawful) ext_lawful))))))
-
--- ---- a signature: the last four bytes of the key that made it, and then at most 64 bytes
-
-abbrev pub signature_of : List ℕ × List ℕ → DecoratedSignature
-signature_of f = record { hint = f.0; signature = f.1 }
-
-abbrev pub signature_fields : DecoratedSignature → List ℕ × List ℕ
-signature_fields signature = (signature.hint, signature.signature)
-
-unfoldable pub signature_format : Format DecoratedSignature
-signature_format = via signature_of signature_fields (pair (fixed_opaque 4) (opaque 64))
-
-pub signature_lawful : IsFormat signature_format
-unfolding signature_format
-signature_lawful = via_lawful signature_of signature_fields _ (λ f. refl) (λ signature. refl) (pair_lawful _ _ (fixed_opaque_lawful 4) (opaque_lawful 64))
+    (pair_lawful _ _ memo_lawful (pair_lawful _ _ (list_lawful 100 _ (operation_lawful limits)) ext_lawful))))))
 
 -- ---- the envelope: the number 2 (ENVELOPE_TYPE_TX), the transaction, and at most 20 signatures
 

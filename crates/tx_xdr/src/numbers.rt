@@ -4,5 +4,3 @@
 pub const NO_EXT: u32 = 0;
 /// An envelope with a `Transaction` (ENVELOPE_TYPE_TX), in envelopes and in what is hashed.
 pub const ENVELOPE_TYPE_TX: u32 = 2;
-/// The operation EXTEND_FOOTPRINT_TTL, in bodies and in results.
-pub const EXTEND_FOOTPRINT_TTL: u32 = 25;

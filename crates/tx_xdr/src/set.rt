@@ -1,27 +1,64 @@
 //! Transaction sets (`GeneralizedTransactionSet`).
 
 ghost use Rattle.std.specs.Prelude.{◌≡◌};
-ghost use Rattle.tx_xdr.specs.Set.{stages_of};
+ghost use Rattle.tx_xdr.specs.Set.{phase_number, phase_type_of, phase_type, parallel_stages};
 
 use crate::transaction::Envelope;
 use value_types::{Hash, Items};
 
-/// Transactions that run one after the other.
+/// Transactions that run one after the other, in a phase of such (`TxSetComponent`, of type 0).
+#[derive(Drop)]
+pub struct Component {
+    pub base_fee: Option<i64>,
+    pub envelopes: Items<Envelope, 4294967295>,
+}
+
+/// Transactions that run one after the other (`DependentTxCluster`).
 #[derive(Drop)]
 pub struct Cluster {
     pub envelopes: Items<Envelope, 4294967295>,
 }
 
-/// Clusters that may run beside each other.
+/// Clusters that may run beside each other (`ParallelTxExecutionStage`).
 #[derive(Drop)]
 pub struct Stage {
     pub clusters: Items<Cluster, 4294967295>,
 }
 
-/// Stages that run one after the other.
+/// How a phase runs.
+#[derive(Clone, Copy, Debug, PartialEq, Eq)]
+pub enum PhaseType {
+    Components,
+    Parallel,
+}
+
+impl PhaseType {
+    pub fn from_number(number: u32) -> Option<PhaseType>
+        ensures { result ≡ phase_type_of number }
+    {
+        match number {
+            0 => Some(PhaseType::Components),
+            1 => Some(PhaseType::Parallel),
+            _ => None,
+        }
+    }
+
+    pub fn number(self) -> u32
+        ensures { result ≡ phase_number self }
+    {
+        match self {
+            PhaseType::Components => 0,
+            PhaseType::Parallel => 1,
+        }
+    }
+}
+
+/// A part of a set (`TransactionPhase`).
 #[derive(Drop)]
 pub enum Phase {
-    /// 1.
+    /// 0: components that run one after the other.
+    Components(Items<Component, 4294967295>),
+    /// 1: stages that run one after the other.
     Parallel {
         base_fee: Option<i64>,
         stages: Items<Stage, 4294967295>,
@@ -29,16 +66,27 @@ pub enum Phase {
 }
 
 impl Phase {
-    /// The stages, in the order in which they run.
-    pub fn stages(&self) -> &[Stage]
-        ensures { result.now ≡ stages_of self.now }
+    pub fn phase_type(&self) -> PhaseType
+        ensures { result ≡ phase_type self.now }
     {
-        let Phase::Parallel { stages, .. } = self;
-        stages.as_slice()
+        match self {
+            Phase::Components(_) => PhaseType::Components,
+            Phase::Parallel { .. } => PhaseType::Parallel,
+        }
+    }
+
+    /// The stages, in the order in which they run; none where the phase has components.
+    pub fn stages(&self) -> &[Stage]
+        ensures { result.now ≡ parallel_stages self.now }
+    {
+        match self {
+            Phase::Components(_) => &[],
+            Phase::Parallel { stages, .. } => stages.as_slice(),
+        }
     }
 }
 
-/// A transaction set, of version 1.
+/// A transaction set, of version 1 (`TransactionSetV1`).
 #[derive(Drop)]
 pub struct TxSet {
     pub previous_ledger_hash: Hash,

@@ -1,23 +1,20 @@
 //! The spelling of what a transaction declares.
 
-ghost use Rattle.tx_xdr.specs.Soroban.{footprint_format, footprint_lawful, soroban_format, soroban_lawful, ext_format, ext_lawful};
+ghost use Rattle.tx_xdr.specs.Soroban.{footprint_format, footprint_lawful, soroban_format, soroban_lawful};
 
 use crate::numbers::NO_EXT;
-use crate::transaction::{Footprint, SorobanData, TransactionExt};
+use crate::transaction::{Footprint, SorobanData};
 use ledger_types::LedgerKey;
 use std::alloc::Global;
 use value_types::Items;
 use value_xdr::{Xdr, read_head};
 use xdr_core::{Cursor, NoMemory, Out, ReadXdr, add_sizes};
 
-/// The number of the extension that declares a footprint.
-const SOROBAN: u32 = 1;
-
 #[tactic(auto, unfolding(crate::specs::Soroban::footprint_format, xdr_core::specs::Sizes::capped))]
 impl Xdr for Footprint {
     ghost format = { footprint_format };
 
-    fn read(alloc: Global, input: &mut Cursor<'_>) -> Result<Footprint, ReadXdr> {
+    fn read_parts(alloc: Global, input: &mut Cursor<'_>) -> Result<Footprint, ReadXdr> {
         let read_only = Items::<LedgerKey, 4294967295>::read(alloc, input)?;
         let read_write = Items::<LedgerKey, 4294967295>::read(alloc, input)?;
         Ok(Footprint {
@@ -26,7 +23,7 @@ impl Xdr for Footprint {
         })
     }
 
-    fn write(&self, out: &mut Out) -> Result<(), NoMemory> {
+    fn write_parts(&self, out: &mut Out) -> Result<(), NoMemory> {
         self.read_only.write(out)?;
         self.read_write.write(out)
     }
@@ -42,7 +39,7 @@ impl Xdr for Footprint {
 impl Xdr for SorobanData {
     ghost format = { soroban_format };
 
-    fn read(alloc: Global, input: &mut Cursor<'_>) -> Result<SorobanData, ReadXdr> {
+    fn read_parts(alloc: Global, input: &mut Cursor<'_>) -> Result<SorobanData, ReadXdr> {
         read_head(input, NO_EXT)?;
         let footprint = Footprint::read(alloc, input)?;
         let instructions = u32::read(alloc, input)?;
@@ -58,7 +55,7 @@ impl Xdr for SorobanData {
         })
     }
 
-    fn write(&self, out: &mut Out) -> Result<(), NoMemory> {
+    fn write_parts(&self, out: &mut Out) -> Result<(), NoMemory> {
         out.put_u32(NO_EXT)?;
         self.footprint.write(out)?;
         self.instructions.write(out)?;
@@ -74,27 +71,4 @@ impl Xdr for SorobanData {
     }
 
     ghost lawful = { soroban_lawful };
-}
-
-#[tactic(auto, unfolding(crate::specs::Soroban::ext_format, xdr_core::specs::Sizes::capped))]
-impl Xdr for TransactionExt {
-    ghost format = { ext_format };
-
-    fn read(alloc: Global, input: &mut Cursor<'_>) -> Result<TransactionExt, ReadXdr> {
-        read_head(input, SOROBAN)?;
-        Ok(TransactionExt::Soroban(SorobanData::read(alloc, input)?))
-    }
-
-    fn write(&self, out: &mut Out) -> Result<(), NoMemory> {
-        let TransactionExt::Soroban(soroban) = self;
-        out.put_u32(SOROBAN)?;
-        soroban.write(out)
-    }
-
-    fn size(&self) -> u64 {
-        let TransactionExt::Soroban(soroban) = self;
-        soroban.size().saturating_add(4)
-    }
-
-    ghost lawful = { ext_lawful };
 }

@@ -1,18 +1,13 @@
-ghost use Rattle.std.specs.Prelude.{IfOk, IfSome};
-ghost use Rattle.value_types.specs.Hash.{hash_format};
+ghost use Rattle.std.specs.Prelude.{IfSome};
 ghost use Rattle.tx_xdr.specs.Limits.{whole, today};
 ghost use Rattle.tx_xdr.specs.Transaction.{transaction_format};
 ghost use Rattle.tx_xdr.specs.Set.{set_format};
-ghost use Rattle.tx_xdr.specs.Results.{result_set_format};
 
-use crate::results::{
-    ExtendResult, OperationResult, ResultSet, TransactionOutcome, TransactionResult,
-    TransactionResultPair,
-};
-use crate::{Transaction, TxSet, read_set, tx_hash, write_report, write_results};
+use crate::{Transaction, TxSet, read_envelope, read_set, read_set_today, tx_hash};
 use std::alloc::{AllocError, Global};
 use std::test::Fail;
-use value_types::{Hash, Items};
+use value_types::Hash;
+use value_xdr::{Xdr, encode};
 use xdr_core::{ReadXdr, Why, XdrErr};
 
 /// A set of one transaction that extends the life of one data entry by 500 ledgers, as words.
@@ -33,7 +28,7 @@ fn bytes_of(alloc: Global, words: &[u32]) -> Result<Vec<u8>, AllocError> {
 }
 
 fn refusal(alloc: Global, bytes: &[u8]) -> Option<ReadXdr> {
-    read_set(alloc, bytes).err()
+    read_set_today(alloc, bytes).err()
 }
 
 fn bad(at: u64, why: Why) -> Option<ReadXdr> {
@@ -70,30 +65,33 @@ fn reads_a_set_without_phases(rt: HostRuntime) -> Result<(), Fail> {
     Ok(())
 }
 
-/// Another word at a place, and what it is refused for.
-const OTHER_WORDS: [(usize, u32, Why); 22] = [
+/// Another word at a place, and what it is refused for in a set that is to run today.
+const OTHER_WORDS: [(usize, u32, Why); 23] = [
     (0, 2, Why::Tag),
     (36, 2, Why::Limit),
     (40, 0, Why::Tag),
     (44, 2, Why::Boolean),
     (48, 2, Why::Limit),
     (52, 2, Why::Limit),
-    (56, 2, Why::Limit),
     (60, 5, Why::Tag),
-    (64, 0x100, Why::Tag),
-    (112, 1, Why::Tag),
-    (116, 1, Why::Tag),
-    (120, 2, Why::Limit),
+    (64, 0x101, Why::Tag),
+    (112, 3, Why::Tag),
+    (116, 5, Why::Tag),
+    (120, 101, Why::Limit),
     (124, 2, Why::Boolean),
+    // A payment.
     (128, 1, Why::Tag),
+    // A call of a contract.
+    (128, 24, Why::Tag),
     (132, 1, Why::Tag),
-    (140, 0, Why::Tag),
+    (140, 2, Why::Tag),
     (144, 1, Why::Tag),
     (152, 8, Why::Tag),
     (156, 2, Why::Tag),
     (200, 0x61620001, Why::Padding),
     (204, 2, Why::Tag),
     (232, 21, Why::Limit),
+    (56, 0, Why::Trailing),
 ];
 
 #[test]
@@ -104,12 +102,85 @@ fn refuses_other_words(rt: HostRuntime) -> Result<(), Fail> {
         assert!(rt; place / 4 < 59);
         words[place / 4] = word;
         let bytes = bytes_of(alloc, &words)?;
-        assert_eq!(rt;
-            refusal(alloc, &bytes),
-            bad(place as u64, why),
-            "at {place}"
-        );
+        let at = if why == Why::Trailing {
+            60
+        } else {
+            place as u64
+        };
+        assert_eq!(rt; refusal(alloc, &bytes), bad(at, why), "at {place}");
     }
+    Ok(())
+}
+
+/// Whether the bytes are the spelling of a set, which is as long as its size says.
+fn is_set(alloc: Global, bytes: &[u8]) -> Result<bool, Fail> {
+    let set = read_set(alloc, bytes)?;
+    let again = encode(alloc, &set)?;
+    Ok(again.as_slice() == bytes && set.size() == bytes.len() as u64)
+}
+
+/// An envelope with one signature: a transaction of an account with an id, with bounds of both kinds and a memo, of a restoration
+/// and an extension by another account, which declares nothing.
+const RESTORATION: [u32; 55] = [
+    2, 0x100, 0, 9, 0x07070707, 0x07070707, 0x07070707, 0x07070707, 0x07070707, 0x07070707,
+    0x07070707, 0x07070707, 100, 0, 7, 2, 1, 0, 1, 0, 2, 1, 3, 4, 0, 0, 0, 0, 0, 1, 5, 0x68656c6c,
+    0x6f000000, 2, 0, 26, 0, 1, 0, 0x01010101, 0x01010101, 0x01010101, 0x01010101, 0x01010101,
+    0x01010101, 0x01010101, 0x01010101, 25, 0, 6, 0, 1, 0xaabbccdd, 3, 0x01020300,
+];
+
+/// A set of a phase of one component, which is one envelope with a base fee of 100, and of a phase of stages.
+fn two_phases(alloc: Global) -> Result<Vec<u8>, AllocError> {
+    let mut bytes = bytes_of(alloc, &SET)?;
+    bytes.truncate(36);
+    bytes.extend_from_slice(&bytes_of(alloc, &[2, 0, 1, 0, 1, 0, 100, 1])?)?;
+    bytes.extend_from_slice(&bytes_of(alloc, &RESTORATION)?)?;
+    bytes.extend_from_slice(&bytes_of(alloc, &SET[10..])?)?;
+    Ok(bytes)
+}
+
+#[test]
+fn reads_every_set(rt: HostRuntime) -> Result<(), Fail> {
+    let alloc = rt.alloc();
+    assert!(rt; is_set(alloc, &bytes_of(alloc, &SET)?)?);
+    let mut bytes = two_phases(alloc)?;
+    assert!(rt; is_set(alloc, &bytes)?);
+    assert_eq!(rt; refusal(alloc, &bytes), bad(36, Why::Limit));
+    let length = bytes.len() as u64;
+    bytes.push(0)?;
+    assert_eq!(rt; read_set(alloc, &bytes).err(), bad(length, Why::Trailing));
+    Ok(())
+}
+
+/// A call of `bump` of a contract, which the transaction's source authorises: the number of the body, the function, the entries.
+const INVOCATION: [u32; 30] = [
+    24, 0, 1, 0x0c0c0c0c, 0x0c0c0c0c, 0x0c0c0c0c, 0x0c0c0c0c, 0x0c0c0c0c, 0x0c0c0c0c, 0x0c0c0c0c,
+    0x0c0c0c0c, 4, 0x62756d70, 0, 1, 0, 0, 1, 0x0c0c0c0c, 0x0c0c0c0c, 0x0c0c0c0c, 0x0c0c0c0c,
+    0x0c0c0c0c, 0x0c0c0c0c, 0x0c0c0c0c, 0x0c0c0c0c, 4, 0x62756d70, 0, 0,
+];
+
+#[test]
+fn reads_invocations(rt: HostRuntime) -> Result<(), Fail> {
+    let alloc = rt.alloc();
+    let mut bytes = bytes_of(alloc, &SET)?;
+    bytes.truncate(128);
+    bytes.extend_from_slice(&bytes_of(alloc, &INVOCATION)?)?;
+    bytes.extend_from_slice(&bytes_of(alloc, &SET[35..])?)?;
+    assert!(rt; is_set(alloc, &bytes)?);
+    assert_eq!(rt; refusal(alloc, &bytes), bad(128, Why::Tag));
+    Ok(())
+}
+
+#[test]
+fn reads_envelopes(rt: HostRuntime) -> Result<(), Fail> {
+    let alloc = rt.alloc();
+    let bytes = bytes_of(alloc, &RESTORATION)?;
+    let envelope = read_envelope(alloc, &bytes)?;
+    assert_eq!(rt; envelope.tx.operations.as_slice().len(), 2);
+    assert_eq!(rt; envelope.size(), 220);
+    let again = encode(alloc, &envelope)?;
+    assert_eq!(rt; again.as_slice(), bytes.as_slice());
+    let empty = read_envelope(alloc, &[]);
+    assert_eq!(rt; empty.err(), bad(0, Why::End));
     Ok(())
 }
 
@@ -125,48 +196,18 @@ fn first_transaction(set: &TxSet) -> Option<&Transaction>
     Some(&envelope.tx)
 }
 
-/// The result set of one transaction that extended lives.
-fn one_result(alloc: Global, hash: Hash) -> Result<ResultSet, AllocError>
-    requires { hash_format.fits hash }
-    ensures { IfOk result result_set_format.fits }
-{
-    let mut operations = Vec::new(alloc);
-    operations.push(OperationResult::Extend(ExtendResult::Success))?;
-    let mut pairs = Vec::new(alloc);
-    pairs.push(TransactionResultPair {
-        hash,
-        result: TransactionResult {
-            fee_charged: 0,
-            outcome: TransactionOutcome::Success(Items::from_vec(operations)),
-        },
-    })?;
-    Ok(ResultSet {
-        pairs: Items::from_vec(pairs),
-    })
-}
-
 /// SHA-256, by another program, of 32 bytes of 05, the number 2 and the bytes 64 to 231 of the set.
 const HASH: [u32; 8] = [
     0xceca45cb, 0xe3d78d38, 0x5aa6ee3c, 0x7d99da6e, 0xda31ac74, 0x727e8978, 0x3b91708d, 0xc0eaf4f8,
 ];
 
 #[test]
-fn hashes_and_writes(rt: HostRuntime) -> Result<(), Fail> {
+fn hashes(rt: HostRuntime) -> Result<(), Fail> {
     let alloc = rt.alloc();
-    let set = read_set(alloc, &bytes_of(alloc, &SET)?)?;
+    let set = read_set_today(alloc, &bytes_of(alloc, &SET)?)?;
     let tx = first_transaction(&set).ok_or("no transaction")?;
     let hash = tx_hash(alloc, &Hash([5; 32]), tx)?;
     let expected = bytes_of(alloc, &HASH)?;
     assert_eq!(rt; hash.0.as_slice(), expected.as_slice());
-    let results = one_result(alloc, hash)?;
-    let mut report = bytes_of(alloc, &[1])?;
-    report.extend_from_slice(&hash.0)?;
-    report.extend_from_slice(&bytes_of(alloc, &[0, 0, 0, 1, 0, 25, 0, 0, 0])?)?;
-    assert_eq!(rt; report.len(), 72);
-    let written = write_report(alloc, &results)?;
-    assert_eq!(rt; written.as_slice(), report.as_slice());
-    report.truncate(68);
-    let written = write_results(alloc, &results)?;
-    assert_eq!(rt; written.as_slice(), report.as_slice());
     Ok(())
 }

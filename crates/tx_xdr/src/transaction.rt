@@ -1,38 +1,77 @@
 //! Transactions, and what they declare.
 
+ghost use Rattle.std.specs.Prelude.{◌≡◌};
+ghost use Rattle.tx_xdr.specs.Operation as operations;
+ghost use Rattle.tx_xdr.specs.Ext as exts;
+
+use auth_types::AuthEntry;
+use invoke_types::HostFunction;
 use ledger_types::LedgerKey;
-use value_types::{Bytes, Hash, Items};
+use tx_parts::{DecoratedSignature, Memo, MuxedAccount, Preconditions};
+use value_types::Items;
 
-/// An account, as a transaction names it.
+/// What an operation is (`OperationType`, without classic operations).
 #[derive(Clone, Copy, Debug, PartialEq, Eq)]
-pub enum MuxedAccount {
-    /// 0: an ed25519 public key.
-    Ed25519(Hash),
+pub enum OperationType {
+    InvokeHostFunction,
+    ExtendFootprintTtl,
+    RestoreFootprint,
 }
 
-/// What has to hold for a transaction to be valid.
-#[derive(Clone, Copy, Debug, PartialEq, Eq)]
-pub enum Preconditions {
-    /// 0.
-    None,
-}
+impl OperationType {
+    pub fn from_number(number: u32) -> Option<OperationType>
+        ensures { result ≡ operations.type_of number }
+    {
+        match number {
+            24 => Some(OperationType::InvokeHostFunction),
+            25 => Some(OperationType::ExtendFootprintTtl),
+            26 => Some(OperationType::RestoreFootprint),
+            _ => None,
+        }
+    }
 
-/// A note.
-#[derive(Clone, Copy, Debug, PartialEq, Eq)]
-pub enum Memo {
-    /// 0.
-    None,
+    pub fn number(self) -> u32
+        ensures { result ≡ operations.number self }
+    {
+        match self {
+            OperationType::InvokeHostFunction => 24,
+            OperationType::ExtendFootprintTtl => 25,
+            OperationType::RestoreFootprint => 26,
+        }
+    }
 }
 
 /// What an operation does.
-#[derive(Clone, Copy, Debug, PartialEq, Eq)]
+#[derive(Drop)]
 pub enum OperationBody {
+    /// 24: runs a function of the host.
+    InvokeHostFunction {
+        host_function: HostFunction,
+        /// What accounts and contracts authorise it to do.
+        auth: Items<AuthEntry, 4294967295>,
+    },
     /// 25: lets the entries of the read-only footprint live until the current ledger's number plus `extend_to`.
-    ExtendFootprintTtl { extend_to: u32 },
+    ExtendFootprintTtl {
+        extend_to: u32,
+    },
+    /// 26: brings back the entries of the read-write footprint that were archived.
+    RestoreFootprint,
+}
+
+impl OperationBody {
+    pub fn kind(&self) -> OperationType
+        ensures { result ≡ operations.kind self.now }
+    {
+        match self {
+            OperationBody::InvokeHostFunction { .. } => OperationType::InvokeHostFunction,
+            OperationBody::ExtendFootprintTtl { .. } => OperationType::ExtendFootprintTtl,
+            OperationBody::RestoreFootprint => OperationType::RestoreFootprint,
+        }
+    }
 }
 
 /// One step of a transaction.
-#[derive(Clone, Copy, Debug, PartialEq, Eq)]
+#[derive(Drop)]
 pub struct Operation {
     /// The transaction's source where there is none.
     pub source: Option<MuxedAccount>,
@@ -59,11 +98,52 @@ pub struct SorobanData {
     pub resource_fee: i64,
 }
 
+/// What may follow a transaction's operations.
+#[derive(Clone, Copy, Debug, PartialEq, Eq)]
+pub enum TransactionExtType {
+    None,
+    Soroban,
+}
+
+impl TransactionExtType {
+    pub fn from_number(number: u32) -> Option<TransactionExtType>
+        ensures { result ≡ exts.type_of number }
+    {
+        match number {
+            0 => Some(TransactionExtType::None),
+            1 => Some(TransactionExtType::Soroban),
+            _ => None,
+        }
+    }
+
+    pub fn number(self) -> u32
+        ensures { result ≡ exts.number self }
+    {
+        match self {
+            TransactionExtType::None => 0,
+            TransactionExtType::Soroban => 1,
+        }
+    }
+}
+
 /// What follows a transaction's operations.
 #[derive(Drop)]
 pub enum TransactionExt {
+    /// 0: a transaction that declares nothing.
+    None,
     /// 1.
     Soroban(SorobanData),
+}
+
+impl TransactionExt {
+    pub fn kind(&self) -> TransactionExtType
+        ensures { result ≡ exts.kind self.now }
+    {
+        match self {
+            TransactionExt::None => TransactionExtType::None,
+            TransactionExt::Soroban(_) => TransactionExtType::Soroban,
+        }
+    }
 }
 
 /// A transaction without its signatures.
@@ -76,13 +156,6 @@ pub struct Transaction {
     pub memo: Memo,
     pub operations: Items<Operation, 100>,
     pub ext: TransactionExt,
-}
-
-/// A signature, and the end of the key that made it.
-#[derive(Drop)]
-pub struct DecoratedSignature {
-    pub hint: [u8; 4],
-    pub signature: Bytes<64>,
 }
 
 /// A transaction with its signatures (envelope type 2).

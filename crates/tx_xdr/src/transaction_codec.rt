@@ -1,25 +1,23 @@
 //! The spelling of transactions and their envelopes.
 
 ghost use Rattle.tx_xdr.specs.Limits.{whole};
-ghost use Rattle.tx_xdr.specs.Transaction.{transaction_format, transaction_lawful, signature_format, signature_lawful, envelope_format, envelope_lawful};
+ghost use Rattle.tx_xdr.specs.Transaction.{transaction_format, transaction_lawful, envelope_format, envelope_lawful};
 
 use crate::limits::Limits;
 use crate::numbers::ENVELOPE_TYPE_TX;
-use crate::transaction::{
-    DecoratedSignature, Envelope, Memo, MuxedAccount, Operation, Preconditions, Transaction,
-    TransactionExt,
-};
-use crate::within::ReadWithin;
+use crate::transaction::{Envelope, Operation, Transaction, TransactionExt};
+use crate::within::{ReadWithin, read_list_within};
 use std::alloc::Global;
-use value_types::{Bytes, Items};
-use value_xdr::{Xdr, read_head, read_list};
+use tx_parts::{DecoratedSignature, Memo, MuxedAccount, Preconditions};
+use value_types::Items;
+use value_xdr::{Xdr, read_head};
 use xdr_core::{Cursor, NoMemory, Out, ReadXdr, add_sizes};
 
 #[tactic(auto, unfolding(crate::specs::Transaction::transaction_format))]
 impl ReadWithin for Transaction {
     ghost format = { transaction_format };
 
-    fn read_within(
+    fn read_parts_within(
         alloc: Global,
         input: &mut Cursor<'_>,
         limits: Limits,
@@ -29,7 +27,7 @@ impl ReadWithin for Transaction {
         let seq_num = i64::read(alloc, input)?;
         let preconditions = Preconditions::read(alloc, input)?;
         let memo = Memo::read(alloc, input)?;
-        let operations = read_list::<Operation>(alloc, input, limits.operations)?;
+        let operations = read_list_within::<Operation>(alloc, input, 100, limits)?;
         let ext = TransactionExt::read(alloc, input)?;
         Ok(Transaction {
             source,
@@ -49,11 +47,11 @@ impl ReadWithin for Transaction {
 impl Xdr for Transaction {
     ghost format = { transaction_format whole };
 
-    fn read(alloc: Global, input: &mut Cursor<'_>) -> Result<Transaction, ReadXdr> {
+    fn read_parts(alloc: Global, input: &mut Cursor<'_>) -> Result<Transaction, ReadXdr> {
         Transaction::read_within(alloc, input, Limits::whole())
     }
 
-    fn write(&self, out: &mut Out) -> Result<(), NoMemory> {
+    fn write_parts(&self, out: &mut Out) -> Result<(), NoMemory> {
         self.source.write(out)?;
         self.fee.write(out)?;
         self.seq_num.write(out)?;
@@ -76,34 +74,11 @@ impl Xdr for Transaction {
     ghost lawful = { transaction_lawful whole };
 }
 
-#[tactic(auto, unfolding(crate::specs::Transaction::signature_format, xdr_core::specs::Sizes::capped))]
-impl Xdr for DecoratedSignature {
-    ghost format = { signature_format };
-
-    fn read(alloc: Global, input: &mut Cursor<'_>) -> Result<DecoratedSignature, ReadXdr> {
-        let mut hint = [0u8; 4];
-        hint.copy_from_slice(input.fixed(4)?);
-        let signature = Bytes::<64>::read(alloc, input)?;
-        Ok(DecoratedSignature { hint, signature })
-    }
-
-    fn write(&self, out: &mut Out) -> Result<(), NoMemory> {
-        out.put_fixed(&self.hint)?;
-        self.signature.write(out)
-    }
-
-    fn size(&self) -> u64 {
-        self.signature.size().saturating_add(4)
-    }
-
-    ghost lawful = { signature_lawful };
-}
-
 #[tactic(auto, unfolding(crate::specs::Transaction::envelope_format))]
 impl ReadWithin for Envelope {
     ghost format = { envelope_format };
 
-    fn read_within(
+    fn read_parts_within(
         alloc: Global,
         input: &mut Cursor<'_>,
         limits: Limits,
@@ -115,4 +90,25 @@ impl ReadWithin for Envelope {
     }
 
     ghost lawful = { envelope_lawful };
+}
+
+#[tactic(auto, unfolding(crate::specs::Transaction::envelope_format, xdr_core::specs::Sizes::capped))]
+impl Xdr for Envelope {
+    ghost format = { envelope_format whole };
+
+    fn read_parts(alloc: Global, input: &mut Cursor<'_>) -> Result<Envelope, ReadXdr> {
+        Envelope::read_within(alloc, input, Limits::whole())
+    }
+
+    fn write_parts(&self, out: &mut Out) -> Result<(), NoMemory> {
+        out.put_u32(ENVELOPE_TYPE_TX)?;
+        self.tx.write(out)?;
+        self.signatures.write(out)
+    }
+
+    fn size(&self) -> u64 {
+        add_sizes(self.tx.size(), self.signatures.size()).saturating_add(4)
+    }
+
+    ghost lawful = { envelope_lawful whole };
 }

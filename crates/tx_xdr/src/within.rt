@@ -1,6 +1,6 @@
 //! Types whose grammar has limits.
 
-ghost use Rattle.std.specs.Prelude.{◌≡◌};
+ghost use Rattle.std.specs.Prelude.{◌≡◌, OnErr};
 ghost use Rattle.xdr_spec.specs.Format.{Format, repeat_at, list};
 ghost use Rattle.xdr_spec.specs.Laws.{IsFormat};
 ghost use Rattle.xdr_core.specs.Reads.{Reads, ReadsAs};
@@ -15,9 +15,32 @@ pub trait ReadWithin {
     /// How they are spelled.
     ghost format: { LimitsData → Format Self };
 
-    /// Reads the value at the front. After an error the cursor is to be dropped.
-    fn read_within(alloc: Global, input: &mut Cursor<'_>, limits: Limits) -> Result<Self, ReadXdr>
+    /// Reads the value at the front, part by part. After an error the input is somewhere on the way.
+    fn read_parts_within(
+        alloc: Global,
+        input: &mut Cursor<'_>,
+        limits: Limits,
+    ) -> Result<Self, ReadXdr>
         ensures { Reads (format limits).read input.old input.new result };
+
+    /// Reads the value at the front.
+    final fn read_within(
+        alloc: Global,
+        input: &mut Cursor<'_>,
+        limits: Limits,
+    ) -> Result<Self, ReadXdr>
+        ensures value { Reads (format limits).read input.old input.new result }
+        ensures err { OnErr result (input.new ≡ input.old) }
+    {
+        let start = input.at_same_place();
+        match Self::read_parts_within(alloc, input, limits) {
+            Ok(value) => Ok(value),
+            Err(e) => {
+                *input = start;
+                Err(e)
+            }
+        }
+    }
 
     ghost lawful: { (limits : LimitsData) → IsFormat (format limits) };
 }

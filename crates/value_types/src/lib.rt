@@ -29,3 +29,6 @@ pub use nesting::depth;
 pub use numbers::{Int128Parts, Int256Parts, UInt128Parts, UInt256Parts};
 pub use order::{cmp_val, order_by_type, order_is_total};
 pub use value::{Entries, Entry, Instance, ScVal, ScVals};
+
+#[cfg(test)]
+mod tests;

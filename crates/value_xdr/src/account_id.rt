@@ -15,12 +15,12 @@ const ED25519: u32 = 0;
 impl Xdr for AccountId {
     ghost format = { account_id_format };
 
-    fn read(alloc: Global, input: &mut Cursor<'_>) -> Result<AccountId, ReadXdr> {
+    fn read_parts(alloc: Global, input: &mut Cursor<'_>) -> Result<AccountId, ReadXdr> {
         read_head(input, ED25519)?;
         Ok(AccountId(Hash::read(alloc, input)?))
     }
 
-    fn write(&self, out: &mut Out) -> Result<(), NoMemory> {
+    fn write_parts(&self, out: &mut Out) -> Result<(), NoMemory> {
         out.put_u32(ED25519)?;
         self.0.write(out)
     }

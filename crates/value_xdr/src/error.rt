@@ -13,7 +13,7 @@ use xdr_core::{Cursor, NoMemory, Out, ReadXdr, Why, XdrErr, add_sizes};
 impl Xdr for ScErrorType {
     ghost format = { type_format };
 
-    fn read(_alloc: Global, input: &mut Cursor<'_>) -> Result<ScErrorType, ReadXdr> {
+    fn read_parts(_alloc: Global, input: &mut Cursor<'_>) -> Result<ScErrorType, ReadXdr> {
         let place = input.place();
         let number = input.u32()?;
         ScErrorType::from_number(number).ok_or(ReadXdr::Bad(XdrErr {
@@ -22,7 +22,7 @@ impl Xdr for ScErrorType {
         }))
     }
 
-    fn write(&self, out: &mut Out) -> Result<(), NoMemory> {
+    fn write_parts(&self, out: &mut Out) -> Result<(), NoMemory> {
         out.put_u32(self.number())
     }
 
@@ -37,7 +37,7 @@ impl Xdr for ScErrorType {
 impl Xdr for ScErrorCode {
     ghost format = { code_format };
 
-    fn read(_alloc: Global, input: &mut Cursor<'_>) -> Result<ScErrorCode, ReadXdr> {
+    fn read_parts(_alloc: Global, input: &mut Cursor<'_>) -> Result<ScErrorCode, ReadXdr> {
         let place = input.place();
         let number = input.u32()?;
         ScErrorCode::from_number(number).ok_or(ReadXdr::Bad(XdrErr {
@@ -46,7 +46,7 @@ impl Xdr for ScErrorCode {
         }))
     }
 
-    fn write(&self, out: &mut Out) -> Result<(), NoMemory> {
+    fn write_parts(&self, out: &mut Out) -> Result<(), NoMemory> {
         out.put_u32(self.number())
     }
 
@@ -78,12 +78,12 @@ fn read_arm(alloc: Global, input: &mut Cursor<'_>, kind: ScErrorType) -> Result<
 impl Xdr for ScError {
     ghost format = { error_format };
 
-    fn read(alloc: Global, input: &mut Cursor<'_>) -> Result<ScError, ReadXdr> {
+    fn read_parts(alloc: Global, input: &mut Cursor<'_>) -> Result<ScError, ReadXdr> {
         let kind = ScErrorType::read(alloc, input)?;
         read_arm(alloc, input, kind)
     }
 
-    fn write(&self, out: &mut Out) -> Result<(), NoMemory> {
+    fn write_parts(&self, out: &mut Out) -> Result<(), NoMemory> {
         self.kind().write(out)?;
         match self {
             ScError::Contract(code) => code.write(out),

@@ -13,7 +13,7 @@ use xdr_core::{Cursor, NoMemory, Out, ReadXdr, Why, XdrErr, add_sizes};
 impl Xdr for ExecutableType {
     ghost format = { type_format };
 
-    fn read(_alloc: Global, input: &mut Cursor<'_>) -> Result<ExecutableType, ReadXdr> {
+    fn read_parts(_alloc: Global, input: &mut Cursor<'_>) -> Result<ExecutableType, ReadXdr> {
         let place = input.place();
         let number = input.u32()?;
         ExecutableType::from_number(number).ok_or(ReadXdr::Bad(XdrErr {
@@ -22,7 +22,7 @@ impl Xdr for ExecutableType {
         }))
     }
 
-    fn write(&self, out: &mut Out) -> Result<(), NoMemory> {
+    fn write_parts(&self, out: &mut Out) -> Result<(), NoMemory> {
         out.put_u32(self.number())
     }
 
@@ -50,12 +50,12 @@ fn read_arm(
 impl Xdr for Executable {
     ghost format = { executable_format };
 
-    fn read(alloc: Global, input: &mut Cursor<'_>) -> Result<Executable, ReadXdr> {
+    fn read_parts(alloc: Global, input: &mut Cursor<'_>) -> Result<Executable, ReadXdr> {
         let kind = ExecutableType::read(alloc, input)?;
         read_arm(alloc, input, kind)
     }
 
-    fn write(&self, out: &mut Out) -> Result<(), NoMemory> {
+    fn write_parts(&self, out: &mut Out) -> Result<(), NoMemory> {
         self.kind().write(out)?;
         match self {
             Executable::Wasm(hash) => hash.write(out),

@@ -11,13 +11,13 @@ use xdr_core::{Cursor, NoMemory, Out, ReadXdr};
 impl Xdr for UInt128Parts {
     ghost format = { u128_format };
 
-    fn read(alloc: Global, input: &mut Cursor<'_>) -> Result<UInt128Parts, ReadXdr> {
+    fn read_parts(alloc: Global, input: &mut Cursor<'_>) -> Result<UInt128Parts, ReadXdr> {
         let hi = u64::read(alloc, input)?;
         let lo = u64::read(alloc, input)?;
         Ok(UInt128Parts { hi, lo })
     }
 
-    fn write(&self, out: &mut Out) -> Result<(), NoMemory> {
+    fn write_parts(&self, out: &mut Out) -> Result<(), NoMemory> {
         self.hi.write(out)?;
         self.lo.write(out)
     }
@@ -34,13 +34,13 @@ impl Xdr for UInt128Parts {
 impl Xdr for Int128Parts {
     ghost format = { i128_format };
 
-    fn read(alloc: Global, input: &mut Cursor<'_>) -> Result<Int128Parts, ReadXdr> {
+    fn read_parts(alloc: Global, input: &mut Cursor<'_>) -> Result<Int128Parts, ReadXdr> {
         let hi = i64::read(alloc, input)?;
         let lo = u64::read(alloc, input)?;
         Ok(Int128Parts { hi, lo })
     }
 
-    fn write(&self, out: &mut Out) -> Result<(), NoMemory> {
+    fn write_parts(&self, out: &mut Out) -> Result<(), NoMemory> {
         self.hi.write(out)?;
         self.lo.write(out)
     }
@@ -57,7 +57,7 @@ impl Xdr for Int128Parts {
 impl Xdr for UInt256Parts {
     ghost format = { u256_format };
 
-    fn read(alloc: Global, input: &mut Cursor<'_>) -> Result<UInt256Parts, ReadXdr> {
+    fn read_parts(alloc: Global, input: &mut Cursor<'_>) -> Result<UInt256Parts, ReadXdr> {
         let hi_hi = u64::read(alloc, input)?;
         let hi_lo = u64::read(alloc, input)?;
         let lo_hi = u64::read(alloc, input)?;
@@ -70,7 +70,7 @@ impl Xdr for UInt256Parts {
         })
     }
 
-    fn write(&self, out: &mut Out) -> Result<(), NoMemory> {
+    fn write_parts(&self, out: &mut Out) -> Result<(), NoMemory> {
         self.hi_hi.write(out)?;
         self.hi_lo.write(out)?;
         self.lo_hi.write(out)?;
@@ -89,7 +89,7 @@ impl Xdr for UInt256Parts {
 impl Xdr for Int256Parts {
     ghost format = { i256_format };
 
-    fn read(alloc: Global, input: &mut Cursor<'_>) -> Result<Int256Parts, ReadXdr> {
+    fn read_parts(alloc: Global, input: &mut Cursor<'_>) -> Result<Int256Parts, ReadXdr> {
         let hi_hi = i64::read(alloc, input)?;
         let hi_lo = u64::read(alloc, input)?;
         let lo_hi = u64::read(alloc, input)?;
@@ -102,7 +102,7 @@ impl Xdr for Int256Parts {
         })
     }
 
-    fn write(&self, out: &mut Out) -> Result<(), NoMemory> {
+    fn write_parts(&self, out: &mut Out) -> Result<(), NoMemory> {
         self.hi_hi.write(out)?;
         self.hi_lo.write(out)?;
         self.lo_hi.write(out)?;

@@ -12,11 +12,11 @@ use xdr_core::{Cursor, NoMemory, Out, ReadXdr};
 impl Xdr for u32 {
     ghost format = { number32 };
 
-    fn read(_alloc: Global, input: &mut Cursor<'_>) -> Result<u32, ReadXdr> {
+    fn read_parts(_alloc: Global, input: &mut Cursor<'_>) -> Result<u32, ReadXdr> {
         Ok(input.u32()?)
     }
 
-    fn write(&self, out: &mut Out) -> Result<(), NoMemory> {
+    fn write_parts(&self, out: &mut Out) -> Result<(), NoMemory> {
         out.put_u32(*self)
     }
 
@@ -31,11 +31,11 @@ impl Xdr for u32 {
 impl Xdr for i32 {
     ghost format = { signed32 };
 
-    fn read(_alloc: Global, input: &mut Cursor<'_>) -> Result<i32, ReadXdr> {
+    fn read_parts(_alloc: Global, input: &mut Cursor<'_>) -> Result<i32, ReadXdr> {
         Ok(input.i32()?)
     }
 
-    fn write(&self, out: &mut Out) -> Result<(), NoMemory> {
+    fn write_parts(&self, out: &mut Out) -> Result<(), NoMemory> {
         out.put_i32(*self)
     }
 
@@ -50,11 +50,11 @@ impl Xdr for i32 {
 impl Xdr for u64 {
     ghost format = { number64 };
 
-    fn read(_alloc: Global, input: &mut Cursor<'_>) -> Result<u64, ReadXdr> {
+    fn read_parts(_alloc: Global, input: &mut Cursor<'_>) -> Result<u64, ReadXdr> {
         Ok(input.u64()?)
     }
 
-    fn write(&self, out: &mut Out) -> Result<(), NoMemory> {
+    fn write_parts(&self, out: &mut Out) -> Result<(), NoMemory> {
         out.put_u64(*self)
     }
 
@@ -69,11 +69,11 @@ impl Xdr for u64 {
 impl Xdr for i64 {
     ghost format = { signed64 };
 
-    fn read(_alloc: Global, input: &mut Cursor<'_>) -> Result<i64, ReadXdr> {
+    fn read_parts(_alloc: Global, input: &mut Cursor<'_>) -> Result<i64, ReadXdr> {
         Ok(input.i64()?)
     }
 
-    fn write(&self, out: &mut Out) -> Result<(), NoMemory> {
+    fn write_parts(&self, out: &mut Out) -> Result<(), NoMemory> {
         out.put_i64(*self)
     }
 
@@ -88,11 +88,11 @@ impl Xdr for i64 {
 impl Xdr for bool {
     ghost format = { boolean };
 
-    fn read(_alloc: Global, input: &mut Cursor<'_>) -> Result<bool, ReadXdr> {
+    fn read_parts(_alloc: Global, input: &mut Cursor<'_>) -> Result<bool, ReadXdr> {
         Ok(input.boolean()?)
     }
 
-    fn write(&self, out: &mut Out) -> Result<(), NoMemory> {
+    fn write_parts(&self, out: &mut Out) -> Result<(), NoMemory> {
         out.put_boolean(*self)
     }
 
@@ -107,7 +107,7 @@ impl Xdr for bool {
 impl<T: Xdr> Xdr for Option<T> {
     ghost format = { optional T.format };
 
-    fn read(alloc: Global, input: &mut Cursor<'_>) -> Result<Option<T>, ReadXdr> {
+    fn read_parts(alloc: Global, input: &mut Cursor<'_>) -> Result<Option<T>, ReadXdr> {
         if input.boolean()? {
             Ok(Some(T::read(alloc, input)?))
         } else {
@@ -115,7 +115,7 @@ impl<T: Xdr> Xdr for Option<T> {
         }
     }
 
-    fn write(&self, out: &mut Out) -> Result<(), NoMemory> {
+    fn write_parts(&self, out: &mut Out) -> Result<(), NoMemory> {
         match self {
             None => out.put_boolean(false),
             Some(value) => {

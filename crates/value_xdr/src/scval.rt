@@ -22,11 +22,11 @@ const LEVELS_BELOW: u32 = 99;
 impl Xdr for ScVal {
     ghost format = { scval_format };
 
-    fn read(alloc: Global, input: &mut Cursor<'_>) -> Result<ScVal, ReadXdr> {
+    fn read_parts(alloc: Global, input: &mut Cursor<'_>) -> Result<ScVal, ReadXdr> {
         reading::read_value(alloc, input, LEVELS_BELOW)
     }
 
-    fn write(&self, out: &mut Out) -> Result<(), NoMemory> {
+    fn write_parts(&self, out: &mut Out) -> Result<(), NoMemory> {
         writing::write_value(self, out)
     }
 

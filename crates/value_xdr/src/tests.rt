@@ -1,7 +1,8 @@
+use crate::Xdr;
 use crate::scval::{val_size, value_from_bytes, value_to_bytes};
 use std::test::Fail;
 use value_types::{Int128Parts, ScVal, cmp_val, depth};
-use xdr_core::{ReadXdr, Why, XdrErr};
+use xdr_core::{Cursor, ReadXdr, Why, XdrErr};
 
 /// A spelling of each arm, by the layouts of RFC 4506 and of the XDR file Stellar-contract.
 const SPELLINGS: [&[u8]; 27] = [
@@ -138,6 +139,22 @@ fn refusal(rt: &HostRuntime, bytes: &[u8]) -> Option<(u64, Why)> {
         Err(ReadXdr::Bad(XdrErr { at, why })) => Some((at, why)),
         _ => None,
     }
+}
+
+/// The second word of an address of a contract is whole, and what follows it is not.
+const CUT_OFF: [u8; 12] = [0, 0, 0, 18, 0, 0, 0, 1, 7, 7, 7, 7];
+
+#[test]
+fn an_error_leaves_the_input(rt: HostRuntime) -> Result<(), Fail> {
+    let mut input = Cursor::new(&CUT_OFF);
+    let end = ReadXdr::Bad(XdrErr {
+        at: 12,
+        why: Why::End,
+    });
+    assert_eq!(rt; ScVal::read(rt.alloc(), &mut input).err(), Some(end));
+    assert_eq!(rt; input.place(), 0);
+    assert_eq!(rt; u32::read(rt.alloc(), &mut input)?, 18);
+    Ok(())
 }
 
 /// Bytes that spell no value, with the place and the reason.

@@ -1,8 +1,9 @@
 //! Values written as bytes.
 
-ghost use Rattle.std.specs.Prelude.{◌≡◌, ◌++◌, OnOk, Some, length};
+ghost use Rattle.std.specs.Prelude.{◌≡◌, ◌++◌, OnOk, OnErr, Some, length};
 ghost use Rattle.std.specs.List.{flat_map, AllByRecursion};
 ghost use Rattle.xdr_core.specs.Sizes.{capped};
+ghost use Rattle.xdr_core.specs.Writes.{StartsWith};
 ghost use Rattle.value_types.specs.Views.{datums, datum_pairs};
 ghost use Rattle.value_xdr.specs.Bytes.{bytes_of, pair_bytes, IsBounded, IsPairBounded};
 ghost use Rattle.value_xdr.specs.ValueBytes.{value_bytes, body_bytes, instance_bytes, row_bytes, IsValueBounded, IsInstanceBounded, IsRowBounded};
@@ -15,7 +16,8 @@ use xdr_core::{NoMemory, Out, add_sizes};
 #[cycle(write)]
 pub fn write_value(value: &ScVal, out: &mut Out) -> Result<(), NoMemory>
     requires { IsValueBounded value.now }
-    ensures { OnOk result (out.new ≡ out.old ++ value_bytes value.now) }
+    ensures ok { OnOk result (out.new ≡ out.old ++ value_bytes value.now) }
+    ensures err { OnErr result (StartsWith out.new out.old) }
 {
     out.put_u32(value.kind().number())?;
     write_body(value, out)
@@ -26,7 +28,8 @@ pub fn write_value(value: &ScVal, out: &mut Out) -> Result<(), NoMemory>
 #[tactic(auto, unfolding(xdr_spec::specs::Format::opaque))]
 fn write_body(value: &ScVal, out: &mut Out) -> Result<(), NoMemory>
     requires { IsValueBounded value.now }
-    ensures { OnOk result (out.new ≡ out.old ++ body_bytes value.now) }
+    ensures ok { OnOk result (out.new ≡ out.old ++ body_bytes value.now) }
+    ensures err { OnErr result (StartsWith out.new out.old) }
 {
     match value {
         ScVal::Bool(flag) => flag.write(out),
@@ -57,7 +60,8 @@ fn write_body(value: &ScVal, out: &mut Out) -> Result<(), NoMemory>
 #[cycle(write)]
 fn write_items(items: &ScVals, out: &mut Out) -> Result<(), NoMemory>
     requires { IsRowBounded IsBounded (Some items.now) }
-    ensures { OnOk result (out.new ≡ out.old ++ row_bytes bytes_of (Some items.now)) }
+    ensures ok { OnOk result (out.new ≡ out.old ++ row_bytes bytes_of (Some items.now)) }
+    ensures err { OnErr result (StartsWith out.new out.old) }
 {
     out.put_boolean(true)?;
     let items = items.as_slice();
@@ -68,7 +72,8 @@ fn write_items(items: &ScVals, out: &mut Out) -> Result<(), NoMemory>
 #[cycle(write)]
 fn write_row(items: &[ScVal], out: &mut Out) -> Result<(), NoMemory>
     requires { AllByRecursion IsBounded (datums items.now) }
-    ensures { OnOk result (out.new ≡ out.old ++ flat_map bytes_of (datums items.now)) }
+    ensures ok { OnOk result (out.new ≡ out.old ++ flat_map bytes_of (datums items.now)) }
+    ensures err { OnErr result (StartsWith out.new out.old) }
 {
     for item in items {
         write_value(item, out)?;
@@ -79,7 +84,8 @@ fn write_row(items: &[ScVal], out: &mut Out) -> Result<(), NoMemory>
 #[cycle(write)]
 fn write_entries(entries: &Entries, out: &mut Out) -> Result<(), NoMemory>
     requires { IsRowBounded IsPairBounded (Some entries.now) }
-    ensures { OnOk result (out.new ≡ out.old ++ row_bytes pair_bytes (Some entries.now)) }
+    ensures ok { OnOk result (out.new ≡ out.old ++ row_bytes pair_bytes (Some entries.now)) }
+    ensures err { OnErr result (StartsWith out.new out.old) }
 {
     out.put_boolean(true)?;
     let entries = entries.as_slice();
@@ -90,7 +96,8 @@ fn write_entries(entries: &Entries, out: &mut Out) -> Result<(), NoMemory>
 #[cycle(write)]
 fn write_pairs(entries: &[Entry], out: &mut Out) -> Result<(), NoMemory>
     requires { AllByRecursion IsPairBounded (datum_pairs entries.now) }
-    ensures { OnOk result (out.new ≡ out.old ++ flat_map pair_bytes (datum_pairs entries.now)) }
+    ensures ok { OnOk result (out.new ≡ out.old ++ flat_map pair_bytes (datum_pairs entries.now)) }
+    ensures err { OnErr result (StartsWith out.new out.old) }
 {
     for entry in entries {
         write_value(&entry.key, out)?;
@@ -102,7 +109,8 @@ fn write_pairs(entries: &[Entry], out: &mut Out) -> Result<(), NoMemory>
 #[cycle(write)]
 fn write_instance(instance: &Instance, out: &mut Out) -> Result<(), NoMemory>
     requires { IsInstanceBounded instance.now }
-    ensures { OnOk result (out.new ≡ out.old ++ instance_bytes instance.now) }
+    ensures ok { OnOk result (out.new ≡ out.old ++ instance_bytes instance.now) }
+    ensures err { OnErr result (StartsWith out.new out.old) }
 {
     instance.executable.write(out)?;
     match &instance.storage {

@@ -1,6 +1,6 @@
 -- The check finds exactly what is typed.
 use Rattle.std.proofs.Common.{◌≡◌, ℕ, Bool, true, false, List, [], ◌∷◌, ◌++◌, length, Option, Some, None, refl, sym, ap, ◌∙◌, subst}
-use Rattle.std.specs.Prelude.{slice_get, reverse, option_to_list, if◌then◌else◌}
+use Rattle.std.specs.Prelude.{slice_get, reverse, option_to_list, nat_lt, if◌then◌else◌}
 use Rattle.std.specs.List.{list_all, AllByRecursion}
 use Rattle.std.proofs.lemmas.Bool.{lt-ltb, ltb-true}
 use Rattle.wasm_spec.specs.declared.types.ValueType.{ValueType}
@@ -12,7 +12,7 @@ use Rattle.wasm_spec.specs.declared.instructions.Plain.TheVariants as op
 use Rattle.wasm_spec.specs.declared.instructions.Control.{Control}
 use Rattle.wasm_spec.specs.declared.instructions.Control.TheVariants as jump
 use Rattle.wasm_spec.specs.Code.{Code, end, plain, control, block, loop, choose, BlockType}
-use Rattle.wasm_spec.specs.Typing.{◌>>=◌, Context, inside, signature_of, taken_types, Applies, PlainTyped, label, CallTyped, ControlTyped, CodeTyped, result_of, function_type, has_table}
+use Rattle.wasm_spec.specs.Typing.{◌>>=◌, Context, inside, signature_of, taken_types, Applies, PlainTyped, label, CallTyped, ControlTyped, CodeTyped, result_of, function_type}
 use Rattle.wasm_check.proofs.Passed.{all_back, all_on}
 use Rattle.wasm_check.specs.Check.{Shape, shape, nothing, anything, push, push_result, same_type, may_be, pop_from, pop_any, pop, pops, pop_result, is_empty, ends, either, check_select, check_signature, check_plain, same_label, check_call, check_table, check_control, check_code, body_check}
 
@@ -311,9 +311,9 @@ control_back c (jump.Call f) s s' us e h =
     let t = bind_some (function_type c.module_ f) (λ t. check_call t s) s' e in
     let b = call_back t.0 s s' us t.2 h in
     (b.0, b.1, (t.0, t.1, b.2))
-control_back c (jump.CallIndirect i) s s' us e h = go (has_table c) refl e
+control_back c (jump.CallIndirect i) s s' us e h = go (nat_lt 0 (length c.module_.tables)) refl e
   where
-    go : (b : Bool) → has_table c ≡ b → (if b then (slice_get c.module_.types i >>= λ t. pop I32 s >>= λ s. check_call t s) else None) ≡ Some s' → (ts : List ValueType) × Fits s ts × ControlTyped c (jump.CallIndirect i) ts us
+    go : (b : Bool) → nat_lt 0 (length c.module_.tables) ≡ b → (if b then (slice_get c.module_.types i >>= λ t. pop I32 s >>= λ s. check_call t s) else None) ≡ Some s' → (ts : List ValueType) × Fits s ts × ControlTyped c (jump.CallIndirect i) ts us
     go true q e =
         let t = bind_some (slice_get c.module_.types i) (λ t. pop I32 s >>= λ s. check_call t s) s' e in
         let p = bind_some (pop I32 s) (λ s. check_call t.0 s) s' t.2 in

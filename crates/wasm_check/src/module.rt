@@ -3,6 +3,7 @@
 ghost use Rattle.std.specs.Prelude.{◌≡◌, ◌++◌, ◌+◌, ◌^◌, ◌<◌, ◌&&◌, nat_le, length, replicate, IfOk, IfErr, OnOk};
 ghost use Rattle.wasm_spec.specs.Binary.{locals_count};
 ghost use Rattle.wasm_spec.specs.Typing.{Typed, FunctionTyped, OutsideValid, body_context, result_of, local_types, MOST_LOCALS};
+ghost use Rattle.wasm_code.specs.Placed.{IsCompiled};
 ghost use Rattle.wasm_check.specs.Errors.{Judges, ReportsIll, ReportsFunction};
 ghost use Rattle.wasm_check.specs.Check.{body_check};
 ghost use Rattle.wasm_check.specs.Checks.{IsChecked};
@@ -16,15 +17,17 @@ use crate::names::names_differ;
 use crate::outside::rules_hold;
 use std::alloc::{AllocError, Global};
 use std::marker::Model;
+use wasm_code::{FlatCode, compile};
 use wasm_spec::{FuncType, Function, Locals, Module, ValueType};
 
 /// The most locals of a function, parameters counted.
 const MOST_LOCALS: u64 = 4096;
 
-/// A module that is valid. Only `check` makes one.
+/// A module that is valid, with its code in flat form. Only `check` makes one.
 #[derive(Drop)]
 pub struct ValidModule {
     module: Module,
+    code: FlatCode,
 }
 
 impl Model for ValidModule {
@@ -36,10 +39,11 @@ impl Model for ValidModule {
     ghost coded = { modules.the_row.coded };
 
     ghost use Rattle.wasm_spec.specs.Typing.{Typed};
+    ghost use Rattle.wasm_code.specs.Placed.{IsCompiled};
 
     ghost view = { λ v. v.module };
 
-    ghost invariant = { λ v. Typed v.module };
+    ghost invariant = { λ v. Typed v.module × IsCompiled v.module v.code };
 }
 
 impl ValidModule {
@@ -49,6 +53,13 @@ impl ValidModule {
         ensures valid { Typed self.now }
     {
         &self.module
+    }
+
+    /// Its code in flat form.
+    pub fn code(&self) -> &FlatCode
+        ensures { IsCompiled self.now result.now }
+    {
+        &self.code
     }
 }
 
@@ -181,5 +192,8 @@ pub fn check(alloc: Global, module: Module) -> Result<ValidModule, CheckErr>
         return Err(CheckErr::Ill { func: None });
     }
     check_bodies(alloc, &module)?;
-    Ok(ValidModule { module })
+    match compile(alloc, &module) {
+        Ok(code) => Ok(ValidModule { module, code }),
+        Err(_) => Err(CheckErr::NoMemory),
+    }
 }

@@ -2,9 +2,11 @@
 
 ghost use Rattle.std.specs.Prelude.{◌<◌};
 
+mod by_hand;
 mod vectors;
 
 use crate::{CheckErr, Unlinked, ValidModule, check, link};
+use by_hand::by_hand;
 use std::alloc::{AllocError, Global};
 use std::process::Abort;
 use std::test::Fail;
@@ -119,7 +121,28 @@ fn vectors_are_judged(rt: HostRuntime) -> Result<(), Fail> {
         assert!(rt; Some(found) == expected(word), "{name}");
         count = count.saturating_add(1);
     }
-    assert_eq!(rt; count, 110);
+    assert_eq!(rt; count, 122);
+    Ok(())
+}
+
+fn said(rt: &(impl Abort + AllocGlobal), bytes: &[u8]) -> &'static str {
+    match checked(rt, bytes) {
+        Ok(Ok(_)) => "valid",
+        Ok(Err(CheckErr::Ill { func: None })) => "ill-module",
+        Ok(Err(CheckErr::Ill { func: Some(0) })) => "ill-0",
+        Ok(Err(_)) => "ill",
+        Err(_) => "notamodule",
+    }
+}
+
+#[test]
+fn limits_and_order(rt: HostRuntime) -> Result<(), Fail> {
+    for line in by_hand().lines() {
+        let (word, rest) = line.split_once(' ').ok_or("a verdict")?;
+        let (text, name) = rest.split_once(' ').ok_or("bytes")?;
+        let bytes = bytes_of(rt.alloc(), text)?;
+        assert!(rt; said(&rt, &bytes) == word, "{name}");
+    }
     Ok(())
 }
 
@@ -162,6 +185,16 @@ fn imports_are_linked(rt: HostRuntime) -> Result<(), Fail> {
     let mut both = second;
     both[32] = 0x6D;
     assert!(rt; linked(&rt, &both) == Some(Err(Unlinked { import: 0 })));
+    // A function of the host with other types than its own.
+    let no_values = "010401600000";
+    let two_values = "01070160027f7f017e";
+    for func_type in [no_values, two_values] {
+        let mut module = bytes_of(rt.alloc(), "0061736d01000000")?;
+        module.extend_from_slice(&bytes_of(rt.alloc(), func_type)?)?;
+        let import = "021701016c116765745f636f6e74726163745f646174610000";
+        module.extend_from_slice(&bytes_of(rt.alloc(), import)?)?;
+        assert!(rt; linked(&rt, &module) == Some(Err(Unlinked { import: 0 })));
+    }
     // The first import with the type of the second.
     let mut wide = BUMP;
     wide[52] = 0x01;
@@ -219,5 +252,11 @@ fn limits_are_kept(rt: HostRuntime) -> Result<(), Fail> {
         &[0x01, 0xFF, 0xFF, 0xFF, 0xFF, 0x0F, 0x7E, 0x0B],
     )?;
     assert!(rt; ill_function(&rt, &all) == Some(Some(0)));
+    // 2^32 locals, in two groups
+    let beyond = with_function(
+        rt.alloc(),
+        &[0x02, 0xFF, 0xFF, 0xFF, 0xFF, 0x0F, 0x7E, 0x01, 0x7E, 0x0B],
+    )?;
+    assert!(rt; judged(&rt, &beyond) == Verdict::NotAModule);
     Ok(())
 }

@@ -1,0 +1,4 @@
+pub mod RunLaws
+pub mod Sound
+pub mod SoundCalls
+pub mod SoundStart

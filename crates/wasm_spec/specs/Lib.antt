@@ -1,6 +1,14 @@
 pub mod Binary
 pub mod Code
+pub mod Effects
 pub mod Falls
+pub mod Instances
+pub mod Integers
+pub mod Meaning
+pub mod Memory
 pub mod Opcodes
+pub mod Runs
+pub mod Stores
 pub mod Typing
 pub mod Views
+pub mod Worlds

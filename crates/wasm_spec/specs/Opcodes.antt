@@ -64,7 +64,7 @@ store_of b =
     if b == 0x3D then Some store.I64To16 else
     if b == 0x3E then Some store.I64To32 else None
 
--- the sign extensions, which later versions of the core have in 5.4.5
+-- the sign extensions, which core 2.0 has in 5.4.7
 abbrev pub sign_extension_of : ℕ → Option Numeric
 sign_extension_of b = if nat_lt b 0xC0 then None else slice_get SIGN_EXTENSIONS (b - 0xC0)
 

@@ -154,9 +154,6 @@ when b s = if b then Some s else None
 abbrev pub has_memory : Context → Bool
 has_memory c = nat_lt 0 (length c.module_.memories)
 
-abbrev pub has_table : Context → Bool
-has_table c = nat_lt 0 (length c.module_.tables)
-
 -- what a value may be put into (3.3.3)
 abbrev pub set_signature : Mutability → ValueType → Option Signature
 set_signature Constant t = None
@@ -270,11 +267,11 @@ abbrev pub constant_type : List Global → Code → Option ValueType
 constant_type globals (plain p rest) = alone rest (constant_of globals p)
 constant_type globals _ = None
 
--- a type has at most one result (3.2.3)
+-- a type has at most one result (3.2.2)
 abbrev pub TypeValid : FuncType → Type 0
 TypeValid t = length t.results ≤ 1
 
--- limits (3.2.1, 3.2.2): the least is within the profile's bound, and the most, where there is one, is neither below the least nor above what the core allows
+-- limits (3.2.1) of tables and memories (3.2.3, 3.2.4): the least is within the profile's bound, and the most, where there is one, is neither below the least nor above what the core allows
 abbrev pub LimitsValid : (bound most : ℕ) → Limits → Type 0
 LimitsValid bound most l = (l.min ≤ bound) × IfSome l.max (λ n. (l.min ≤ n) × (n ≤ most))
 
@@ -284,7 +281,7 @@ TableValid t = LimitsValid MOST_ELEMENTS (2 ^ 32) t.limits
 abbrev pub MemoryValid : Limits → Type 0
 MemoryValid = LimitsValid MOST_PAGES (2 ^ 16)
 
--- 3.4.4: what a global begins with sees the imported globals alone, and there are none
+-- 3.4.4, in the context that 3.4.10 gives it: what a global begins with sees the imported globals alone, and there are none
 abbrev pub GlobalValid : Global → Type 0
 GlobalValid g = constant_type [] g.init ≡ Some g.value_type
 
@@ -296,7 +293,7 @@ ElementValid m e = (e.table < length m.tables) × (constant_type m.globals e.off
 abbrev pub DataValid : Module → Data → Type 0
 DataValid m d = (d.memory < length m.memories) × (constant_type m.globals d.offset ≡ Some I32)
 
--- how many there are of a kind (3.4.8)
+-- how many there are of a kind: exports (3.4.8)
 abbrev pub count_of : Module → ExportKind → ℕ
 count_of m exported.Function = length (function_indices m)
 count_of m exported.Table = length m.tables
@@ -311,7 +308,8 @@ abbrev pub AreDistinct : List (List ℕ) → Type 0
 AreDistinct [] = Unit {0}
 AreDistinct (x ∷ xs) = AllByRecursion (λ y. x ≢ y) xs × AreDistinct xs
 
--- functions are numbered by 32 bits (2.1.2)
+-- What the module has outside the bodies of its functions. That functions, imported ones counted, are fewer than 2^32 is this profile's own rule: the
+-- core bounds each vector (2.1.3), and an index is a number of 32 bits.
 pub record OutsideValid (m : Module) : Type 0 where
   pub few_functions : length (function_indices m) < 2 ^ 32
   pub types : AllByRecursion TypeValid m.types

@@ -1,4 +1,4 @@
-//! Items in a row (a vector of the core, section 2.1.2).
+//! Items in a row (a vector of the core, section 2.1.3).
 
 ghost use Rattle.std.specs.Prelude.{◌≡◌};
 

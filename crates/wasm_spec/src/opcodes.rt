@@ -1,4 +1,4 @@
-//! The opcodes of numeric instructions (core section 5.4.5): those without immediates stand in four rows.
+//! The opcodes of numeric instructions (core section 5.4.5): those without immediates stand in three rows, but for three conversions.
 
 use crate::instructions::{Binary, Comparison, Conversion, Numeric, Sign, Unary};
 use crate::types::ValueType;

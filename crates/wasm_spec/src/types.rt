@@ -16,14 +16,14 @@ pub struct FuncType {
     pub results: Items<ValueType>,
 }
 
-/// The size of a table in elements, or of a memory in pages of 64 KiB (core section 2.3.4).
+/// The size of a table in elements, or of a memory in pages of 64 KiB (core sections 2.3.4 and 2.3.5).
 #[derive(Clone, Copy, PartialEq, Eq, Debug)]
 pub struct Limits {
     pub min: u32,
     pub max: Option<u32>,
 }
 
-/// A table, whose elements are functions (core sections 2.3.5 and 2.3.6).
+/// A table, whose elements are functions (core section 2.3.6).
 #[derive(Clone, Copy, PartialEq, Eq, Debug)]
 pub struct TableType {
     pub limits: Limits,

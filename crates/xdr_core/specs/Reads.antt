@@ -15,8 +15,8 @@ abbrev pub Gives : {V W : Type 0} → (W → V) → (Input → Outcome V) → In
 Gives view read old new (Ok w) = read old ≡ Ok (view w, new)
 Gives view read old new (Err e) = (read old ≡ Err e) × (new ≡ old)
 
--- The value at the front, and the input behind it; or the refusal; or memory ran out. After an error the input is somewhere
--- on the way: it is to be dropped.
+-- The value at the front, and the input behind it; or the refusal; or memory ran out. After an error this says nothing of the
+-- input: it may be somewhere on the way.
 abbrev pub Reads : {V : Type 0} → (Input → Outcome V) → Input → Input → Result V ReadXdr → Type 0
 Reads read old new (Ok v) = read old ≡ Ok (v, new)
 Reads read old new (Err (Bad e)) = read old ≡ Err e

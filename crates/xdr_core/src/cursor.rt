@@ -36,6 +36,16 @@ impl<'a> Cursor<'a> {
         Cursor { bytes, place: 0 }
     }
 
+    /// Another cursor over the same bytes, at the same place.
+    pub fn at_same_place(&self) -> Cursor<'a>
+        ensures { result ≡ self.now }
+    {
+        Cursor {
+            bytes: self.bytes,
+            place: self.place,
+        }
+    }
+
     /// How many bytes were read.
     pub fn place(&self) -> u64
         ensures { result ≡ self.now.place }

@@ -1,6 +1,6 @@
 //! Bytes that are written item by item.
 
-ghost use Rattle.std.specs.Prelude.{◌≡◌, ◌<◌, ◌^◌, ◌++◌, [], OnOk, OnErr, length};
+ghost use Rattle.std.specs.Prelude.{◌≡◌, ◌<◌, ◌^◌, ◌++◌, [], OnOk, OnErr, length, take};
 ghost use Rattle.std.specs.Int.{w32, w64, to_be_bytes, cast_unsigned};
 ghost use Rattle.xdr_spec.specs.Format.{bit, pad, zeros};
 
@@ -63,6 +63,20 @@ impl Out {
     {
         let Out { bytes } = self;
         bytes
+    }
+
+    /// How many bytes were written.
+    pub fn len(&self) -> usize
+        ensures { result ≡ length self.now }
+    {
+        self.bytes.len()
+    }
+
+    /// Takes back what was written behind the first `len` bytes.
+    pub fn cut_back(&mut self, len: usize)
+        ensures { self.new ≡ take len self.old }
+    {
+        self.bytes.truncate(len);
     }
 
     /// Writes an unsigned integer (RFC 4506, section 4.2).

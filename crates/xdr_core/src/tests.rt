@@ -25,7 +25,9 @@ fn reads_items(rt: HostRuntime) -> Result<(), Fail> {
     assert_eq!(rt; input.u32()?, 2);
     input.finish()?;
     let mut input = Cursor::new(&bytes);
+    let mut again = input.at_same_place();
     assert_eq!(rt; input.i64()?, -4294967297);
+    assert_eq!(rt; again.i32()?, -2);
     Ok(())
 }
 
@@ -53,6 +55,9 @@ fn writes_items(rt: HostRuntime) -> Result<(), Fail> {
     out.put_boolean(true)?;
     out.put_fixed(&SYMBOL[..3])?;
     out.put_opaque(&SYMBOL[4..6])?;
+    let len = out.len();
+    out.put_u32(9)?;
+    out.cut_back(len);
     let bytes = out.into_vec();
     let expected = [
         0xff, 0xff, 0xff, 0xfe, 0, 0, 0, 7, 0xff, 0xff, 0xff, 0xff, 0xff, 0xff, 0xff, 0xfe, 0, 0,

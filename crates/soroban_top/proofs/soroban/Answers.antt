@@ -1,4 +1,4 @@
-use Rattle.soroban_top.specs.Words.{asked_of}
+use Rattle.command_words.specs.Words.{asked_of}
 use Rattle.soroban_top.proofs.Present.{where_present}
 use Rattle.soroban_top.proofs.soroban.Goals as goal
 

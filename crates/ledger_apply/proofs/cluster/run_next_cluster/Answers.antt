@@ -3,8 +3,8 @@ use Rattle.std.proofs.Common.{◌≡◌, ◌+◌, List, length, All, sym, ap, su
 use Rattle.std.proofs.lemmas.List.{length-append}
 use Rattle.std.proofs.lemmas.List.Elements.{All-append}
 use Rattle.ledger_types.specs.Key.{key_format}
-use Rattle.tx_xdr.specs.Results.{pair_format}
-use Rattle.tx_xdr.specs.declared.results.TransactionResultPair.{TransactionResultPair}
+use Rattle.tx_results.specs.Results.{pair_format}
+use Rattle.tx_results.specs.declared.results.TransactionResultPair.{TransactionResultPair}
 use Rattle.apply_spec.specs.declared.Extension.{Extension}
 use Rattle.ledger_apply.proofs.On.{recursion_append}
 use Rattle.ledger_apply.proofs.cluster.run_next_cluster.Goals as goal

@@ -1,17 +1,25 @@
 use Rattle.std.specs.List.{flat_map}
 use Rattle.std.proofs.Common.{take, [], List, All, fold, sym, ap, subst, ◌∙◌}
 use Rattle.ledger_types.specs.declared.header.Header.{Header}
-use Rattle.tx_xdr.specs.Results.{result_set_format}
-use Rattle.tx_xdr.specs.declared.results.TransactionResultPair.{TransactionResultPair}
+use Rattle.tx_xdr.specs.Limits.{today}
+use Rattle.tx_xdr.specs.Set.{phase_format}
+use Rattle.tx_results.specs.Results.{result_set_format}
+use Rattle.tx_results.specs.declared.results.TransactionResultPair.{TransactionResultPair}
 use Rattle.tx_xdr.specs.declared.set.Phase.{Phase}
 use Rattle.tx_xdr.specs.declared.set.Stage.{Stage}
-use Rattle.tx_xdr.proofs.Fits.{result_set_fits}
+use Rattle.tx_results.proofs.Fits.{result_set_fits}
 use Rattle.apply_spec.specs.Runs.{Running, run_stage, running_header, stages_in}
 use Rattle.ledger_apply.specs.Spelled.{IsStage}
 use Rattle.ledger_apply.specs.State.{running_of}
 use Rattle.ledger_apply.proofs.On.{on_other, fold_more_of}
-use Rattle.ledger_apply.proofs.Spelling.{set_spelled}
+use Rattle.ledger_apply.proofs.Spelling.{set_spelled, phases_fit}
 use Rattle.ledger_apply.proofs.set.apply_set.Goals as goal
+
+pub stages_of-requires : goal.stages_of-requires
+stages_of-requires c =
+    let phases : All (λ (p : Phase). (phase_format today).fits p) c.as_slice-phases.result.now =
+    subst (λ (ps : List Phase). All (λ (p : Phase). (phase_format today).fits p) ps) (sym c.as_slice-phases.ensures) (phases_fit c.args.set.now c.requires.fits) in
+    subst (λ (p : Phase). (phase_format today).fits p) (sym c.phase-item.is) (phases c.loop-phase.phase-index c.phase-item.result c.loop-phase-test.true)
 
 pub run_stages-requires-clause-fits : goal.run_stages-requires-clause-fits
 run_stages-requires-clause-fits c =

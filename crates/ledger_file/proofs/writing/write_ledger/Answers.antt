@@ -9,5 +9,5 @@ overflow_cast-slots c =
 
 pub returns : goal.returns
 returns c =
-    rw (c.from_vec.ensures, c.into_vec.ensures, c.in_ok-write_records.ensures, c.in_ok-put_u32-2.ensures.ok, c.in_ok-write.ensures, c.in_ok-put_u32.ensures.ok, c.new-out.ensures)
+    rw (c.from_vec.ensures, c.into_vec.ensures, c.in_ok-write_records.ensures.ok, c.in_ok-put_u32-2.ensures.ok, c.in_ok-write.ensures.ok, c.in_ok-put_u32.ensures.ok, c.new-out.ensures)
     (simp append_assoc (file_written c.args.ledger.now.header c.args.ledger.now.entries c.as_slice-slots.result.now c.as_slice-slots.ensures.slots))

@@ -1,7 +1,6 @@
-use Rattle.std.proofs.Common.{◌≡◌, ◌++◌, Bool, true, false, ◌&&◌, List, sym, ap, ap₂, ◌∙◌}
+use Rattle.std.proofs.Common.{◌≡◌, ◌++◌, Bool, true, false, ◌&&◌, sym, ap, ◌∙◌}
 use Rattle.std.specs.List.{list_all}
-use Rattle.ledger_types.specs.declared.key.LedgerKey.{LedgerKey}
-use Rattle.apply_spec.specs.Checks.{has_twice, declared_keys, may_be_declared, may_be_footprint}
+use Rattle.apply_spec.specs.Checks.{has_twice, may_be_declared}
 use Rattle.tx_apply.specs.Twice.{bytes_of, stand_twice}
 use Rattle.tx_apply.proofs.Twice.{twice_declared, refused_twice, judged_each}
 use Rattle.tx_apply.proofs.footprint.may_be_footprint.Goals as goal
@@ -9,19 +8,17 @@ use Rattle.tx_apply.proofs.footprint.may_be_footprint.Goals.{then-all_declarable
 
 pub returns-then-branch : goal.returns-then-branch
 returns-then-branch c =
-    let xs = c.as_slice-read_only.result.now in
-    let ys = c.as_slice-read_write.result.now in
-    let keys : xs ++ ys ≡ declared_keys c.args.footprint.now = ap₂ (λ (x y : List LedgerKey). x ++ y) c.as_slice-read_only.ensures c.as_slice-read_write.ensures in
+    let xs = c.args.read_only.now in
+    let ys = c.args.read_write.now in
     let twice : has_twice (xs ++ ys) ≡ true =
     sym (twice_declared xs ys _ _ _ (ap bytes_of c.new-spellings.ensures.items) c.in_ok-spell_keys.ensures c.in_ok-spell_keys-2.ensures)
     ∙ ap (λ s. stand_twice (bytes_of s)) (sym c.deref.ensures.value) ∙ sym c.in_ok-has_twice.ensures ∙ c.if-branch.true in
-    sym (ap may_be_footprint (sym keys) ∙ refused_twice (xs ++ ys) twice)
+    sym (refused_twice (xs ++ ys) twice)
 
 pub returns : goal.returns
 returns c =
-    let xs = c.as_slice-read_only.result.now in
-    let ys = c.as_slice-read_write.result.now in
-    let keys : xs ++ ys ≡ declared_keys c.args.footprint.now = ap₂ (λ (x y : List LedgerKey). x ++ y) c.as_slice-read_only.ensures c.as_slice-read_write.ensures in
+    let xs = c.args.read_only.now in
+    let ys = c.args.read_write.now in
     let twice : has_twice (xs ++ ys) ≡ false =
     sym (twice_declared xs ys _ _ _ (ap bytes_of c.new-spellings.ensures.items) c.in_ok-spell_keys.ensures c.in_ok-spell_keys-2.ensures)
     ∙ ap (λ s. stand_twice (bytes_of s)) (sym c.deref.ensures.value) ∙ sym c.in_ok-has_twice.ensures ∙ c.if-branch.false in
@@ -34,4 +31,4 @@ returns c =
           w.result-is ∙ w.if-all_declarable.false
           ∙ sym (ap (λ (b : Bool). b && list_all may_be_declared ys) (sym c.all_declarable.ensures ∙ w.if-all_declarable.false))
     ] in
-    judged_each xs ys c.if-all_declarable.result twice each ∙ ap may_be_footprint keys
+    judged_each xs ys c.if-all_declarable.result twice each

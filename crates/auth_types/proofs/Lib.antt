@@ -1,0 +1,4 @@
+pub mod Parts
+pub mod Levels
+pub mod Rows
+pub mod Linked

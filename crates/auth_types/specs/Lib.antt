@@ -1,0 +1,10 @@
+pub mod Tree
+pub mod TreeCode
+pub mod Views
+pub mod Falls
+pub mod Invocation
+pub mod InvocationLaws
+pub mod Bytes
+pub mod Credentials
+pub mod AuthEntry
+pub mod Payload

@@ -1,0 +1,195 @@
+//! Who authorises.
+
+ghost use Rattle.std.specs.Prelude.{◌≡◌};
+ghost use Rattle.xdr_core.specs.Reads.{Reads};
+ghost use Rattle.auth_types.specs.Credentials.{number, kind_of, kind, type_format, type_lawful, arms, address_credentials_format, address_credentials_lawful, credentials_format, credentials_lawful};
+
+use std::alloc::{AllocError, Global};
+use value_types::{ScAddress, ScVal};
+use value_xdr::Xdr;
+use xdr_core::{Cursor, NoMemory, Out, ReadXdr, Why, XdrErr, add_sizes};
+
+/// How somebody authorises (the XDR files' `SorobanCredentialsType`).
+#[derive(Clone, Copy, Debug, PartialEq, Eq)]
+pub enum CredentialsType {
+    SourceAccount,
+    Address,
+}
+
+impl CredentialsType {
+    pub fn from_number(number: u32) -> Option<CredentialsType>
+        ensures { result ≡ kind_of number }
+    {
+        match number {
+            0 => Some(CredentialsType::SourceAccount),
+            1 => Some(CredentialsType::Address),
+            _ => None,
+        }
+    }
+
+    pub fn number(self) -> u32
+        ensures { result ≡ number self }
+    {
+        match self {
+            CredentialsType::SourceAccount => 0,
+            CredentialsType::Address => 1,
+        }
+    }
+}
+
+#[tactic(auto, unfolding(crate::specs::Credentials::type_format, xdr_core::specs::Sizes::capped))]
+impl Xdr for CredentialsType {
+    ghost format = { type_format };
+
+    fn read_parts(_alloc: Global, input: &mut Cursor<'_>) -> Result<CredentialsType, ReadXdr> {
+        let place = input.place();
+        let number = input.u32()?;
+        CredentialsType::from_number(number).ok_or(ReadXdr::Bad(XdrErr {
+            at: place,
+            why: Why::Tag,
+        }))
+    }
+
+    fn write_parts(&self, out: &mut Out) -> Result<(), NoMemory> {
+        out.put_u32(self.number())
+    }
+
+    fn size(&self) -> u64 {
+        4
+    }
+
+    ghost lawful = { type_lawful };
+}
+
+/// The authorisation of an address by a signature (the XDR files' `SorobanAddressCredentials`).
+#[derive(Drop)]
+pub struct AddressCredentials {
+    pub address: ScAddress,
+    /// Used once by the address.
+    pub nonce: i64,
+    /// The number of the last ledger in which the signature holds.
+    pub signature_expiration_ledger: u32,
+    /// Whatever the address takes for a signature.
+    pub signature: ScVal,
+}
+
+impl Clone for AddressCredentials {
+    ghost is_clone = { λ v w. w ≡ v };
+
+    fn clone(&self) -> Result<AddressCredentials, AllocError> {
+        let signature = self.signature.clone()?;
+        Ok(AddressCredentials {
+            address: self.address,
+            nonce: self.nonce,
+            signature_expiration_ledger: self.signature_expiration_ledger,
+            signature,
+        })
+    }
+}
+
+#[tactic(auto, unfolding(crate::specs::Credentials::address_credentials_format, xdr_core::specs::Sizes::capped))]
+impl Xdr for AddressCredentials {
+    ghost format = { address_credentials_format };
+
+    fn read_parts(alloc: Global, input: &mut Cursor<'_>) -> Result<AddressCredentials, ReadXdr> {
+        let address = ScAddress::read(alloc, input)?;
+        let nonce = i64::read(alloc, input)?;
+        let signature_expiration_ledger = u32::read(alloc, input)?;
+        let signature = ScVal::read(alloc, input)?;
+        Ok(AddressCredentials {
+            address,
+            nonce,
+            signature_expiration_ledger,
+            signature,
+        })
+    }
+
+    fn write_parts(&self, out: &mut Out) -> Result<(), NoMemory> {
+        self.address.write(out)?;
+        self.nonce.write(out)?;
+        self.signature_expiration_ledger.write(out)?;
+        self.signature.write(out)
+    }
+
+    fn size(&self) -> u64 {
+        let size = add_sizes(self.address.size(), self.nonce.size());
+        let size = add_sizes(size, self.signature_expiration_ledger.size());
+        add_sizes(size, self.signature.size())
+    }
+
+    ghost lawful = { address_credentials_lawful };
+}
+
+/// Who authorises (the XDR files' `SorobanCredentials`).
+#[derive(Drop)]
+pub enum Credentials {
+    /// 0: the transaction's source, by the transaction's own signatures.
+    SourceAccount,
+    /// 1: an address, by a signature of its own.
+    Address(AddressCredentials),
+}
+
+impl Clone for Credentials {
+    ghost is_clone = { λ v w. w ≡ v };
+
+    fn clone(&self) -> Result<Credentials, AllocError> {
+        match self {
+            Credentials::SourceAccount => Ok(Credentials::SourceAccount),
+            Credentials::Address(address) => Ok(Credentials::Address(address.clone()?)),
+        }
+    }
+}
+
+impl Credentials {
+    pub fn kind(&self) -> CredentialsType
+        ensures { result ≡ kind self.now }
+    {
+        match self {
+            Credentials::SourceAccount => CredentialsType::SourceAccount,
+            Credentials::Address(_) => CredentialsType::Address,
+        }
+    }
+}
+
+fn read_arm(
+    alloc: Global,
+    input: &mut Cursor<'_>,
+    kind: CredentialsType,
+) -> Result<Credentials, ReadXdr>
+    ensures { Reads (arms kind).read input.old input.new result }
+{
+    match kind {
+        CredentialsType::SourceAccount => Ok(Credentials::SourceAccount),
+        CredentialsType::Address => {
+            Ok(Credentials::Address(AddressCredentials::read(alloc, input)?))
+        }
+    }
+}
+
+#[tactic(auto, unfolding(crate::specs::Credentials::credentials_format, crate::specs::Credentials::type_format, xdr_core::specs::Sizes::capped))]
+impl Xdr for Credentials {
+    ghost format = { credentials_format };
+
+    fn read_parts(alloc: Global, input: &mut Cursor<'_>) -> Result<Credentials, ReadXdr> {
+        let kind = CredentialsType::read(alloc, input)?;
+        read_arm(alloc, input, kind)
+    }
+
+    fn write_parts(&self, out: &mut Out) -> Result<(), NoMemory> {
+        self.kind().write(out)?;
+        match self {
+            Credentials::SourceAccount => Ok(()),
+            Credentials::Address(address) => address.write(out),
+        }
+    }
+
+    fn size(&self) -> u64 {
+        let body = match self {
+            Credentials::SourceAccount => 0,
+            Credentials::Address(address) => address.size(),
+        };
+        add_sizes(self.kind().size(), body)
+    }
+
+    ghost lawful = { credentials_lawful };
+}

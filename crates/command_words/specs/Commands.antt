@@ -1,0 +1,39 @@
+-- The commands and their options, as the plain data of clap's Command (own).
+use Rattle.std.specs.Prelude.{true, Some, codes}
+use Rattle.clap.specs.Walk.{Rule, Text}
+use Rattle.clap.specs.Simple.{App, new_app, new_rule, on_top, with_rule, with_subcommand}
+use Rattle.clap.specs.declared.builder.action.ArgAction.TheVariants.{Set, SetTrue}
+
+-- a long option that is required, with one value
+abbrev pub option_rule : Text → Rule
+option_rule name = record (new_rule name) { long = Some name; action = Some Set; required = true }
+
+-- a flag
+abbrev pub flag_rule : Text → Rule
+flag_rule name = record (new_rule name) { long = Some name; action = Some SetTrue }
+
+abbrev pub with_option : Text → App → App
+with_option name a = with_rule a (option_rule name)
+
+abbrev pub with_flag : Text → App → App
+with_flag name a = with_rule a (flag_rule name)
+
+-- apply --set FILE --ledger FILE --verdicts FILE --close-time SECONDS --workers COUNT --report FILE --ledger-out FILE [--base64]
+unfoldable pub apply_app : App
+apply_app = with_flag (codes "base64") (with_option (codes "ledger-out") (with_option (codes "report") (with_option (codes "workers") (with_option (codes "close-time") (with_option (codes "verdicts") (with_option (codes "ledger") (with_option (codes "set") (new_app (codes "apply")))))))))
+
+-- show --kind KIND --file FILE [--base64]
+unfoldable pub show_app : App
+show_app = with_flag (codes "base64") (with_option (codes "file") (with_option (codes "kind") (new_app (codes "show"))))
+
+-- vet --module FILE
+unfoldable pub vet_app : App
+vet_app = with_option (codes "module") (new_app (codes "vet"))
+
+-- the program before it has commands: it gives no help, and its own name is not among the words
+abbrev pub bare_app : App
+bare_app = on_top (λ s. record s { no_binary_name = true; disable_help_flag = true; disable_help_subcommand = true; subcommand_required = true }) (new_app (codes "soroban"))
+
+-- it takes one of these commands
+unfoldable pub soroban_app : App
+soroban_app = with_subcommand (with_subcommand (with_subcommand bare_app apply_app.top) show_app.top) vet_app.top

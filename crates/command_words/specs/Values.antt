@@ -1,0 +1,46 @@
+-- The values of options (own).
+use Rattle.std.specs.Prelude.{ℕ, ◌^◌, ◌-◌, Bool, true, false, ◌&&◌, not, ◌==◌, List, [], ◌∷◌, length, Option, Some, None, nat_le, if◌then◌else◌, codes}
+use Rattle.std.specs.List.{list_any}
+use Rattle.std.specs.Str.{all_ascii_digits, bytes_eq}
+use Rattle.std.specs.Str.Parse.{digits_value}
+use Rattle.clap.specs.Walk.{Text}
+use Rattle.command_words.specs.declared.request.ShowKind.{ShowKind}
+use Rattle.command_words.specs.declared.request.ShowKind.TheVariants.{Set, Envelope, Ledger, Value}
+
+abbrev pub begins_with : ℕ → Text → Bool
+begins_with mark [] = false
+begins_with mark (c ∷ cs) = c == mark
+
+-- one decimal digit or more
+abbrev pub is_number : Text → Bool
+is_number text = not (length text == 0) && all_ascii_digits text
+
+-- a number from the least to the most
+abbrev pub number_in : ℕ → ℕ → Text → Option ℕ
+number_in least most text =
+    if is_number text && (nat_le least (digits_value 10 text) && nat_le (digits_value 10 text) most) then Some (digits_value 10 text) else None
+
+-- seconds, of 64 bits
+abbrev pub close_time_in : Text → Option ℕ
+close_time_in = number_in 0 (2 ^ 64 - 1)
+
+-- from 1 to 64
+abbrev pub workers_in : Text → Option ℕ
+workers_in = number_in 1 64
+
+-- one of four words
+abbrev pub kind_in : Text → Option ShowKind
+kind_in text = if bytes_eq text (codes "set") then Some Set
+    else (if bytes_eq text (codes "envelope") then Some Envelope
+    else (if bytes_eq text (codes "ledger") then Some Ledger
+    else (if bytes_eq text (codes "value") then Some Value else None)))
+
+-- names of files: none is empty, and none stands twice
+abbrev pub are_names : List Text → Bool
+are_names [] = true
+are_names (name ∷ names) = not (length name == 0) && not (list_any (bytes_eq name) names) && are_names names
+
+-- a flag's value
+abbrev pub is_set : Option Text → Bool
+is_set None = false
+is_set (Some text) = bytes_eq text (codes "true")

@@ -1,0 +1,77 @@
+-- The words of a command line, as clap reads them (own).
+use Rattle.std.specs.Prelude.{Bool, true, false, List, [], ◌∷◌, Option, Some, None, if◌then◌else◌, codes, option_and_then}
+use Rattle.std.specs.Str.{bytes_eq}
+use Rattle.clap.specs.Faults.{fault_of}
+use Rattle.clap.specs.Kinds.{Kinds}
+use Rattle.clap.specs.Simple.{subcommand_of}
+use Rattle.clap.specs.Walk.{Row, Text, first_of}
+use Rattle.command_words.specs.Commands.{soroban_app}
+use Rattle.command_words.specs.Values.{are_names, close_time_in, is_set, kind_in, workers_in}
+use Rattle.command_words.specs.declared.request.Request.{Request}
+use Rattle.command_words.specs.declared.request.Request.TheVariants.{Apply, Show, Vet}
+
+infixl 10 ◌>>=◌
+abbrev ◌>>=◌ : {A B : Type 0} → Option A → (A → Option B) → Option B
+o >>= f = option_and_then f o
+
+-- where the test holds
+abbrev pub guard : Bool → Option (Unit {0})
+guard true = Some tt
+guard false = None
+
+-- whether the flag --base64 is among the words
+abbrev pub has_base64 : List Row → Bool
+has_base64 rows = is_set (first_of (codes "base64") rows)
+
+-- apply, with the values of its options
+abbrev pub apply_from : List Row → Option Request
+apply_from rows = do
+  set ← first_of (codes "set") rows
+  ledger ← first_of (codes "ledger") rows
+  verdicts ← first_of (codes "verdicts") rows
+  close_time ← option_and_then close_time_in (first_of (codes "close-time") rows)
+  workers ← option_and_then workers_in (first_of (codes "workers") rows)
+  report ← first_of (codes "report") rows
+  ledger_out ← first_of (codes "ledger-out") rows
+  _ ← guard (are_names (set ∷ ledger ∷ verdicts ∷ report ∷ ledger_out ∷ []))
+  Some (Apply (record {
+    set = set;
+    ledger = ledger;
+    verdicts = verdicts;
+    close_time = close_time;
+    workers = workers;
+    report = report;
+    ledger_out = ledger_out;
+    base64 = has_base64 rows;
+  }))
+
+-- show, with the values of its options
+abbrev pub show_from : List Row → Option Request
+show_from rows = do
+  kind ← option_and_then kind_in (first_of (codes "kind") rows)
+  file ← first_of (codes "file") rows
+  _ ← guard (are_names (file ∷ []))
+  Some (Show (record { kind = kind; file = file; base64 = has_base64 rows }))
+
+-- vet, with the value of its option
+abbrev pub vet_from : List Row → Option Request
+vet_from rows = do
+  module_file ← first_of (codes "module") rows
+  _ ← guard (are_names (module_file ∷ []))
+  Some (Vet (record { module_file = module_file }))
+
+-- the command of a subcommand's matches
+abbrev pub asked_from : Option (Text × List Row) → Option Request
+asked_from None = None
+asked_from (Some found) = if bytes_eq found.0 (codes "apply") then apply_from found.1
+    else (if bytes_eq found.0 (codes "show") then show_from found.1
+    else (if bytes_eq found.0 (codes "vet") then vet_from found.1 else None))
+
+-- clap finds no fault
+abbrev pub are_right : Kinds → Bool
+are_right [] = true
+are_right (kind ∷ kinds) = false
+
+-- the command of these words, if they are right
+unfoldable pub asked_of : List Text → Option Request
+asked_of words = if are_right (fault_of soroban_app words) then asked_from (subcommand_of soroban_app words) else None

@@ -1,0 +1,134 @@
+// The commands and their options, for clap.
+ghost use Rattle.std.specs.Prelude.{◌≡◌, false, IfOk};
+ghost use Rattle.clap.specs.Simple.{app_of, new_app, with_rule, with_subcommand};
+ghost use Rattle.clap.specs.Walk.{rule_of};
+ghost use Rattle.clap.specs.declared.builder.command.Command.TheViews.{out-Command as fields_of};
+ghost use Rattle.command_words.specs.Commands.{apply_app, bare_app, flag_rule, option_rule, show_app, soroban_app, vet_app, with_flag, with_option};
+
+use clap::{Arg, ArgAction, Command};
+use std::alloc::{AllocError, Global};
+
+/// The program: it takes one of its commands.
+#[tactic(auto, unfolding(crate::specs::Commands::soroban_app))]
+pub fn soroban_command<'a>(alloc: Global) -> Result<Command<'a>, AllocError>
+    ensures { IfOk result (λ c. app_of c ≡ soroban_app) }
+{
+    let command = with_command(bare_command(alloc), apply_command(alloc)?)?;
+    let command = with_command(command, show_command(alloc)?)?;
+    with_command(command, vet_command(alloc)?)
+}
+
+// The program before it has commands. It gives no help, and its own name is not among the words.
+fn bare_command<'a>(alloc: Global) -> Command<'a>
+    ensures { app_of result ≡ bare_app }
+{
+    Command::new(alloc, "soroban")
+        .no_binary_name(true)
+        .disable_help_flag(true)
+        .disable_help_subcommand(true)
+        .subcommand_required(true)
+}
+
+#[tactic(auto, unfolding(crate::specs::Commands::apply_app))]
+fn apply_command<'a>(alloc: Global) -> Result<Command<'a>, AllocError>
+    ensures app { IfOk result (λ c. app_of c ≡ apply_app) }
+    ensures local { IfOk result (λ c. (fields_of c).has_globals ≡ false) }
+{
+    let command = Command::new(alloc, "apply");
+    let command = with_options(command, alloc, "set", "ledger", "verdicts")?;
+    let command = with_options(command, alloc, "close-time", "workers", "report")?;
+    let command = with_option(command, alloc, "ledger-out")?;
+    with_flag(command, alloc, "base64")
+}
+
+#[tactic(auto, unfolding(crate::specs::Commands::show_app))]
+fn show_command<'a>(alloc: Global) -> Result<Command<'a>, AllocError>
+    ensures app { IfOk result (λ c. app_of c ≡ show_app) }
+    ensures local { IfOk result (λ c. (fields_of c).has_globals ≡ false) }
+{
+    let command = Command::new(alloc, "show");
+    let command = with_option(command, alloc, "kind")?;
+    let command = with_option(command, alloc, "file")?;
+    with_flag(command, alloc, "base64")
+}
+
+#[tactic(auto, unfolding(crate::specs::Commands::vet_app))]
+fn vet_command<'a>(alloc: Global) -> Result<Command<'a>, AllocError>
+    ensures app { IfOk result (λ c. app_of c ≡ vet_app) }
+    ensures local { IfOk result (λ c. (fields_of c).has_globals ≡ false) }
+{
+    with_option(Command::new(alloc, "vet"), alloc, "module")
+}
+
+fn with_command<'a>(
+    command: Command<'a>,
+    subcommand: Command<'a>,
+) -> Result<Command<'a>, AllocError>
+    requires { (fields_of subcommand).has_globals ≡ false }
+    ensures { IfOk result (λ c. app_of c ≡ with_subcommand (app_of command.entry) (app_of subcommand.entry).top) }
+{
+    command.subcommand(subcommand)
+}
+
+fn with_options<'a>(
+    command: Command<'a>,
+    alloc: Global,
+    first: &'a str,
+    second: &'a str,
+    third: &'a str,
+) -> Result<Command<'a>, AllocError>
+    ensures app { IfOk result (λ c. app_of c ≡ with_option third.entry.now (with_option second.entry.now (with_option first.entry.now (app_of command.entry)))) }
+    ensures local { IfOk result (λ c. (fields_of c).has_globals ≡ (fields_of command.entry).has_globals) }
+{
+    let command = with_option(command, alloc, first)?;
+    let command = with_option(command, alloc, second)?;
+    with_option(command, alloc, third)
+}
+
+// A long option that is required, with one value.
+fn with_option<'a>(
+    command: Command<'a>,
+    alloc: Global,
+    name: &'a str,
+) -> Result<Command<'a>, AllocError>
+    ensures app { IfOk result (λ c. app_of c ≡ with_option name.entry.now (app_of command.entry)) }
+    ensures local { IfOk result (λ c. (fields_of c).has_globals ≡ (fields_of command.entry).has_globals) }
+{
+    with_argument(command, long_option(alloc, name))
+}
+
+fn with_flag<'a>(
+    command: Command<'a>,
+    alloc: Global,
+    name: &'a str,
+) -> Result<Command<'a>, AllocError>
+    ensures app { IfOk result (λ c. app_of c ≡ with_flag name.entry.now (app_of command.entry)) }
+    ensures local { IfOk result (λ c. (fields_of c).has_globals ≡ (fields_of command.entry).has_globals) }
+{
+    with_argument(command, flag(alloc, name))
+}
+
+fn with_argument<'a>(command: Command<'a>, argument: Arg<'a>) -> Result<Command<'a>, AllocError>
+    requires { argument.global ≡ false }
+    ensures app { IfOk result (λ c. app_of c ≡ with_rule (app_of command.entry) (rule_of argument.entry)) }
+    ensures local { IfOk result (λ c. (fields_of c).has_globals ≡ (fields_of command.entry).has_globals) }
+{
+    command.arg(argument)
+}
+
+fn long_option<'a>(alloc: Global, name: &'a str) -> Arg<'a>
+    ensures rule { rule_of result ≡ option_rule name.entry.now }
+    ensures local { result.global ≡ false }
+{
+    Arg::new(alloc, name)
+        .long(name)
+        .required(true)
+        .action(ArgAction::Set)
+}
+
+fn flag<'a>(alloc: Global, name: &'a str) -> Arg<'a>
+    ensures rule { rule_of result ≡ flag_rule name.entry.now }
+    ensures local { result.global ≡ false }
+{
+    Arg::new(alloc, name).long(name).action(ArgAction::SetTrue)
+}

@@ -1,0 +1,133 @@
+// What clap found, as a request.
+ghost use Rattle.std.specs.Prelude.{◌≡◌, option_and_then, option_map};
+ghost use Rattle.clap.specs.Matches.{found_of};
+ghost use Rattle.clap.specs.Simple.{subcommand_rows_of};
+ghost use Rattle.clap.specs.Walk.{first_of, rows_of};
+ghost use Rattle.command_words.specs.Answers.{ReadsWords};
+ghost use Rattle.command_words.specs.Values.{is_set, kind_in, number_in};
+ghost use Rattle.command_words.specs.Words.{apply_from, asked_from, show_from, vet_from};
+
+use crate::values::{are_names, kind_in, number_in};
+use crate::{ApplyRequest, Request, ShowKind, ShowRequest, VetRequest, WordsErr};
+use clap::ArgMatches;
+use edge_io::Word;
+use std::alloc::Global;
+
+const MAX_WORKERS: u64 = 64;
+
+/// The request of the command that clap found.
+pub fn request_from(alloc: Global, matches: &ArgMatches<'_>) -> Result<Request, WordsErr>
+    ensures { ReadsWords result (asked_from (subcommand_rows_of matches.now)) }
+{
+    let Some((name, found)) = subcommand_in(matches) else {
+        return Err(WordsErr::Usage);
+    };
+    match name {
+        "apply" => apply_request(alloc, found),
+        "show" => show_request(alloc, found),
+        "vet" => vet_request(alloc, found),
+        _ => Err(WordsErr::Usage),
+    }
+}
+
+// The subcommand of a parse, and its matches.
+fn subcommand_in<'m, 'a>(matches: &'m ArgMatches<'a>) -> Option<(&'a str, &'m ArgMatches<'a>)>
+    ensures { option_map (λ p. (p.0.now, rows_of (found_of p.1.now))) result ≡ subcommand_rows_of matches.now }
+{
+    matches.subcommand()
+}
+
+fn apply_request(alloc: Global, found: &ArgMatches<'_>) -> Result<Request, WordsErr>
+    ensures { ReadsWords result (apply_from (rows_of (found_of found.now))) }
+{
+    let set = value_of(alloc, found, "set")?;
+    let ledger = value_of(alloc, found, "ledger")?;
+    let verdicts = value_of(alloc, found, "verdicts")?;
+    let close_time = number_of(found, "close-time", 0, u64::MAX)?;
+    let workers = number_of(found, "workers", 1, MAX_WORKERS)?;
+    let report = value_of(alloc, found, "report")?;
+    let ledger_out = value_of(alloc, found, "ledger-out")?;
+    if !are_names(&[&set, &ledger, &verdicts, &report, &ledger_out]) {
+        return Err(WordsErr::Usage);
+    }
+    Ok(Request::Apply(ApplyRequest {
+        set,
+        ledger,
+        verdicts,
+        close_time,
+        workers,
+        report,
+        ledger_out,
+        base64: is_set(found, "base64"),
+    }))
+}
+
+fn show_request(alloc: Global, found: &ArgMatches<'_>) -> Result<Request, WordsErr>
+    ensures { ReadsWords result (show_from (rows_of (found_of found.now))) }
+{
+    let kind = kind_of(found, "kind")?;
+    let file = value_of(alloc, found, "file")?;
+    if !are_names(&[&file]) {
+        return Err(WordsErr::Usage);
+    }
+    Ok(Request::Show(ShowRequest {
+        kind,
+        file,
+        base64: is_set(found, "base64"),
+    }))
+}
+
+fn vet_request(alloc: Global, found: &ArgMatches<'_>) -> Result<Request, WordsErr>
+    ensures { ReadsWords result (vet_from (rows_of (found_of found.now))) }
+{
+    let module_file = value_of(alloc, found, "module")?;
+    if !are_names(&[&module_file]) {
+        return Err(WordsErr::Usage);
+    }
+    Ok(Request::Vet(VetRequest { module_file }))
+}
+
+// The value of an option.
+#[tactic(auto, using(crate::proofs::Parsing::first_of_rows))]
+fn value_of(alloc: Global, found: &ArgMatches<'_>, id: &str) -> Result<Word, WordsErr>
+    ensures { ReadsWords result (first_of id.now (rows_of (found_of found.now))) }
+{
+    let Some(text) = found.get_str(id) else {
+        return Err(WordsErr::Usage);
+    };
+    let text = String::from_str(alloc, text)?;
+    Ok(Word::new(text))
+}
+
+// The value of an option, as a number in this range.
+#[tactic(auto, using(crate::proofs::Parsing::first_of_rows))]
+fn number_of(found: &ArgMatches<'_>, id: &str, least: u64, most: u64) -> Result<u64, WordsErr>
+    ensures { ReadsWords result (option_and_then (number_in least most) (first_of id.now (rows_of (found_of found.now)))) }
+{
+    let Some(text) = found.get_str(id) else {
+        return Err(WordsErr::Usage);
+    };
+    number_in(text, least, most).ok_or(WordsErr::Usage)
+}
+
+// The value of an option, as a kind of file.
+#[tactic(auto, using(crate::proofs::Parsing::first_of_rows))]
+fn kind_of(found: &ArgMatches<'_>, id: &str) -> Result<ShowKind, WordsErr>
+    ensures { ReadsWords result (option_and_then kind_in (first_of id.now (rows_of (found_of found.now)))) }
+{
+    let Some(text) = found.get_str(id) else {
+        return Err(WordsErr::Usage);
+    };
+    kind_in(text).ok_or(WordsErr::Usage)
+}
+
+// Whether a flag is among the words.
+#[tactic(auto, using(crate::proofs::Parsing::first_of_rows))]
+fn is_set(found: &ArgMatches<'_>, id: &str) -> bool
+    ensures { result ≡ is_set (first_of id.now (rows_of (found_of found.now))) }
+{
+    match found.get_str(id) {
+        Some(text) => text == "true",
+        None => false,
+    }
+}

@@ -1,0 +1,56 @@
+// What right words ask for.
+
+use edge_io::Word;
+
+/// The options of `apply`.
+#[derive(Debug, Drop)]
+pub struct ApplyRequest {
+    /// The file of the transaction set.
+    pub set: Word,
+    /// The file of the ledger before the set.
+    pub ledger: Word,
+    pub verdicts: Word,
+    /// When the new ledger closes, in seconds since 1970.
+    pub close_time: u64,
+    /// How many workers share the work, from 1 to 64. The answer is the same for any number.
+    pub workers: u64,
+    /// The file that gets the results.
+    pub report: Word,
+    /// The file that gets the new ledger.
+    pub ledger_out: Word,
+    /// Whether the set's file is text in Base64.
+    pub base64: bool,
+}
+
+/// What the file of `show` spells.
+#[derive(Clone, Copy, Debug, PartialEq, Eq)]
+pub enum ShowKind {
+    Set,
+    Envelope,
+    Ledger,
+    Value,
+}
+
+/// The options of `show`.
+#[derive(Debug, Drop)]
+pub struct ShowRequest {
+    pub kind: ShowKind,
+    pub file: Word,
+    /// Whether the file is text in Base64.
+    pub base64: bool,
+}
+
+/// The options of `vet`.
+#[derive(Debug, Drop)]
+pub struct VetRequest {
+    /// The file of the WebAssembly module.
+    pub module_file: Word,
+}
+
+/// A command, with its options.
+#[derive(Debug, Drop)]
+pub enum Request {
+    Apply(ApplyRequest),
+    Show(ShowRequest),
+    Vet(VetRequest),
+}

@@ -1,0 +1,61 @@
+// The values of options.
+ghost use Rattle.std.specs.Prelude.{◌≡◌, ◌<◌, map};
+ghost use Rattle.std.specs.List.{list_any};
+ghost use Rattle.std.specs.Str.{bytes_eq};
+ghost use Rattle.command_words.specs.Values.{are_names, begins_with, kind_in, number_in};
+
+use crate::ShowKind;
+use edge_io::Word;
+
+/// The number that one or more decimal digits make, if it is in this range.
+pub fn number_in(text: &str, least: u64, most: u64) -> Option<u64>
+    ensures { result ≡ number_in least most text.now }
+{
+    // `parse` takes a plus sign.
+    if begins_with(text, b'+') {
+        return None;
+    }
+    let number = text.parse::<u64>().ok()?;
+    if least <= number && number <= most {
+        Some(number)
+    } else {
+        None
+    }
+}
+
+fn begins_with(text: &str, mark: u8) -> bool
+    ensures { result ≡ begins_with mark text.now }
+{
+    text.as_bytes().first() == Some(&mark)
+}
+
+/// The kind of file that this word names.
+pub fn kind_in(text: &str) -> Option<ShowKind>
+    ensures { result ≡ kind_in text.now }
+{
+    match text {
+        "set" => Some(ShowKind::Set),
+        "envelope" => Some(ShowKind::Envelope),
+        "ledger" => Some(ShowKind::Ledger),
+        "value" => Some(ShowKind::Value),
+        _ => None,
+    }
+}
+
+/// Whether these may be the names of a command's files: none is empty, and no two are equal.
+pub fn are_names(names: &[&Word]) -> bool
+    ensures { result ≡ are_names (map (λ n. n.now) names.now) }
+{
+    for (i, name) in names.iter().enumerate() {
+        if name.as_str().is_empty() || has_name(&names[i + 1..], name) {
+            return false;
+        }
+    }
+    true
+}
+
+fn has_name(names: &[&Word], name: &Word) -> bool
+    ensures { result ≡ list_any (λ n. bytes_eq name.now n.now) names.now }
+{
+    names.iter().any(|other| name.as_str() == other.as_str())
+}

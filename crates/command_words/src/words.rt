@@ -1,0 +1,33 @@
+// From the words to what they ask for.
+ghost use Rattle.command_words.specs.Answers.{IsRefusal, ReadsWords};
+ghost use Rattle.command_words.specs.Words.{asked_of};
+
+use crate::commands::soroban_command;
+use crate::matches::request_from;
+use crate::{Request, WordsErr};
+use clap::Error;
+use clap::error::ErrorKind;
+use edge_io::Word;
+use std::alloc::Global;
+
+/// What the words after the program's name ask for. They are one command, and its options in any
+/// order, each once.
+pub fn request_of(alloc: Global, words: &[Word]) -> Result<Request, WordsErr>
+    ensures { ReadsWords result (asked_of words.now) }
+{
+    let command = soroban_command(alloc)?;
+    match command.try_get_matches_from(words) {
+        Ok(matches) => request_from(alloc, &matches),
+        Err(error) => Err(refusal(&error)),
+    }
+}
+
+// What an error of clap says of the words.
+fn refusal(error: &Error) -> WordsErr
+    ensures { IsRefusal error.now result }
+{
+    match error.kind() {
+        ErrorKind::OutOfMemory => WordsErr::NoMemory,
+        _ => WordsErr::Usage,
+    }
+}

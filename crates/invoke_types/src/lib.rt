@@ -1,0 +1,26 @@
+//! What a contract transaction invokes and what comes of it, and how it is spelled: host functions, events and the ids of
+//! contracts (the Stellar XDR files, under RFC 4506).
+#![tactic(auto)]
+
+mod arguments;
+mod asset;
+mod event;
+mod function;
+mod host_function;
+mod ids;
+mod preimage;
+mod success;
+mod values;
+
+pub use arguments::{CreateContractArgs, CreateContractArgsV2, InvokeContractArgs};
+pub use asset::{Asset, AssetType};
+pub use event::{ContractEvent, ContractEventType};
+pub use function::{Function, FunctionType};
+pub use host_function::{HostFunction, HostFunctionType};
+pub use ids::{contract_id, contract_id_lengths};
+pub use preimage::{Preimage, PreimageType};
+pub use success::SuccessPreimage;
+pub use values::clone_values;
+
+#[cfg(test)]
+mod tests;

@@ -1,0 +1,139 @@
+//! What the ids of contracts are made of.
+
+ghost use Rattle.std.specs.Prelude.{◌≡◌, ⊤};
+ghost use Rattle.xdr_core.specs.Reads.{Reads};
+ghost use Rattle.invoke_types.specs.Preimage.{number, kind_of, kind, type_format, type_lawful, arms, preimage_format, preimage_lawful};
+
+use crate::asset::Asset;
+use std::alloc::{AllocError, Global};
+use value_types::{Hash, ScAddress};
+use value_xdr::Xdr;
+use xdr_core::{Cursor, NoMemory, Out, ReadXdr, Why, XdrErr, add_sizes};
+
+/// What the id of a contract comes from (the XDR files' `ContractIDPreimageType`).
+#[derive(Clone, Copy, Debug, PartialEq, Eq)]
+pub enum PreimageType {
+    FromAddress,
+    FromAsset,
+}
+
+impl PreimageType {
+    pub fn from_number(number: u32) -> Option<PreimageType>
+        ensures { result ≡ kind_of number }
+    {
+        match number {
+            0 => Some(PreimageType::FromAddress),
+            1 => Some(PreimageType::FromAsset),
+            _ => None,
+        }
+    }
+
+    pub fn number(self) -> u32
+        ensures { result ≡ number self }
+    {
+        match self {
+            PreimageType::FromAddress => 0,
+            PreimageType::FromAsset => 1,
+        }
+    }
+}
+
+#[tactic(auto, unfolding(crate::specs::Preimage::type_format, xdr_core::specs::Sizes::capped))]
+impl Xdr for PreimageType {
+    ghost format = { type_format };
+
+    fn read_parts(_alloc: Global, input: &mut Cursor<'_>) -> Result<PreimageType, ReadXdr> {
+        let place = input.place();
+        let number = input.u32()?;
+        PreimageType::from_number(number).ok_or(ReadXdr::Bad(XdrErr {
+            at: place,
+            why: Why::Tag,
+        }))
+    }
+
+    fn write_parts(&self, out: &mut Out) -> Result<(), NoMemory> {
+        out.put_u32(self.number())
+    }
+
+    fn size(&self) -> u64 {
+        4
+    }
+
+    ghost lawful = { type_lawful };
+}
+
+/// What the id of a contract is made of (the XDR files' `ContractIDPreimage`).
+#[derive(Debug, PartialEq, Eq)]
+pub enum Preimage {
+    /// 0: who deploys the contract, and 32 bytes of their choice.
+    FromAddress { address: ScAddress, salt: Hash },
+    /// 1: the asset whose contract it is.
+    FromAsset(Asset),
+}
+
+impl Clone for Preimage {
+    ghost is_clone = { λ v w. w ≡ v };
+
+    ghost is_infallible = { λ _. ⊤ };
+
+    fn clone(&self) -> Result<Preimage, AllocError> {
+        Ok(*self)
+    }
+}
+
+impl Copy for Preimage {}
+
+impl Preimage {
+    pub fn kind(self) -> PreimageType
+        ensures { result ≡ kind self }
+    {
+        match self {
+            Preimage::FromAddress { .. } => PreimageType::FromAddress,
+            Preimage::FromAsset(_) => PreimageType::FromAsset,
+        }
+    }
+}
+
+fn read_arm(alloc: Global, input: &mut Cursor<'_>, kind: PreimageType) -> Result<Preimage, ReadXdr>
+    ensures { Reads (arms kind).read input.old input.new result }
+{
+    match kind {
+        PreimageType::FromAddress => {
+            let address = ScAddress::read(alloc, input)?;
+            let salt = Hash::read(alloc, input)?;
+            Ok(Preimage::FromAddress { address, salt })
+        }
+        PreimageType::FromAsset => Ok(Preimage::FromAsset(Asset::read(alloc, input)?)),
+    }
+}
+
+#[tactic(auto, unfolding(crate::specs::Preimage::preimage_format, crate::specs::Preimage::type_format, xdr_core::specs::Sizes::capped))]
+impl Xdr for Preimage {
+    ghost format = { preimage_format };
+
+    fn read_parts(alloc: Global, input: &mut Cursor<'_>) -> Result<Preimage, ReadXdr> {
+        let kind = PreimageType::read(alloc, input)?;
+        read_arm(alloc, input, kind)
+    }
+
+    fn write_parts(&self, out: &mut Out) -> Result<(), NoMemory> {
+        self.kind().write(out)?;
+        match self {
+            Preimage::FromAddress { address, salt } => {
+                address.write(out)?;
+                salt.write(out)
+            }
+            Preimage::FromAsset(asset) => asset.write(out),
+        }
+    }
+
+    fn size(&self) -> u64 {
+        let body = match self {
+            Preimage::FromAddress { address, salt } => add_sizes(address.size(), salt.size()),
+            Preimage::FromAsset(asset) => asset.size(),
+        };
+        add_sizes(self.kind().size(), body)
+    }
+
+    ghost lawful = { preimage_lawful };
+}

@@ -1,0 +1,197 @@
+//! Spellings by the XDR files, put together by hand.
+
+use crate::{ContractEvent, Function, HostFunction, Preimage, SuccessPreimage, contract_id};
+use std::alloc::Global;
+use std::test::Fail;
+use value_types::Hash;
+use value_xdr::{Xdr, decode, encode};
+use xdr_core::{ReadXdr, Why, XdrErr};
+
+const W0: &[u8] = &[0, 0, 0, 0];
+
+const W1: &[u8] = &[0, 0, 0, 1];
+
+const W2: &[u8] = &[0, 0, 0, 2];
+
+const W3: &[u8] = &[0, 0, 0, 3];
+
+const W4: &[u8] = &[0, 0, 0, 4];
+
+const W5: &[u8] = &[0, 0, 0, 5];
+
+const W33: &[u8] = &[0, 0, 0, 33];
+
+const ID: &[u8] = &[7; 32];
+
+const SALT: &[u8] = &[9; 32];
+
+fn joined(alloc: Global, parts: &[&[u8]]) -> Result<Vec<u8>, Fail> {
+    let mut bytes = Vec::new(alloc);
+    for part in parts {
+        bytes.extend_from_slice(part)?;
+    }
+    Ok(bytes)
+}
+
+// Whether the bytes are read as a value of which they are the spelling.
+fn spell<T: Xdr + Drop>(alloc: Global, parts: &[&[u8]]) -> Result<bool, Fail> {
+    let bytes = joined(alloc, parts)?;
+    let value = decode::<T>(alloc, &bytes)?;
+    let again = encode(alloc, &value)?;
+    Ok(again.as_slice() == bytes.as_slice() && value.size() == bytes.len() as u64)
+}
+
+#[test]
+fn host_functions(rt: HostRuntime) -> Result<(), Fail> {
+    let rows: [&[&[u8]]; 7] = [
+        // a call of "ab" with VOID
+        &[W0, W1, ID, W2, b"ab\0\0", W1, W1],
+        // from an account and from a contract, each running a module
+        &[W1, W0, W0, W0, ID, SALT, W0, ID],
+        &[W1, W0, W1, ID, SALT, W0, ID],
+        // from assets, running the contract of the asset
+        &[W1, W1, W0, W1],
+        &[W1, W1, W2, b"USDCandSoOn.", W0, ID, W1],
+        // a module of 5 bytes
+        &[W2, W5, b"\0asm\x01\0\0\0"],
+        // with a constructor that takes VOID
+        &[W3, W1, W1, b"USDC", W0, ID, W1, W1, W1],
+    ];
+    for row in rows {
+        assert!(rt; spell::<HostFunction>(rt.alloc(), row)?);
+    }
+    let functions: [&[&[u8]]; 3] = [
+        &[W0, W0, W0, ID, W0, W0],
+        &[W1, W1, W0, W1],
+        &[W2, W1, W0, W1, W0],
+    ];
+    for row in functions {
+        assert!(rt; spell::<Function>(rt.alloc(), row)?);
+    }
+    Ok(())
+}
+
+#[test]
+fn events(rt: HostRuntime) -> Result<(), Fail> {
+    let rows: [&[&[u8]]; 3] = [
+        &[W0, W0, W0, W0, W0, W1],
+        &[W0, W1, ID, W1, W0, W2, W1, W1, W1],
+        &[W0, W0, W2, W0, W0, W1],
+    ];
+    for row in rows {
+        assert!(rt; spell::<ContractEvent>(rt.alloc(), row)?);
+    }
+    // VOID, and an event of a contract
+    let preimage: [&[u8]; 9] = [W1, W1, W0, W1, ID, W1, W0, W0, W1];
+    assert!(rt; spell::<SuccessPreimage>(rt.alloc(), &preimage)?);
+    Ok(())
+}
+
+fn refusal(alloc: Global, parts: &[&[u8]]) -> Result<Option<ReadXdr>, Fail> {
+    let bytes = joined(alloc, parts)?;
+    Ok(decode::<SuccessPreimage>(alloc, &bytes).err())
+}
+
+fn function_refusal(alloc: Global, parts: &[&[u8]]) -> Result<Option<ReadXdr>, Fail> {
+    let bytes = joined(alloc, parts)?;
+    Ok(decode::<HostFunction>(alloc, &bytes).err())
+}
+
+fn bad(at: u64, why: Why) -> Option<ReadXdr> {
+    Some(ReadXdr::Bad(XdrErr { at, why }))
+}
+
+#[test]
+fn refusals(rt: HostRuntime) -> Result<(), Fail> {
+    let rows: [(&[&[u8]], u64, Why); 9] = [
+        // no such function, no such preimage, no such asset
+        (&[W4], 0, Why::Tag),
+        (&[W1, W2], 4, Why::Tag),
+        (&[W1, W1, W3], 8, Why::Tag),
+        // an address of a kind that is not taken
+        (&[W0, W2], 4, Why::Tag),
+        // a name of 33 bytes
+        (&[W0, W1, ID, W33], 40, Why::Limit),
+        (&[W0, W1, ID, W2, b"ab\0\x01"], 44, Why::Padding),
+        // no such executable
+        (&[W1, W1, W0, W2], 12, Why::Tag),
+        (&[W2, W5, b"\0asm\x01\0\0"], 15, Why::End),
+        (&[W1, W1, W0, W1, W0], 16, Why::Trailing),
+    ];
+    for (row, at, why) in rows {
+        assert_eq!(rt; function_refusal(rt.alloc(), row)?, bad(at, why));
+    }
+    let rows: [(&[&[u8]], u64, Why); 4] = [
+        // an extension, a flag, a type and a body that are not taken
+        (&[W1, W1, W1], 8, Why::Tag),
+        (&[W1, W1, W0, W2], 12, Why::Boolean),
+        (&[W1, W1, W0, W0, W3], 16, Why::Tag),
+        (&[W1, W1, W0, W0, W2, W1], 20, Why::Tag),
+    ];
+    for (row, at, why) in rows {
+        assert_eq!(rt; refusal(rt.alloc(), row)?, bad(at, why));
+    }
+    Ok(())
+}
+
+#[test]
+fn copies(rt: HostRuntime) -> Result<(), Fail> {
+    let alloc = rt.alloc();
+    let bytes = joined(alloc, &[W0, W1, ID, W2, b"ab\0\0", W1, W1])?;
+    let function = decode::<HostFunction>(alloc, &bytes)?;
+    let again = encode(alloc, &function.clone()?)?;
+    assert_eq!(rt; again.as_slice(), bytes.as_slice());
+    let function = decode::<Function>(alloc, &bytes)?;
+    let again = encode(alloc, &function.clone()?)?;
+    assert_eq!(rt; again.as_slice(), bytes.as_slice());
+    let bytes = joined(alloc, &[W1, W1, W0, W1, ID, W1, W0, W0, W1])?;
+    let preimage = decode::<SuccessPreimage>(alloc, &bytes)?;
+    let again = encode(alloc, &preimage.clone()?)?;
+    assert_eq!(rt; again.as_slice(), bytes.as_slice());
+    Ok(())
+}
+
+/// SHA-256, by another program, of the number 8, 32 bytes of 05 and the preimages of the test.
+const CONTRACT_IDS: [[u32; 8]; 4] = [
+    [
+        0x612a75d5, 0x5cefb4b5, 0xd5122c02, 0x23527f03, 0xce33e976, 0x6213c3cc, 0x1b90cfde,
+        0xcfa7be22,
+    ],
+    [
+        0x77e6d95b, 0x3d16a1cc, 0x0646106f, 0xf99bb1ae, 0x51924f7e, 0xe292d3a0, 0x5e8b0406,
+        0x9bb2f1f4,
+    ],
+    [
+        0x4ffa42d1, 0xcf5a9949, 0xf3d7bfd8, 0xd5160068, 0x6c99d8e0, 0x94759862, 0xfc28177d,
+        0xf33d0c5e,
+    ],
+    [
+        0x9d2afd13, 0xb80771e9, 0x3381db3c, 0x836f44fa, 0x34328abe, 0xb0d5132c, 0xddfab756,
+        0x5d9c9e3b,
+    ],
+];
+
+fn id_of(alloc: Global, parts: &[&[u8]]) -> Result<Hash, Fail> {
+    let bytes = joined(alloc, parts)?;
+    let preimage = decode::<Preimage>(alloc, &bytes)?;
+    Ok(contract_id(alloc, &Hash([5; 32]), &preimage)?)
+}
+
+#[test]
+fn contract_ids(rt: HostRuntime) -> Result<(), Fail> {
+    let rows: [&[&[u8]]; 4] = [
+        &[W0, W0, W0, ID, SALT],
+        &[W0, W1, ID, SALT],
+        &[W1, W1, b"USDC", W0, ID],
+        &[W1, W0],
+    ];
+    for (row, words) in rows.iter().zip(CONTRACT_IDS.iter()) {
+        let id = id_of(rt.alloc(), row)?;
+        let mut expected = Vec::new(rt.alloc());
+        for word in words {
+            expected.extend_from_slice(&word.to_be_bytes())?;
+        }
+        assert_eq!(rt; id.0.as_slice(), expected.as_slice());
+    }
+    Ok(())
+}

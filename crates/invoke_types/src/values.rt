@@ -1,0 +1,15 @@
+//! Values in a row.
+
+ghost use Rattle.std.specs.Prelude.{◌≡◌, IfOk};
+
+use std::alloc::AllocError;
+use value_types::{Items, ScVal};
+
+/// The same values.
+pub fn clone_values(
+    values: &Items<ScVal, 4294967295>,
+) -> Result<Items<ScVal, 4294967295>, AllocError>
+    ensures { IfOk result (λ copies. copies ≡ values.now) }
+{
+    values.clone()
+}

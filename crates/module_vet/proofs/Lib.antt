@@ -1,0 +1,3 @@
+pub mod Exact
+mod Failing
+mod Functions

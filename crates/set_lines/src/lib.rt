@@ -1,0 +1,146 @@
+//! The lines that say what the transactions of a set are.
+#![tactic(auto)]
+
+ghost use Rattle.std.specs.Prelude.{◌≡◌, ◌++◌, map, codes, OnOk, IfOk};
+ghost use Rattle.set_lines.specs.Lines.{cluster_lines, component_clusters, envelope_line, envelope_line_at, envelopes_in, numbered, operation_name, phase_stages, set_lines, stage_clusters, stage_lines, stages_in};
+ghost use Rattle.set_lines.specs.Parts.{part_of};
+
+use std::alloc::{AllocError, Global};
+use text_lines::{push_number, push_signed};
+use tx_xdr::{Cluster, Component, Envelope, Operation, Phase, Stage, TxSet};
+
+/// Transactions of a set that end together: a stage, or a component, which is a stage of one cluster.
+#[derive(Clone, Copy)]
+enum Part<'a> {
+    Component(&'a Component),
+    Stage(&'a Stage),
+}
+
+/// A line for each transaction of a set, in its order: the number of its stage in the whole set, of its cluster in the stage,
+/// and its own in the cluster, each from 0; the number of its first operation, or `none`; and its sequence number.
+pub fn set_lines(alloc: Global, set: &TxSet) -> Result<Vec<u8>, AllocError>
+    ensures { IfOk result (λ v. v.items ≡ set_lines set.now) }
+{
+    let parts = parts_of(alloc, set)?;
+    let mut lines = Vec::new(alloc);
+    push_parts(&mut lines, &parts)?;
+    Ok(lines)
+}
+
+/// The line of a transaction that stands alone.
+pub fn envelope_line(alloc: Global, envelope: &Envelope) -> Result<Vec<u8>, AllocError>
+    ensures { IfOk result (λ v. v.items ≡ envelope_line envelope.now) }
+{
+    let mut line = Vec::new(alloc);
+    push_envelope(&mut line, 0, 0, 0, envelope)?;
+    Ok(line)
+}
+
+fn parts_of<'a>(alloc: Global, set: &'a TxSet) -> Result<Vec<Part<'a>>, AllocError>
+    ensures { IfOk result (λ v. map part_of v.items ≡ stages_in set.now) }
+{
+    let mut parts = Vec::new(alloc);
+    for phase in set.phases.as_slice() {
+        push_phase(&mut parts, phase)?;
+    }
+    Ok(parts)
+}
+
+fn push_phase<'a>(parts: &mut Vec<Part<'a>>, phase: &'a Phase) -> Result<(), AllocError>
+    ensures { OnOk result (map part_of parts.new.items ≡ map part_of parts.old.items ++ phase_stages phase.now) }
+{
+    match phase {
+        Phase::Components(components) => push_components(parts, components.as_slice()),
+        Phase::Parallel { stages, .. } => push_stages(parts, stages.as_slice()),
+    }
+}
+
+fn push_components<'a>(
+    parts: &mut Vec<Part<'a>>,
+    components: &'a [Component],
+) -> Result<(), AllocError>
+    ensures { OnOk result (map part_of parts.new.items ≡ map part_of parts.old.items ++ map component_clusters components.now) }
+{
+    for component in components {
+        parts.push(Part::Component(component))?;
+    }
+    Ok(())
+}
+
+fn push_stages<'a>(parts: &mut Vec<Part<'a>>, stages: &'a [Stage]) -> Result<(), AllocError>
+    ensures { OnOk result (map part_of parts.new.items ≡ map part_of parts.old.items ++ map stage_clusters stages.now) }
+{
+    for stage in stages {
+        parts.push(Part::Stage(stage))?;
+    }
+    Ok(())
+}
+
+// The lines of stages, numbered from 0.
+fn push_parts(lines: &mut Vec<u8>, parts: &[Part<'_>]) -> Result<(), AllocError>
+    ensures { OnOk result (lines.new.items ≡ lines.old.items ++ numbered stage_lines 0 (map part_of parts.now)) }
+{
+    for (stage, part) in parts.iter().enumerate() {
+        push_part(lines, stage as u64, part)?;
+    }
+    Ok(())
+}
+
+fn push_part(lines: &mut Vec<u8>, stage: u64, part: &Part<'_>) -> Result<(), AllocError>
+    ensures { OnOk result (lines.new.items ≡ lines.old.items ++ stage_lines stage (part_of part.now)) }
+{
+    match part {
+        Part::Component(component) => {
+            push_envelopes(lines, stage, 0, component.envelopes.as_slice())
+        }
+        Part::Stage(clusters) => push_clusters(lines, stage, clusters.clusters.as_slice()),
+    }
+}
+
+fn push_clusters(lines: &mut Vec<u8>, stage: u64, clusters: &[Cluster]) -> Result<(), AllocError>
+    ensures { OnOk result (lines.new.items ≡ lines.old.items ++ numbered (cluster_lines stage) 0 (map envelopes_in clusters.now)) }
+{
+    for (number, cluster) in clusters.iter().enumerate() {
+        push_envelopes(lines, stage, number as u64, cluster.envelopes.as_slice())?;
+    }
+    Ok(())
+}
+
+fn push_envelopes(
+    lines: &mut Vec<u8>,
+    stage: u64,
+    cluster: u64,
+    envelopes: &[Envelope],
+) -> Result<(), AllocError>
+    ensures { OnOk result (lines.new.items ≡ lines.old.items ++ cluster_lines stage cluster envelopes.now) }
+{
+    for (place, envelope) in envelopes.iter().enumerate() {
+        push_envelope(lines, stage, cluster, place as u64, envelope)?;
+    }
+    Ok(())
+}
+
+fn push_envelope(
+    lines: &mut Vec<u8>,
+    stage: u64,
+    cluster: u64,
+    place: u64,
+    envelope: &Envelope,
+) -> Result<(), AllocError>
+    ensures { OnOk result (lines.new.items ≡ lines.old.items ++ envelope_line_at stage cluster place envelope.now) }
+{
+    push_number(lines, stage, b" ")?;
+    push_number(lines, cluster, b" ")?;
+    push_number(lines, place, b" ")?;
+    push_operation(lines, envelope.tx.operations.as_slice())?;
+    push_signed(lines, envelope.tx.seq_num, b"\n")
+}
+
+fn push_operation(lines: &mut Vec<u8>, operations: &[Operation]) -> Result<(), AllocError>
+    ensures { OnOk result (lines.new.items ≡ lines.old.items ++ operation_name operations.now ++ codes " ") }
+{
+    match operations {
+        [] => lines.extend_from_slice(b"none "),
+        [first, ..] => push_number(lines, first.body.kind().number() as u64, b" "),
+    }
+}

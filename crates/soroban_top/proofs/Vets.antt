@@ -1,0 +1,9 @@
+-- What vet comes to, of the module that the file spells.
+use Rattle.std.proofs.Common.{refl}
+use Rattle.module_vet.proofs.Exact.{exact}
+use Rattle.soroban_top.specs.Laws.{VetLaw}
+use Rattle.soroban_top.specs.Vetted.{vetted}
+
+pub vet_as_verdict : VetLaw
+unfolding vetted
+vet_as_verdict v m bytes verdict has so = rw (has, (exact bytes verdict).1 so) refl

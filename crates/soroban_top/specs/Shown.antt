@@ -1,0 +1,66 @@
+-- What show says of a file's bytes (own).
+use Rattle.std.specs.Prelude.{ℕ, Bool, false, List, Result, Ok, Err}
+use Rattle.command_words.specs.declared.request.ShowKind.{ShowKind}
+use Rattle.command_words.specs.declared.request.ShowKind.TheVariants as kinds
+use Rattle.command_words.specs.declared.request.ShowRequest.{ShowRequest}
+use Rattle.edge_io.specs.Contents.{FileMap}
+use Rattle.ledger_spec.specs.LedgerFile.{ledger_of}
+use Rattle.ledger_spec.specs.LedgerMap.{LedgerMap}
+use Rattle.ledger_types.specs.declared.header.Header.{Header}
+use Rattle.set_lines.specs.Lines.{envelope_line, set_lines}
+use Rattle.show_lines.specs.Lines.{ledger_lines, value_line}
+use Rattle.tx_xdr.specs.Limits.{whole}
+use Rattle.tx_xdr.specs.Set.{set_format}
+use Rattle.tx_xdr.specs.Transaction.{envelope_format}
+use Rattle.tx_xdr.specs.declared.set.TxSet.{TxSet}
+use Rattle.tx_xdr.specs.declared.transaction.Envelope.{Envelope}
+use Rattle.value_types.specs.Formats.{scval_format}
+use Rattle.value_types.specs.declared.value.ScVal.{ScVal}
+use Rattle.xdr_spec.specs.Decoded.{decoded}
+use Rattle.soroban_top.specs.Judged.{as_ledger, as_spelled, content_of, opened}
+use Rattle.soroban_top.specs.Steps.{◌>>=◌}
+use Rattle.soroban_top.specs.declared.status.Status.{Status}
+
+-- ---- what the bytes spell
+
+-- a set of the whole grammar
+unfoldable pub any_set_in : List ℕ → Result TxSet Status
+any_set_in bytes = as_spelled (decoded (set_format whole) bytes)
+
+unfoldable pub any_envelope_in : List ℕ → Result Envelope Status
+any_envelope_in bytes = as_spelled (decoded (envelope_format whole) bytes)
+
+-- any ledger, also one that none may follow
+unfoldable pub any_ledger_in : List ℕ → Result (Header × LedgerMap) Status
+any_ledger_in bytes = as_ledger (ledger_of false bytes)
+
+unfoldable pub value_in : List ℕ → Result ScVal Status
+value_in bytes = as_spelled (decoded scval_format bytes)
+
+-- ---- the lines of it
+
+abbrev pub shown : ShowKind → List ℕ → Result (List ℕ) Status
+shown kinds.Set bytes = do
+  set ← any_set_in bytes
+  Ok (set_lines set)
+shown kinds.Envelope bytes = do
+  envelope ← any_envelope_in bytes
+  Ok (envelope_line envelope)
+shown kinds.Ledger bytes = do
+  ledger ← any_ledger_in bytes
+  Ok (ledger_lines ledger.0 ledger.1)
+shown kinds.Value bytes = do
+  value ← value_in bytes
+  Ok (value_line value)
+
+-- the same, of a file that may be text in Base64
+abbrev pub shown_opened : Bool → ShowKind → List ℕ → List ℕ → Result (List ℕ) Status
+shown_opened base64 kind name text = do
+  bytes ← opened base64 name text
+  shown kind bytes
+
+-- of the file that is asked for
+abbrev pub shown_at : FileMap → ShowRequest → Result (List ℕ) Status
+shown_at m request = do
+  text ← content_of m request.file
+  shown_opened request.base64 request.kind request.file text

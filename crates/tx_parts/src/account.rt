@@ -1,0 +1,142 @@
+//! The accounts that transactions name.
+
+ghost use Rattle.std.specs.Prelude.{◌≡◌, ⊤};
+ghost use Rattle.xdr_core.specs.Reads.{Reads};
+ghost use Rattle.tx_parts.specs.MuxedAccount.{number, kind_of, kind, type_format, type_lawful, arms, account_format, account_lawful};
+
+use std::alloc::{AllocError, Global};
+use value_types::Hash;
+use value_xdr::Xdr;
+use xdr_core::{Cursor, NoMemory, Out, ReadXdr, Why, XdrErr, add_sizes};
+
+/// How an account is named (`CryptoKeyType`, without the types that name none).
+#[derive(Clone, Copy, Debug, PartialEq, Eq)]
+pub enum CryptoKeyType {
+    Ed25519,
+    MuxedEd25519,
+}
+
+impl CryptoKeyType {
+    pub fn from_number(number: u32) -> Option<CryptoKeyType>
+        ensures { result ≡ kind_of number }
+    {
+        match number {
+            0 => Some(CryptoKeyType::Ed25519),
+            0x100 => Some(CryptoKeyType::MuxedEd25519),
+            _ => None,
+        }
+    }
+
+    pub fn number(self) -> u32
+        ensures { result ≡ number self }
+    {
+        match self {
+            CryptoKeyType::Ed25519 => 0,
+            CryptoKeyType::MuxedEd25519 => 0x100,
+        }
+    }
+}
+
+#[tactic(auto, unfolding(crate::specs::MuxedAccount::type_format, xdr_core::specs::Sizes::capped))]
+impl Xdr for CryptoKeyType {
+    ghost format = { type_format };
+
+    fn read_parts(_alloc: Global, input: &mut Cursor<'_>) -> Result<CryptoKeyType, ReadXdr> {
+        let place = input.place();
+        let number = input.u32()?;
+        CryptoKeyType::from_number(number).ok_or(ReadXdr::Bad(XdrErr {
+            at: place,
+            why: Why::Tag,
+        }))
+    }
+
+    fn write_parts(&self, out: &mut Out) -> Result<(), NoMemory> {
+        out.put_u32(self.number())
+    }
+
+    fn size(&self) -> u64 {
+        4
+    }
+
+    ghost lawful = { type_lawful };
+}
+
+/// An account, as a transaction names it (`MuxedAccount`).
+#[derive(Debug, PartialEq, Eq)]
+pub enum MuxedAccount {
+    /// 0: an ed25519 public key.
+    Ed25519(Hash),
+    /// 0x100: one of the accounts that share an ed25519 public key.
+    MuxedEd25519 { id: u64, ed25519: Hash },
+}
+
+impl Clone for MuxedAccount {
+    ghost is_clone = { λ v w. w ≡ v };
+
+    ghost is_infallible = { λ _. ⊤ };
+
+    fn clone(&self) -> Result<MuxedAccount, AllocError> {
+        Ok(*self)
+    }
+}
+
+impl Copy for MuxedAccount {}
+
+impl MuxedAccount {
+    pub fn kind(self) -> CryptoKeyType
+        ensures { result ≡ kind self }
+    {
+        match self {
+            MuxedAccount::Ed25519(_) => CryptoKeyType::Ed25519,
+            MuxedAccount::MuxedEd25519 { .. } => CryptoKeyType::MuxedEd25519,
+        }
+    }
+}
+
+fn read_arm(
+    alloc: Global,
+    input: &mut Cursor<'_>,
+    kind: CryptoKeyType,
+) -> Result<MuxedAccount, ReadXdr>
+    ensures { Reads (arms kind).read input.old input.new result }
+{
+    match kind {
+        CryptoKeyType::Ed25519 => Ok(MuxedAccount::Ed25519(Hash::read(alloc, input)?)),
+        CryptoKeyType::MuxedEd25519 => {
+            let id = u64::read(alloc, input)?;
+            let ed25519 = Hash::read(alloc, input)?;
+            Ok(MuxedAccount::MuxedEd25519 { id, ed25519 })
+        }
+    }
+}
+
+#[tactic(auto, unfolding(crate::specs::MuxedAccount::account_format, crate::specs::MuxedAccount::type_format, xdr_core::specs::Sizes::capped))]
+impl Xdr for MuxedAccount {
+    ghost format = { account_format };
+
+    fn read_parts(alloc: Global, input: &mut Cursor<'_>) -> Result<MuxedAccount, ReadXdr> {
+        let kind = CryptoKeyType::read(alloc, input)?;
+        read_arm(alloc, input, kind)
+    }
+
+    fn write_parts(&self, out: &mut Out) -> Result<(), NoMemory> {
+        self.kind().write(out)?;
+        match self {
+            MuxedAccount::Ed25519(key) => key.write(out),
+            MuxedAccount::MuxedEd25519 { id, ed25519 } => {
+                id.write(out)?;
+                ed25519.write(out)
+            }
+        }
+    }
+
+    fn size(&self) -> u64 {
+        let body = match self {
+            MuxedAccount::Ed25519(key) => key.size(),
+            MuxedAccount::MuxedEd25519 { id, ed25519 } => add_sizes(id.size(), ed25519.size()),
+        };
+        add_sizes(self.kind().size(), body)
+    }
+
+    ghost lawful = { account_lawful };
+}

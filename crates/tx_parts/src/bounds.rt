@@ -1,0 +1,99 @@
+//! When a transaction may run.
+
+ghost use Rattle.std.specs.Prelude.{◌≡◌, ⊤};
+ghost use Rattle.tx_parts.specs.Bounds.{time_bounds_format, time_bounds_lawful, ledger_bounds_format, ledger_bounds_lawful};
+
+use std::alloc::{AllocError, Global};
+use value_xdr::Xdr;
+use xdr_core::{Cursor, NoMemory, Out, ReadXdr};
+
+/// The closing times of the ledgers in which a transaction may run, in seconds since 1970 (`TimeBounds`).
+#[derive(Debug, PartialEq, Eq)]
+pub struct TimeBounds {
+    /// The least.
+    pub min_time: u64,
+    /// The greatest, or 0 where there is none.
+    pub max_time: u64,
+}
+
+impl Clone for TimeBounds {
+    ghost is_clone = { λ v w. w ≡ v };
+
+    ghost is_infallible = { λ _. ⊤ };
+
+    fn clone(&self) -> Result<TimeBounds, AllocError> {
+        Ok(*self)
+    }
+}
+
+impl Copy for TimeBounds {}
+
+#[tactic(auto, unfolding(crate::specs::Bounds::time_bounds_format))]
+impl Xdr for TimeBounds {
+    ghost format = { time_bounds_format };
+
+    fn read_parts(alloc: Global, input: &mut Cursor<'_>) -> Result<TimeBounds, ReadXdr> {
+        let min_time = u64::read(alloc, input)?;
+        let max_time = u64::read(alloc, input)?;
+        Ok(TimeBounds { min_time, max_time })
+    }
+
+    fn write_parts(&self, out: &mut Out) -> Result<(), NoMemory> {
+        self.min_time.write(out)?;
+        self.max_time.write(out)
+    }
+
+    #[tactic(auto, unfolding(crate::specs::Bounds::time_bounds_format, xdr_spec::specs::Format::number64, xdr_core::specs::Sizes::capped))]
+    fn size(&self) -> u64 {
+        16
+    }
+
+    ghost lawful = { time_bounds_lawful };
+}
+
+/// The numbers of the ledgers in which a transaction may run (`LedgerBounds`).
+#[derive(Debug, PartialEq, Eq)]
+pub struct LedgerBounds {
+    /// The least.
+    pub min_ledger: u32,
+    /// The first in which it may not run any more, or 0 where there is none.
+    pub max_ledger: u32,
+}
+
+impl Clone for LedgerBounds {
+    ghost is_clone = { λ v w. w ≡ v };
+
+    ghost is_infallible = { λ _. ⊤ };
+
+    fn clone(&self) -> Result<LedgerBounds, AllocError> {
+        Ok(*self)
+    }
+}
+
+impl Copy for LedgerBounds {}
+
+#[tactic(auto, unfolding(crate::specs::Bounds::ledger_bounds_format))]
+impl Xdr for LedgerBounds {
+    ghost format = { ledger_bounds_format };
+
+    fn read_parts(alloc: Global, input: &mut Cursor<'_>) -> Result<LedgerBounds, ReadXdr> {
+        let min_ledger = u32::read(alloc, input)?;
+        let max_ledger = u32::read(alloc, input)?;
+        Ok(LedgerBounds {
+            min_ledger,
+            max_ledger,
+        })
+    }
+
+    fn write_parts(&self, out: &mut Out) -> Result<(), NoMemory> {
+        self.min_ledger.write(out)?;
+        self.max_ledger.write(out)
+    }
+
+    #[tactic(auto, unfolding(crate::specs::Bounds::ledger_bounds_format, xdr_spec::specs::Format::number32, xdr_core::specs::Sizes::capped))]
+    fn size(&self) -> u64 {
+        8
+    }
+
+    ghost lawful = { ledger_bounds_lawful };
+}

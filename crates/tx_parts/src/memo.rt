@@ -1,0 +1,146 @@
+//! The notes of transactions.
+
+ghost use Rattle.std.specs.Prelude.{◌≡◌};
+ghost use Rattle.xdr_core.specs.Reads.{Reads};
+ghost use Rattle.tx_parts.specs.Memo.{number, kind_of, kind, type_format, type_lawful, arms, memo_format, memo_lawful};
+
+use std::alloc::Global;
+use value_types::{Bytes, Hash};
+use value_xdr::Xdr;
+use xdr_core::{Cursor, NoMemory, Out, ReadXdr, Why, XdrErr, add_sizes};
+
+/// What a memo is (`MemoType`).
+#[derive(Clone, Copy, Debug, PartialEq, Eq)]
+pub enum MemoType {
+    None,
+    Text,
+    Id,
+    Hash,
+    Return,
+}
+
+impl MemoType {
+    pub fn from_number(number: u32) -> Option<MemoType>
+        ensures { result ≡ kind_of number }
+    {
+        match number {
+            0 => Some(MemoType::None),
+            1 => Some(MemoType::Text),
+            2 => Some(MemoType::Id),
+            3 => Some(MemoType::Hash),
+            4 => Some(MemoType::Return),
+            _ => None,
+        }
+    }
+
+    pub fn number(self) -> u32
+        ensures { result ≡ number self }
+    {
+        match self {
+            MemoType::None => 0,
+            MemoType::Text => 1,
+            MemoType::Id => 2,
+            MemoType::Hash => 3,
+            MemoType::Return => 4,
+        }
+    }
+}
+
+#[tactic(auto, unfolding(crate::specs::Memo::type_format, xdr_core::specs::Sizes::capped))]
+impl Xdr for MemoType {
+    ghost format = { type_format };
+
+    fn read_parts(_alloc: Global, input: &mut Cursor<'_>) -> Result<MemoType, ReadXdr> {
+        let place = input.place();
+        let number = input.u32()?;
+        MemoType::from_number(number).ok_or(ReadXdr::Bad(XdrErr {
+            at: place,
+            why: Why::Tag,
+        }))
+    }
+
+    fn write_parts(&self, out: &mut Out) -> Result<(), NoMemory> {
+        out.put_u32(self.number())
+    }
+
+    fn size(&self) -> u64 {
+        4
+    }
+
+    ghost lawful = { type_lawful };
+}
+
+/// A note (`Memo`).
+#[derive(Drop)]
+pub enum Memo {
+    /// 0.
+    None,
+    /// 1.
+    Text(Bytes<28>),
+    /// 2.
+    Id(u64),
+    /// 3: the hash of what the transaction is for.
+    Hash(Hash),
+    /// 4: the hash of the transaction that this one pays back.
+    Return(Hash),
+}
+
+impl Memo {
+    pub fn kind(&self) -> MemoType
+        ensures { result ≡ kind self.now }
+    {
+        match self {
+            Memo::None => MemoType::None,
+            Memo::Text(_) => MemoType::Text,
+            Memo::Id(_) => MemoType::Id,
+            Memo::Hash(_) => MemoType::Hash,
+            Memo::Return(_) => MemoType::Return,
+        }
+    }
+}
+
+fn read_arm(alloc: Global, input: &mut Cursor<'_>, kind: MemoType) -> Result<Memo, ReadXdr>
+    ensures { Reads (arms kind).read input.old input.new result }
+{
+    match kind {
+        MemoType::None => Ok(Memo::None),
+        MemoType::Text => Ok(Memo::Text(Bytes::<28>::read(alloc, input)?)),
+        MemoType::Id => Ok(Memo::Id(u64::read(alloc, input)?)),
+        MemoType::Hash => Ok(Memo::Hash(Hash::read(alloc, input)?)),
+        MemoType::Return => Ok(Memo::Return(Hash::read(alloc, input)?)),
+    }
+}
+
+#[tactic(auto, unfolding(crate::specs::Memo::memo_format, crate::specs::Memo::type_format, xdr_core::specs::Sizes::capped))]
+impl Xdr for Memo {
+    ghost format = { memo_format };
+
+    fn read_parts(alloc: Global, input: &mut Cursor<'_>) -> Result<Memo, ReadXdr> {
+        let kind = MemoType::read(alloc, input)?;
+        read_arm(alloc, input, kind)
+    }
+
+    fn write_parts(&self, out: &mut Out) -> Result<(), NoMemory> {
+        self.kind().write(out)?;
+        match self {
+            Memo::None => Ok(()),
+            Memo::Text(text) => text.write(out),
+            Memo::Id(id) => id.write(out),
+            Memo::Hash(hash) => hash.write(out),
+            Memo::Return(hash) => hash.write(out),
+        }
+    }
+
+    fn size(&self) -> u64 {
+        let body = match self {
+            Memo::None => 0,
+            Memo::Text(text) => text.size(),
+            Memo::Id(id) => id.size(),
+            Memo::Hash(hash) => hash.size(),
+            Memo::Return(hash) => hash.size(),
+        };
+        add_sizes(self.kind().size(), body)
+    }
+
+    ghost lawful = { memo_lawful };
+}

@@ -1,0 +1,191 @@
+//! What has to hold for a transaction to be valid.
+
+ghost use Rattle.std.specs.Prelude.{◌≡◌};
+ghost use Rattle.xdr_core.specs.Reads.{Reads};
+ghost use Rattle.tx_parts.specs.Preconditions.{v2_format, v2_lawful, number, kind_of, kind, type_format, type_lawful, arms, preconditions_format, preconditions_lawful};
+
+use crate::bounds::{LedgerBounds, TimeBounds};
+use crate::signer_key::SignerKey;
+use std::alloc::Global;
+use value_types::Items;
+use value_xdr::Xdr;
+use xdr_core::{Cursor, NoMemory, Out, ReadXdr, Why, XdrErr, add_sizes};
+
+/// The preconditions beyond time (`PreconditionsV2`).
+#[derive(Drop)]
+pub struct PreconditionsV2 {
+    pub time_bounds: Option<TimeBounds>,
+    pub ledger_bounds: Option<LedgerBounds>,
+    /// The least number that the source's sequence may stand at; where there is none, it stands one below the transaction's.
+    pub min_seq_num: Option<i64>,
+    /// How many seconds ago the source's sequence was last changed, at least.
+    pub min_seq_age: u64,
+    /// How many ledgers ago the source's sequence was last changed, at least.
+    pub min_seq_ledger_gap: u32,
+    /// Who has to sign besides.
+    pub extra_signers: Items<SignerKey, 2>,
+}
+
+#[tactic(auto, unfolding(crate::specs::Preconditions::v2_format))]
+impl Xdr for PreconditionsV2 {
+    ghost format = { v2_format };
+
+    fn read_parts(alloc: Global, input: &mut Cursor<'_>) -> Result<PreconditionsV2, ReadXdr> {
+        let time_bounds = Option::<TimeBounds>::read(alloc, input)?;
+        let ledger_bounds = Option::<LedgerBounds>::read(alloc, input)?;
+        let min_seq_num = Option::<i64>::read(alloc, input)?;
+        let min_seq_age = u64::read(alloc, input)?;
+        let min_seq_ledger_gap = u32::read(alloc, input)?;
+        let extra_signers = Items::<SignerKey, 2>::read(alloc, input)?;
+        Ok(PreconditionsV2 {
+            time_bounds,
+            ledger_bounds,
+            min_seq_num,
+            min_seq_age,
+            min_seq_ledger_gap,
+            extra_signers,
+        })
+    }
+
+    fn write_parts(&self, out: &mut Out) -> Result<(), NoMemory> {
+        self.time_bounds.write(out)?;
+        self.ledger_bounds.write(out)?;
+        self.min_seq_num.write(out)?;
+        self.min_seq_age.write(out)?;
+        self.min_seq_ledger_gap.write(out)?;
+        self.extra_signers.write(out)
+    }
+
+    #[tactic(auto, unfolding(crate::specs::Preconditions::v2_format, xdr_spec::specs::Format::number32, xdr_spec::specs::Format::number64, xdr_core::specs::Sizes::capped))]
+    fn size(&self) -> u64 {
+        let size = add_sizes(self.time_bounds.size(), self.ledger_bounds.size());
+        let size = add_sizes(size, self.min_seq_num.size());
+        let size = add_sizes(size, self.extra_signers.size());
+        // A number of 8 bytes and one of 4.
+        size.saturating_add(12)
+    }
+
+    ghost lawful = { v2_lawful };
+}
+
+/// What preconditions are (`PreconditionType`).
+#[derive(Clone, Copy, Debug, PartialEq, Eq)]
+pub enum PreconditionType {
+    None,
+    Time,
+    V2,
+}
+
+impl PreconditionType {
+    pub fn from_number(number: u32) -> Option<PreconditionType>
+        ensures { result ≡ kind_of number }
+    {
+        match number {
+            0 => Some(PreconditionType::None),
+            1 => Some(PreconditionType::Time),
+            2 => Some(PreconditionType::V2),
+            _ => None,
+        }
+    }
+
+    pub fn number(self) -> u32
+        ensures { result ≡ number self }
+    {
+        match self {
+            PreconditionType::None => 0,
+            PreconditionType::Time => 1,
+            PreconditionType::V2 => 2,
+        }
+    }
+}
+
+#[tactic(auto, unfolding(crate::specs::Preconditions::type_format, xdr_core::specs::Sizes::capped))]
+impl Xdr for PreconditionType {
+    ghost format = { type_format };
+
+    fn read_parts(_alloc: Global, input: &mut Cursor<'_>) -> Result<PreconditionType, ReadXdr> {
+        let place = input.place();
+        let number = input.u32()?;
+        PreconditionType::from_number(number).ok_or(ReadXdr::Bad(XdrErr {
+            at: place,
+            why: Why::Tag,
+        }))
+    }
+
+    fn write_parts(&self, out: &mut Out) -> Result<(), NoMemory> {
+        out.put_u32(self.number())
+    }
+
+    fn size(&self) -> u64 {
+        4
+    }
+
+    ghost lawful = { type_lawful };
+}
+
+/// What has to hold for a transaction to be valid (`Preconditions`).
+#[derive(Drop)]
+pub enum Preconditions {
+    /// 0.
+    None,
+    /// 1.
+    Time(TimeBounds),
+    /// 2.
+    V2(PreconditionsV2),
+}
+
+impl Preconditions {
+    pub fn kind(&self) -> PreconditionType
+        ensures { result ≡ kind self.now }
+    {
+        match self {
+            Preconditions::None => PreconditionType::None,
+            Preconditions::Time(_) => PreconditionType::Time,
+            Preconditions::V2(_) => PreconditionType::V2,
+        }
+    }
+}
+
+fn read_arm(
+    alloc: Global,
+    input: &mut Cursor<'_>,
+    kind: PreconditionType,
+) -> Result<Preconditions, ReadXdr>
+    ensures { Reads (arms kind).read input.old input.new result }
+{
+    match kind {
+        PreconditionType::None => Ok(Preconditions::None),
+        PreconditionType::Time => Ok(Preconditions::Time(TimeBounds::read(alloc, input)?)),
+        PreconditionType::V2 => Ok(Preconditions::V2(PreconditionsV2::read(alloc, input)?)),
+    }
+}
+
+#[tactic(auto, unfolding(crate::specs::Preconditions::preconditions_format, crate::specs::Preconditions::type_format, xdr_core::specs::Sizes::capped))]
+impl Xdr for Preconditions {
+    ghost format = { preconditions_format };
+
+    fn read_parts(alloc: Global, input: &mut Cursor<'_>) -> Result<Preconditions, ReadXdr> {
+        let kind = PreconditionType::read(alloc, input)?;
+        read_arm(alloc, input, kind)
+    }
+
+    fn write_parts(&self, out: &mut Out) -> Result<(), NoMemory> {
+        self.kind().write(out)?;
+        match self {
+            Preconditions::None => Ok(()),
+            Preconditions::Time(bounds) => bounds.write(out),
+            Preconditions::V2(v2) => v2.write(out),
+        }
+    }
+
+    fn size(&self) -> u64 {
+        let body = match self {
+            Preconditions::None => 0,
+            Preconditions::Time(bounds) => bounds.size(),
+            Preconditions::V2(v2) => v2.size(),
+        };
+        add_sizes(self.kind().size(), body)
+    }
+
+    ghost lawful = { preconditions_lawful };
+}

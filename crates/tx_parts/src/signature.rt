@@ -1,0 +1,38 @@
+//! The signatures of transactions.
+
+ghost use Rattle.tx_parts.specs.Signature.{signature_format, signature_lawful};
+
+use std::alloc::Global;
+use value_types::Bytes;
+use value_xdr::Xdr;
+use xdr_core::{Cursor, NoMemory, Out, ReadXdr};
+
+/// A signature, and the end of the key that made it (`DecoratedSignature`).
+#[derive(Drop)]
+pub struct DecoratedSignature {
+    pub hint: [u8; 4],
+    pub signature: Bytes<64>,
+}
+
+#[tactic(auto, unfolding(crate::specs::Signature::signature_format, xdr_core::specs::Sizes::capped))]
+impl Xdr for DecoratedSignature {
+    ghost format = { signature_format };
+
+    fn read_parts(alloc: Global, input: &mut Cursor<'_>) -> Result<DecoratedSignature, ReadXdr> {
+        let mut hint = [0u8; 4];
+        hint.copy_from_slice(input.fixed(4)?);
+        let signature = Bytes::<64>::read(alloc, input)?;
+        Ok(DecoratedSignature { hint, signature })
+    }
+
+    fn write_parts(&self, out: &mut Out) -> Result<(), NoMemory> {
+        out.put_fixed(&self.hint)?;
+        self.signature.write(out)
+    }
+
+    fn size(&self) -> u64 {
+        self.signature.size().saturating_add(4)
+    }
+
+    ghost lawful = { signature_lawful };
+}

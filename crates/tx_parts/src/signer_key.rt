@@ -1,0 +1,155 @@
+//! Keys that have to sign a transaction.
+
+ghost use Rattle.std.specs.Prelude.{◌≡◌};
+ghost use Rattle.xdr_core.specs.Reads.{Reads};
+ghost use Rattle.tx_parts.specs.SignerKey.{number, kind_of, kind, type_format, type_lawful, arms, signer_key_format, signer_key_lawful};
+
+use std::alloc::Global;
+use value_types::{Bytes, Hash};
+use value_xdr::Xdr;
+use xdr_core::{Cursor, NoMemory, Out, ReadXdr, Why, XdrErr, add_sizes};
+
+/// What a signer is (`SignerKeyType`).
+#[derive(Clone, Copy, Debug, PartialEq, Eq)]
+pub enum SignerKeyType {
+    Ed25519,
+    PreAuthTx,
+    HashX,
+    Ed25519SignedPayload,
+}
+
+impl SignerKeyType {
+    pub fn from_number(number: u32) -> Option<SignerKeyType>
+        ensures { result ≡ kind_of number }
+    {
+        match number {
+            0 => Some(SignerKeyType::Ed25519),
+            1 => Some(SignerKeyType::PreAuthTx),
+            2 => Some(SignerKeyType::HashX),
+            3 => Some(SignerKeyType::Ed25519SignedPayload),
+            _ => None,
+        }
+    }
+
+    pub fn number(self) -> u32
+        ensures { result ≡ number self }
+    {
+        match self {
+            SignerKeyType::Ed25519 => 0,
+            SignerKeyType::PreAuthTx => 1,
+            SignerKeyType::HashX => 2,
+            SignerKeyType::Ed25519SignedPayload => 3,
+        }
+    }
+}
+
+#[tactic(auto, unfolding(crate::specs::SignerKey::type_format, xdr_core::specs::Sizes::capped))]
+impl Xdr for SignerKeyType {
+    ghost format = { type_format };
+
+    fn read_parts(_alloc: Global, input: &mut Cursor<'_>) -> Result<SignerKeyType, ReadXdr> {
+        let place = input.place();
+        let number = input.u32()?;
+        SignerKeyType::from_number(number).ok_or(ReadXdr::Bad(XdrErr {
+            at: place,
+            why: Why::Tag,
+        }))
+    }
+
+    fn write_parts(&self, out: &mut Out) -> Result<(), NoMemory> {
+        out.put_u32(self.number())
+    }
+
+    fn size(&self) -> u64 {
+        4
+    }
+
+    ghost lawful = { type_lawful };
+}
+
+/// A key that has to sign (`SignerKey`).
+#[derive(Drop)]
+pub enum SignerKey {
+    /// 0: an ed25519 public key.
+    Ed25519(Hash),
+    /// 1: the hash of the transaction.
+    PreAuthTx(Hash),
+    /// 2: the SHA-256 of what is shown in place of a signature.
+    HashX(Hash),
+    /// 3: an ed25519 public key, and what it signs.
+    Ed25519SignedPayload { ed25519: Hash, payload: Bytes<64> },
+}
+
+impl SignerKey {
+    pub fn kind(&self) -> SignerKeyType
+        ensures { result ≡ kind self.now }
+    {
+        match self {
+            SignerKey::Ed25519(_) => SignerKeyType::Ed25519,
+            SignerKey::PreAuthTx(_) => SignerKeyType::PreAuthTx,
+            SignerKey::HashX(_) => SignerKeyType::HashX,
+            SignerKey::Ed25519SignedPayload { .. } => SignerKeyType::Ed25519SignedPayload,
+        }
+    }
+}
+
+fn read_signed_payload(alloc: Global, input: &mut Cursor<'_>) -> Result<SignerKey, ReadXdr>
+    ensures { Reads (arms SignerKeyType.Ed25519SignedPayload).read input.old input.new result }
+{
+    let ed25519 = Hash::read(alloc, input)?;
+    let payload = Bytes::<64>::read(alloc, input)?;
+    Ok(SignerKey::Ed25519SignedPayload { ed25519, payload })
+}
+
+fn read_arm(
+    alloc: Global,
+    input: &mut Cursor<'_>,
+    kind: SignerKeyType,
+) -> Result<SignerKey, ReadXdr>
+    ensures { Reads (arms kind).read input.old input.new result }
+{
+    match kind {
+        SignerKeyType::Ed25519 => Ok(SignerKey::Ed25519(Hash::read(alloc, input)?)),
+        SignerKeyType::PreAuthTx => Ok(SignerKey::PreAuthTx(Hash::read(alloc, input)?)),
+        SignerKeyType::HashX => Ok(SignerKey::HashX(Hash::read(alloc, input)?)),
+        SignerKeyType::Ed25519SignedPayload => read_signed_payload(alloc, input),
+    }
+}
+
+#[tactic(auto, unfolding(crate::specs::SignerKey::signer_key_format, crate::specs::SignerKey::type_format, xdr_core::specs::Sizes::capped))]
+impl Xdr for SignerKey {
+    ghost format = { signer_key_format };
+
+    fn read_parts(alloc: Global, input: &mut Cursor<'_>) -> Result<SignerKey, ReadXdr> {
+        let kind = SignerKeyType::read(alloc, input)?;
+        read_arm(alloc, input, kind)
+    }
+
+    fn write_parts(&self, out: &mut Out) -> Result<(), NoMemory> {
+        self.kind().write(out)?;
+        match self {
+            SignerKey::Ed25519(key) => key.write(out),
+            SignerKey::PreAuthTx(hash) => hash.write(out),
+            SignerKey::HashX(hash) => hash.write(out),
+            SignerKey::Ed25519SignedPayload { ed25519, payload } => {
+                ed25519.write(out)?;
+                payload.write(out)
+            }
+        }
+    }
+
+    fn size(&self) -> u64 {
+        let body = match self {
+            SignerKey::Ed25519(key) => key.size(),
+            SignerKey::PreAuthTx(hash) => hash.size(),
+            SignerKey::HashX(hash) => hash.size(),
+            SignerKey::Ed25519SignedPayload { ed25519, payload } => add_sizes(
+                ed25519.size(),
+                payload.size(),
+            ),
+        };
+        add_sizes(self.kind().size(), body)
+    }
+
+    ghost lawful = { signer_key_lawful };
+}

@@ -1,0 +1,186 @@
+-- What becomes of transactions (XDR files Stellar-transaction and Stellar-ledger, `TransactionResultSet` and what it holds), and the report (own).
+use Rattle.std.specs.Prelude.{◌≡◌, ◌<◌, ◌^◌, ◌++◌, ℕ, ℤ, false, List, [], ◌∷◌, Option, Some, None}
+use Rattle.std.specs.List.{flat_map}
+use Rattle.std.proofs.Common.{refl, ap, arith}
+use Rattle.xdr_spec.specs.Format.{Format, via, pair, list, arm, nothing, union, enumeration, find_kind, signed64, boolean}
+use Rattle.xdr_spec.specs.Laws.{IsFormat}
+use Rattle.xdr_spec.proofs.Pairs.{pair_lawful, nothing_lawful}
+use Rattle.xdr_spec.proofs.Remade.{via_lawful, arm_lawful, arm_kind}
+use Rattle.xdr_spec.proofs.Derived.{list_lawful, signed64_lawful, enumeration_lawful, union_lawful, find_kind-back}
+use Rattle.value_types.specs.Headed.{headed, headed_lawful}
+use Rattle.value_types.specs.Hash.{hash_format, hash_lawful}
+use Rattle.value_types.specs.declared.hash.Hash.{Hash}
+use Rattle.tx_results.specs.declared.codes.TransactionResultCode.{TransactionResultCode}
+use Rattle.tx_results.specs.declared.codes.TransactionResultCode.TheVariants as codes
+use Rattle.tx_results.specs.declared.operation.OperationResult.{OperationResult}
+use Rattle.tx_results.specs.declared.results.TransactionOutcome.{TransactionOutcome}
+use Rattle.tx_results.specs.declared.results.TransactionOutcome.TheVariants as outcomes
+use Rattle.tx_results.specs.declared.results.TransactionResult.{TransactionResult}
+use Rattle.tx_results.specs.declared.results.TransactionResultPair.{TransactionResultPair}
+use Rattle.tx_results.specs.declared.results.ResultSet.{ResultSet}
+use Rattle.tx_results.specs.Operations.{minus, operation_format, operation_lawful}
+
+-- ---- the codes of transactions
+
+abbrev pub code_number : TransactionResultCode → ℕ
+code_number codes.Success = 0
+code_number codes.Failed = minus 1
+code_number codes.TooEarly = minus 2
+code_number codes.TooLate = minus 3
+code_number codes.MissingOperation = minus 4
+code_number codes.Malformed = minus 16
+code_number codes.SorobanInvalid = minus 17
+
+abbrev pub codes_all : List TransactionResultCode
+codes_all =
+    codes.Success ∷ codes.Failed ∷ codes.TooEarly ∷ codes.TooLate ∷ codes.MissingOperation ∷ codes.Malformed ∷ codes.SorobanInvalid ∷ []
+
+abbrev pub code_of_number : ℕ → Option TransactionResultCode
+code_of_number = find_kind code_number codes_all
+
+unfoldable pub code_format : Format TransactionResultCode
+code_format = enumeration code_number code_of_number
+
+code_small : (k : TransactionResultCode) → code_number k < 2 ^ 32
+code_small codes.Success = omega arith
+code_small codes.Failed = omega arith
+code_small codes.TooEarly = omega arith
+code_small codes.TooLate = omega arith
+code_small codes.MissingOperation = omega arith
+code_small codes.Malformed = omega arith
+code_small codes.SorobanInvalid = omega arith
+
+code_there : (k : TransactionResultCode) → code_of_number (code_number k) ≡ Some k
+code_there codes.Success = refl
+code_there codes.Failed = refl
+code_there codes.TooEarly = refl
+code_there codes.TooLate = refl
+code_there codes.MissingOperation = refl
+code_there codes.Malformed = refl
+code_there codes.SorobanInvalid = refl
+
+pub code_lawful : IsFormat code_format
+unfolding code_format
+code_lawful = enumeration_lawful code_number code_of_number codes.Success code_small code_there (find_kind-back code_number codes_all)
+
+-- ---- what became of a transaction: its code, and the results of its operations where they ran
+
+abbrev pub code_of : TransactionOutcome → TransactionResultCode
+code_of (outcomes.Success results) = codes.Success
+code_of (outcomes.Failed results) = codes.Failed
+code_of outcomes.TooEarly = codes.TooEarly
+code_of outcomes.TooLate = codes.TooLate
+code_of outcomes.MissingOperation = codes.MissingOperation
+code_of outcomes.Malformed = codes.Malformed
+code_of outcomes.SorobanInvalid = codes.SorobanInvalid
+
+abbrev pub success_of : List OperationResult → TransactionOutcome
+success_of results = outcomes.Success results
+
+abbrev pub as_success : TransactionOutcome → Option (List OperationResult)
+as_success (outcomes.Success results) = Some results
+as_success _ = None
+
+abbrev pub failed_of : List OperationResult → TransactionOutcome
+failed_of results = outcomes.Failed results
+
+abbrev pub as_failed : TransactionOutcome → Option (List OperationResult)
+as_failed (outcomes.Failed results) = Some results
+as_failed _ = None
+
+abbrev pub outcome_arms : TransactionResultCode → Format TransactionOutcome
+outcome_arms codes.Success = arm success_of as_success (list 4294967295 operation_format)
+outcome_arms codes.Failed = arm failed_of as_failed (list 4294967295 operation_format)
+outcome_arms codes.TooEarly = nothing outcomes.TooEarly
+outcome_arms codes.TooLate = nothing outcomes.TooLate
+outcome_arms codes.MissingOperation = nothing outcomes.MissingOperation
+outcome_arms codes.Malformed = nothing outcomes.Malformed
+outcome_arms codes.SorobanInvalid = nothing outcomes.SorobanInvalid
+
+unfoldable pub outcome_format : Format TransactionOutcome
+outcome_format = union code_number code_of_number code_of outcome_arms
+
+back_success : (v : TransactionOutcome) (x : List OperationResult) → as_success v ≡ Some x → success_of x ≡ v
+back_success (outcomes.Success results) x e = cc
+back_success _ x e = absurd cc
+
+back_failed : (v : TransactionOutcome) (x : List OperationResult) → as_failed v ≡ Some x → failed_of x ≡ v
+back_failed (outcomes.Failed results) x e = cc
+back_failed _ x e = absurd cc
+
+arms_lawful : (k : TransactionResultCode) → IsFormat (outcome_arms k)
+arms_lawful codes.Success = arm_lawful success_of as_success _ (λ x. refl) back_success (list_lawful _ _ operation_lawful)
+arms_lawful codes.Failed = arm_lawful failed_of as_failed _ (λ x. refl) back_failed (list_lawful _ _ operation_lawful)
+arms_lawful codes.TooEarly = nothing_lawful outcomes.TooEarly
+arms_lawful codes.TooLate = nothing_lawful outcomes.TooLate
+arms_lawful codes.MissingOperation = nothing_lawful outcomes.MissingOperation
+arms_lawful codes.Malformed = nothing_lawful outcomes.Malformed
+arms_lawful codes.SorobanInvalid = nothing_lawful outcomes.SorobanInvalid
+
+coherent : (k : TransactionResultCode) (v : TransactionOutcome) → (outcome_arms k).fits v → code_of v ≡ k
+coherent codes.Success v h = arm_kind code_of codes.Success success_of as_success (list 4294967295 operation_format) (λ x. refl) back_success v h
+coherent codes.Failed v h = arm_kind code_of codes.Failed failed_of as_failed (list 4294967295 operation_format) (λ x. refl) back_failed v h
+coherent codes.TooEarly v h = ap code_of h
+coherent codes.TooLate v h = ap code_of h
+coherent codes.MissingOperation v h = ap code_of h
+coherent codes.Malformed v h = ap code_of h
+coherent codes.SorobanInvalid v h = ap code_of h
+
+pub outcome_lawful : IsFormat outcome_format
+unfolding outcome_format
+outcome_lawful = union_lawful code_number code_of_number code_of outcome_arms (record {
+  some = codes.Malformed;
+  small = code_small;
+  there = code_there;
+  back = find_kind-back code_number codes_all;
+  bodies = arms_lawful;
+  coherent = coherent;
+})
+
+-- ---- the result of a transaction: the fee, what became of it, and ext 0
+
+abbrev pub result_of : ℤ × (TransactionOutcome × Unit {0}) → TransactionResult
+result_of f = record { fee_charged = f.0; outcome = f.1.0 }
+
+abbrev pub result_fields : TransactionResult → ℤ × (TransactionOutcome × Unit {0})
+result_fields result = (result.fee_charged, (result.outcome, tt))
+
+unfoldable pub result_format : Format TransactionResult
+result_format = via result_of result_fields (pair signed64 (pair outcome_format (headed 0 (nothing tt))))
+
+pub result_lawful : IsFormat result_format
+unfolding result_format
+result_lawful = via_lawful result_of result_fields _ (λ f. refl) (λ result. refl) (pair_lawful _ _ signed64_lawful (pair_lawful _ _ outcome_lawful (headed_lawful 0 _ (omega arith) (nothing_lawful tt))))
+
+-- ---- the result set: for each transaction its hash and its result
+
+abbrev pub pair_of : Hash × TransactionResult → TransactionResultPair
+pair_of f = record { hash = f.0; result = f.1 }
+
+abbrev pub pair_fields : TransactionResultPair → Hash × TransactionResult
+pair_fields p = (p.hash, p.result)
+
+unfoldable pub pair_format : Format TransactionResultPair
+pair_format = via pair_of pair_fields (pair hash_format result_format)
+
+pub pair_format_lawful : IsFormat pair_format
+unfolding pair_format
+pair_format_lawful = via_lawful pair_of pair_fields _ (λ f. refl) (λ p. refl) (pair_lawful _ _ hash_lawful result_lawful)
+
+abbrev pub result_set_of : List TransactionResultPair → ResultSet
+result_set_of pairs = record { pairs = pairs }
+
+abbrev pub pairs_of : ResultSet → List TransactionResultPair
+pairs_of results = results.pairs
+
+unfoldable pub result_set_format : Format ResultSet
+result_set_format = via result_set_of pairs_of (list 4294967295 pair_format)
+
+pub result_set_lawful : IsFormat result_set_format
+unfolding result_set_format
+result_set_lawful = via_lawful result_set_of pairs_of _ (λ pairs. refl) (λ results. refl) (list_lawful _ _ pair_format_lawful)
+
+-- ---- the report (own): the result set, and for each transaction whether a success preimage follows, which none does today
+
+abbrev pub report_bytes : ResultSet → List ℕ
+report_bytes results = result_set_format.spell results ++ flat_map (λ _. boolean.spell false) results.pairs

@@ -1,0 +1,68 @@
+//! What became of operations.
+
+ghost use Rattle.std.specs.Prelude.{◌≡◌};
+ghost use Rattle.tx_results.specs.Operations.{invoke_code_of, inner_kind_of, operation_code_of};
+
+use crate::codes::{ExtendResult, InnerKind, InvokeResultCode, OperationResultCode};
+use value_types::Hash;
+
+/// What became of INVOKE_HOST_FUNCTION (`InvokeHostFunctionResult`).
+#[derive(Clone, Copy, Debug, PartialEq, Eq)]
+pub enum InvokeResult {
+    /// The SHA-256 of the success preimage.
+    Success(Hash),
+    Malformed,
+    Trapped,
+    ResourceLimitExceeded,
+    EntryArchived,
+}
+
+impl InvokeResult {
+    pub fn code(&self) -> InvokeResultCode
+        ensures { result ≡ invoke_code_of self.now }
+    {
+        match self {
+            InvokeResult::Success(_) => InvokeResultCode::Success,
+            InvokeResult::Malformed => InvokeResultCode::Malformed,
+            InvokeResult::Trapped => InvokeResultCode::Trapped,
+            InvokeResult::ResourceLimitExceeded => InvokeResultCode::ResourceLimitExceeded,
+            InvokeResult::EntryArchived => InvokeResultCode::EntryArchived,
+        }
+    }
+}
+
+/// The result that the body of an operation has of its own.
+#[derive(Clone, Copy, Debug, PartialEq, Eq)]
+pub enum InnerResult {
+    Invoke(InvokeResult),
+    Extend(ExtendResult),
+}
+
+impl InnerResult {
+    pub fn kind(&self) -> InnerKind
+        ensures { result ≡ inner_kind_of self.now }
+    {
+        match self {
+            InnerResult::Invoke(_) => InnerKind::Invoke,
+            InnerResult::Extend(_) => InnerKind::Extend,
+        }
+    }
+}
+
+/// What became of an operation (`OperationResult`).
+#[derive(Clone, Copy, Debug, PartialEq, Eq)]
+pub enum OperationResult {
+    Inner(InnerResult),
+    NotSupported,
+}
+
+impl OperationResult {
+    pub fn code(&self) -> OperationResultCode
+        ensures { result ≡ operation_code_of self.now }
+    {
+        match self {
+            OperationResult::Inner(_) => OperationResultCode::Inner,
+            OperationResult::NotSupported => OperationResultCode::NotSupported,
+        }
+    }
+}

@@ -1,0 +1,76 @@
+//! The spelling of what follows a transaction's operations.
+
+ghost use Rattle.xdr_core.specs.Reads.{Reads};
+ghost use Rattle.tx_xdr.specs.Ext.{type_format, type_lawful, arms, ext_format, ext_lawful};
+
+use crate::transaction::{SorobanData, TransactionExt, TransactionExtType};
+use std::alloc::Global;
+use value_xdr::Xdr;
+use xdr_core::{Cursor, NoMemory, Out, ReadXdr, Why, XdrErr, add_sizes};
+
+#[tactic(auto, unfolding(crate::specs::Ext::type_format, xdr_core::specs::Sizes::capped))]
+impl Xdr for TransactionExtType {
+    ghost format = { type_format };
+
+    fn read_parts(_alloc: Global, input: &mut Cursor<'_>) -> Result<TransactionExtType, ReadXdr> {
+        let place = input.place();
+        let number = input.u32()?;
+        TransactionExtType::from_number(number).ok_or(ReadXdr::Bad(XdrErr {
+            at: place,
+            why: Why::Tag,
+        }))
+    }
+
+    fn write_parts(&self, out: &mut Out) -> Result<(), NoMemory> {
+        out.put_u32(self.number())
+    }
+
+    fn size(&self) -> u64 {
+        4
+    }
+
+    ghost lawful = { type_lawful };
+}
+
+fn read_arm(
+    alloc: Global,
+    input: &mut Cursor<'_>,
+    kind: TransactionExtType,
+) -> Result<TransactionExt, ReadXdr>
+    ensures { Reads (arms kind).read input.old input.new result }
+{
+    match kind {
+        TransactionExtType::None => Ok(TransactionExt::None),
+        TransactionExtType::Soroban => Ok(TransactionExt::Soroban(SorobanData::read(
+            alloc, input,
+        )?)),
+    }
+}
+
+#[tactic(auto, unfolding(crate::specs::Ext::ext_format, crate::specs::Ext::type_format, xdr_core::specs::Sizes::capped))]
+impl Xdr for TransactionExt {
+    ghost format = { ext_format };
+
+    fn read_parts(alloc: Global, input: &mut Cursor<'_>) -> Result<TransactionExt, ReadXdr> {
+        let kind = TransactionExtType::read(alloc, input)?;
+        read_arm(alloc, input, kind)
+    }
+
+    fn write_parts(&self, out: &mut Out) -> Result<(), NoMemory> {
+        self.kind().write(out)?;
+        match self {
+            TransactionExt::None => Ok(()),
+            TransactionExt::Soroban(soroban) => soroban.write(out),
+        }
+    }
+
+    fn size(&self) -> u64 {
+        let body = match self {
+            TransactionExt::None => 0,
+            TransactionExt::Soroban(soroban) => soroban.size(),
+        };
+        add_sizes(self.kind().size(), body)
+    }
+
+    ghost lawful = { ext_lawful };
+}

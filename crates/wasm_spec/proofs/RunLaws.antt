@@ -1,0 +1,99 @@
+-- What an instruction spends, and runs among the functions of a host.
+use Rattle.std.proofs.Common.{◌≡◌, ℕ, zero, suc, ◌<◌, ◌≤◌, ◌⊎◌, Bool, true, false, List, inl, inr, refl, subst, arith}
+use Rattle.budget_meter.specs.Meter.{Meter, used_after}
+use Rattle.budget_meter.specs.declared.kind.Kind.TheVariants.{WasmInsnExec}
+use Rattle.wasm_spec.specs.declared.types.ValueType.{ValueType}
+use Rattle.wasm_spec.specs.declared.values.Value.{Value}
+use Rattle.wasm_spec.specs.declared.module.Module.{Module}
+use Rattle.wasm_spec.specs.Runs.{State, Run, Normal, Branch, Return, Trap, Spent, Stuck, Ask, charged_if, counted, executed, has_room}
+use Rattle.wasm_spec.specs.Worlds.{Reply, Answers, Quits, Host, End, Returned, Trapped, Exhausted, Quit, Broken, after_reply, interp}
+use Rattle.wasm_spec.proofs.Sound.{CallGood}
+
+-- what an instruction spends
+
+-- the same budget, with more instructions spent
+pub record SpendsMore (old new : Meter) : Type 0 where
+  pub limits : new.limits ≡ old.limits
+  pub terms : new.terms ≡ old.terms
+  pub instructions : old.used.instructions < new.used.instructions
+  pub memory : old.used.memory ≤ new.used.memory
+
+-- Where an instruction costs one at least, either the budget is spent, or the run goes on with more spent.
+abbrev pub GoesOnSpending : State → (State → Run) → Run → Type 0
+GoesOnSpending s go r = (r ≡ Spent s.meter) ⊎ ((k : ℕ) × (after : Meter) × SpendsMore s.meter after × (r ≡ go (record s { left = k; meter = after })))
+
+charge_spends : (b : Bool) (k : ℕ) (s : State) (after : Meter) (go : State → Run) → SpendsMore s.meter after → GoesOnSpending s go (charged_if b Spent after (record s { left = k }) go)
+charge_spends false k s after go h = inl refl
+charge_spends true k s after go h = inr (k, after, h, refl)
+
+count_spends : (n : ℕ) (s : State) (go : State → Run) → 1 ≤ s.meter.terms.wasm_insn_exec.instructions.constant → GoesOnSpending s go (counted n Spent s go)
+count_spends zero s go h = inl refl
+count_spends (suc k) s go h =
+    let used = used_after s.meter WasmInsnExec 1 in
+    charge_spends (has_room s.meter.limits used) k s (record s.meter { used = used }) go
+    (record { limits = refl; terms = refl; instructions = omega arith; memory = omega arith })
+
+pub executed_spends : (s : State) (go : State → Run) → 1 ≤ s.meter.terms.wasm_insn_exec.instructions.constant → GoesOnSpending s go (executed Spent s go)
+executed_spends s go h = count_spends s.left s go h
+
+-- runs among the functions of a host
+
+-- a call of a valid module is never broken, whatever the host
+abbrev pub IsWhole : {W : Type 0} → End W → Type 0
+IsWhole (Returned vs meter w) = Unit {0}
+IsWhole (Trapped kind meter w) = Unit {0}
+IsWhole (Exhausted meter w) = Unit {0}
+IsWhole (Quit w) = Unit {0}
+IsWhole Broken = ⊥
+
+after_reply_whole : {W : Type 0} (r : Reply W) (go : ℕ → List ℕ → Meter → W → End W) → ((v : ℕ) (bytes : List ℕ) (b : Meter) (w : W) → IsWhole (go v bytes b w)) → IsWhole (after_reply r go)
+after_reply_whole (Answers w v bytes b) go h = h v bytes b w
+after_reply_whole (Quits w) go h = tt
+
+pub interp_whole : {W : Type 0} (host : Host W) (m : Module) (locals : List Value) (us : List ValueType) (r : Run) (w : W) → CallGood m locals us r → IsWhole (interp host r w)
+interp_whole host m locals us (Normal ops s) w h = tt
+interp_whole host m locals us (Branch k ops s) w h = absurd h
+interp_whole host m locals us (Return ops s) w h = absurd h
+interp_whole host m locals us (Trap kind meter) w h = tt
+interp_whole host m locals us (Spent meter) w h = tt
+interp_whole host m locals us Stuck w h = h
+interp_whole host m locals us (Ask f args memory meter on) w h =
+    after_reply_whole (host f args memory meter w) (λ v bytes b u. interp host (on v bytes b) u) (λ v bytes b u. interp_whole host m locals us (on v bytes b) u (h v bytes b))
+
+-- Two hosts that answer related worlds with the same and leave them related make the same of a run.
+
+-- replies that are the same but for the worlds: those of answers by R, those of the ends by Q
+abbrev pub SameReply : {W V : Type 0} → (W → V → Type 0) → (W → V → Type 0) → Reply W → Reply V → Type 0
+SameReply R Q (Answers w v bytes b) (Answers x v' bytes' b') = R w x × (v ≡ v') × (bytes ≡ bytes') × (b ≡ b')
+SameReply R Q (Answers w v bytes b) (Quits x) = ⊥
+SameReply R Q (Quits w) (Answers x v' bytes' b') = ⊥
+SameReply R Q (Quits w) (Quits x) = Q w x
+
+abbrev pub SameEnd : {W V : Type 0} → (W → V → Type 0) → (W → V → Type 0) → End W → End V → Type 0
+SameEnd R Q (Returned vs m w) (Returned us n x) = (vs ≡ us) × (m ≡ n) × R w x
+SameEnd R Q (Trapped j m w) (Trapped k n x) = (j ≡ k) × (m ≡ n) × R w x
+SameEnd R Q (Exhausted m w) (Exhausted n x) = (m ≡ n) × R w x
+SameEnd R Q (Quit w) (Quit x) = Q w x
+SameEnd R Q Broken Broken = Unit {0}
+SameEnd R Q _ _ = ⊥
+
+module _ {W V : Type 0} (R Q : W → V → Type 0) where
+  same_after : (r : Reply W) (q : Reply V) (go : ℕ → List ℕ → Meter → W → End W) (on : ℕ → List ℕ → Meter → V → End V) → SameReply R Q r q → ((v : ℕ) (bytes : List ℕ) (b : Meter) (w : W) (x : V) → R w x → SameEnd R Q (go v bytes b w) (on v bytes b x)) → SameEnd R Q (after_reply r go) (after_reply q on)
+  same_after (Answers w v bytes b) (Answers x v' bytes' b') go on h next =
+      let P : ℕ → List ℕ → Meter → Type 0 = λ i j k. SameEnd R Q (go v bytes b w) (on i j k x) in
+      subst (λ i. P i bytes' b') h.1 (subst (λ j. P v j b') h.2 (subst (λ k. P v bytes k) h.3 (next v bytes b w x h.0)))
+  same_after (Answers w v bytes b) (Quits x) go on h next = absurd h
+  same_after (Quits w) (Answers x v' bytes' b') go on h next = absurd h
+  same_after (Quits w) (Quits x) go on h next = h
+
+  pub interp_same : (host : Host W) (other : Host V) → ((f : ℕ) (args memory : List ℕ) (m : Meter) (w : W) (x : V) → R w x → SameReply R Q (host f args memory m w) (other f args memory m x))
+      → (r : Run) (w : W) (x : V) → R w x → SameEnd R Q (interp host r w) (interp other r x)
+  interp_same host other same (Normal ops s) w x h = (refl, refl, h)
+  interp_same host other same (Branch k ops s) w x h = tt
+  interp_same host other same (Return ops s) w x h = tt
+  interp_same host other same (Trap kind meter) w x h = (refl, refl, h)
+  interp_same host other same (Spent meter) w x h = (refl, h)
+  interp_same host other same Stuck w x h = tt
+  interp_same host other same (Ask f args memory meter on) w x h =
+      same_after (host f args memory meter w) (other f args memory meter x) (λ v bytes b u. interp host (on v bytes b) u) (λ v bytes b u. interp other (on v bytes b) u) (same f args memory meter w x h)
+      (λ v bytes b u y g. interp_same host other same (on v bytes b) u y g)

@@ -1,0 +1,51 @@
+-- Access to memory (core sections 4.3.1 and 4.4.4). A memory is the list of its bytes.
+use Rattle.std.specs.Prelude.{ℕ, zero, suc, ◌+◌, ◌*◌, ◌/◌, ◌%◌, ◌^◌, nat_le, List, [], ◌∷◌, ◌++◌, length, take, drop, Option, Some, None, if◌then◌else◌}
+use Rattle.std.specs.Option.{option_map}
+use Rattle.wasm_spec.specs.declared.instructions.Sign.TheVariants.{Signed, Unsigned}
+use Rattle.wasm_spec.specs.declared.instructions.Load.{Load}
+use Rattle.wasm_spec.specs.declared.instructions.Load.TheVariants as load
+use Rattle.wasm_spec.specs.declared.instructions.Store.{Store}
+use Rattle.wasm_spec.specs.Typing.{load_exponent, store_exponent}
+use Rattle.wasm_spec.specs.Integers.{extend_s}
+
+-- little endian (4.3.1): the least significant byte first
+
+unfoldable pub integer_of_bytes : List ℕ → ℕ
+integer_of_bytes [] = 0
+integer_of_bytes (b ∷ bs) = b + 256 * integer_of_bytes bs
+
+-- the n lowest bytes of an integer
+unfoldable pub bytes_of_integer : ℕ → ℕ → List ℕ
+bytes_of_integer zero i = []
+bytes_of_integer (suc n) i = i % 256 ∷ bytes_of_integer n (i / 256)
+
+-- n bytes from place a on, if the memory has them all
+unfoldable pub bytes_at : List ℕ → (a n : ℕ) → Option (List ℕ)
+bytes_at memory a n = if nat_le (a + n) (length memory) then Some (take n (drop a memory)) else None
+
+-- the memory with these bytes from place a on, if they all fit
+unfoldable pub with_bytes_at : List ℕ → ℕ → List ℕ → Option (List ℕ)
+with_bytes_at memory a bs = if nat_le (a + length bs) (length memory) then Some (take a memory ++ bs ++ drop (a + length bs) memory) else None
+
+-- what was read, as an integer of the result's type
+unfoldable pub extended : Load → ℕ → ℕ
+extended load.I32 i = i
+extended load.I64 i = i
+extended (load.I32From8 Unsigned) i = i
+extended (load.I32From8 Signed) i = extend_s 8 32 i
+extended (load.I32From16 Unsigned) i = i
+extended (load.I32From16 Signed) i = extend_s 16 32 i
+extended (load.I64From8 Unsigned) i = i
+extended (load.I64From8 Signed) i = extend_s 8 64 i
+extended (load.I64From16 Unsigned) i = i
+extended (load.I64From16 Signed) i = extend_s 16 64 i
+extended (load.I64From32 Unsigned) i = i
+extended (load.I64From32 Signed) i = extend_s 32 64 i
+
+-- What a load gives at this address and offset, whose sum is not wrapped. None: a byte lies outside the memory, which is a trap.
+unfoldable pub loaded : List ℕ → Load → (address offset : ℕ) → Option ℕ
+loaded memory l address offset = option_map (λ bs. extended l (integer_of_bytes bs)) (bytes_at memory (address + offset) (2 ^ load_exponent l))
+
+-- The memory after a store of this integer, of which a narrow store takes the lowest bytes. None: a byte lies outside the memory, which is a trap.
+unfoldable pub stored : List ℕ → Store → (address offset i : ℕ) → Option (List ℕ)
+stored memory s address offset i = with_bytes_at memory (address + offset) (bytes_of_integer (2 ^ store_exponent s) i)

@@ -1,0 +1,37 @@
+-- A run among the functions of a host: its calls of imports answered by the host, in the order in which they come.
+use Rattle.std.specs.Prelude.{ℕ, List}
+use Rattle.budget_meter.specs.Meter.{Meter}
+use Rattle.wasm_spec.specs.declared.values.Value.{Value}
+use Rattle.wasm_spec.specs.declared.values.TrapKind.{TrapKind}
+use Rattle.wasm_spec.specs.Runs.{Run, Normal, Branch, Return, Trap, Spent, Stuck, Ask}
+
+-- what a host says to a call: an answer, with the memory and the budget after it, or that the run is over
+pub data Reply (W : Type 0) : Type 0 where
+  Answers : (world : W) (answer : ℕ) (memory : List ℕ) (meter : Meter) → Reply W
+  Quits : (world : W) → Reply W
+
+-- a function of a host, by the import's index: its arguments, the memory, the budget and the world
+abbrev pub Host : Type 0 → Type 0
+Host W = ℕ → List ℕ → List ℕ → Meter → W → Reply W
+
+-- how a run among the functions of a host ends
+pub data End (W : Type 0) : Type 0 where
+  Returned : (results : List Value) (meter : Meter) (world : W) → End W
+  Trapped : (kind : TrapKind) (meter : Meter) (world : W) → End W
+  Exhausted : (meter : Meter) (world : W) → End W
+  Quit : (world : W) → End W
+  Broken : End W
+
+-- goes on after a reply
+abbrev pub after_reply : {W : Type 0} → Reply W → (ℕ → List ℕ → Meter → W → End W) → End W
+after_reply (Answers w v memory meter) go = go v memory meter w
+after_reply (Quits w) go = Quit w
+
+abbrev pub interp : {W : Type 0} → Host W → Run → W → End W
+interp host (Normal ops s) w = Returned ops s.meter w
+interp host (Branch k ops s) w = Broken
+interp host (Return ops s) w = Broken
+interp host (Trap kind meter) w = Trapped kind meter w
+interp host (Spent meter) w = Exhausted meter w
+interp host Stuck w = Broken
+interp host (Ask f args memory meter on) w = after_reply (host f args memory meter w) (λ v bytes b. interp host (on v bytes b))
