@@ -7,15 +7,15 @@ use value_types::Hash;
 use value_xdr::{Xdr, decode, encode};
 use xdr_core::{ReadXdr, Why, XdrErr};
 
-const W0: &[u8] = &[0, 0, 0, 0];
+const WORD_0: &[u8] = &[0, 0, 0, 0];
 
-const W1: &[u8] = &[0, 0, 0, 1];
+const WORD_1: &[u8] = &[0, 0, 0, 1];
 
-const W2: &[u8] = &[0, 0, 0, 2];
+const WORD_2: &[u8] = &[0, 0, 0, 2];
 
-const W3: &[u8] = &[0, 0, 0, 3];
+const WORD_3: &[u8] = &[0, 0, 0, 3];
 
-const W9: &[u8] = &[0, 0, 0, 9];
+const WORD_9: &[u8] = &[0, 0, 0, 9];
 
 const ID: &[u8] = &[7; 32];
 
@@ -39,21 +39,24 @@ fn joined(alloc: Global, parts: &[&[u8]]) -> Result<Vec<u8>, Fail> {
 
 /// A contract's authorisation of a call of "ab" with 9, below which a contract is made.
 const ENTRY: [&[u8]; 22] = [
-    W1, W1, ID, NONCE, EXPIRATION, W1, W0, W1, SALT, W2, b"ab\0\0", W1, W3, W9, W1, W1, W0, W1, ID,
-    SALT, W0, MODULE,
+    WORD_1, WORD_1, ID, NONCE, EXPIRATION, WORD_1, WORD_0, WORD_1, SALT, WORD_2, b"ab\0\0", WORD_1,
+    WORD_3, WORD_9, WORD_1, WORD_1, WORD_0, WORD_1, ID, SALT, WORD_0, MODULE,
 ];
 
 #[test]
 fn entries(rt: HostRuntime) -> Result<(), Fail> {
     let alloc = rt.alloc();
     let mut bytes = joined(alloc, &ENTRY)?;
-    bytes.extend_from_slice(W0)?;
+    bytes.extend_from_slice(WORD_0)?;
     let entry = decode::<AuthEntry>(alloc, &bytes)?;
     assert_eq!(rt; entry.size(), bytes.len() as u64);
     let again = encode(alloc, &entry.clone()?)?;
     assert_eq!(rt; again.as_slice(), bytes.as_slice());
     // the source account's authorisation of the making of a contract with a constructor
-    let bytes = joined(alloc, &[W0, W2, W1, W0, W1, W0, W0])?;
+    let bytes = joined(
+        alloc,
+        &[WORD_0, WORD_2, WORD_1, WORD_0, WORD_1, WORD_0, WORD_0],
+    )?;
     let entry = decode::<AuthEntry>(alloc, &bytes)?;
     assert_eq!(rt; entry.size(), 28);
     Ok(())
@@ -71,13 +74,16 @@ fn bad(at: u64, why: Why) -> Option<ReadXdr> {
 fn refusals(rt: HostRuntime) -> Result<(), Fail> {
     let alloc = rt.alloc();
     // no such credentials, no such function
-    assert_eq!(rt; refusal(alloc, W2), bad(0, Why::Tag));
+    assert_eq!(rt; refusal(alloc, WORD_2), bad(0, Why::Tag));
     assert_eq!(rt;
-        refusal(alloc, &joined(alloc, &[W0, W3])?),
+        refusal(alloc, &joined(alloc, &[WORD_0, WORD_3])?),
         bad(4, Why::Tag)
     );
     // 65,537 sub-invocations, and none of them
-    let bytes = joined(alloc, &[W0, W1, W1, W0, W1, &[0, 1, 0, 1]])?;
+    let bytes = joined(
+        alloc,
+        &[WORD_0, WORD_1, WORD_1, WORD_0, WORD_1, &[0, 1, 0, 1]],
+    )?;
     assert_eq!(rt; refusal(alloc, &bytes), bad(24, Why::End));
     Ok(())
 }
@@ -86,19 +92,48 @@ fn refusals(rt: HostRuntime) -> Result<(), Fail> {
 fn levels(rt: HostRuntime) -> Result<(), Fail> {
     let alloc = rt.alloc();
     // the making of a contract, 99 times below another
-    let mut bytes = joined(alloc, &[W0])?;
+    let mut bytes = joined(alloc, &[WORD_0])?;
     for _ in 0..99 {
         bytes.extend_from_slice(&[0, 0, 0, 1, 0, 0, 0, 1, 0, 0, 0, 0, 0, 0, 0, 1, 0, 0, 0, 1])?;
     }
     bytes.extend_from_slice(&[0, 0, 0, 1, 0, 0, 0, 1, 0, 0, 0, 0, 0, 0, 0, 1])?;
     let end = bytes.len();
     assert_eq!(rt; end, 2000);
-    bytes.extend_from_slice(W0)?;
+    bytes.extend_from_slice(WORD_0)?;
     assert_eq!(rt; refusal(alloc, &bytes), None);
     // and one more
     bytes.truncate(end);
-    bytes.extend_from_slice(W1)?;
+    bytes.extend_from_slice(WORD_1)?;
     assert_eq!(rt; refusal(alloc, &bytes), bad(2000, Why::Depth));
+    Ok(())
+}
+
+/// The source account's authorisation of the making of a contract, below which a contract is called with one value: VOID in so
+/// many vecs. The value begins at 72.
+fn with_argument(alloc: Global, vecs: u32) -> Result<Vec<u8>, Fail> {
+    let mut bytes = joined(
+        alloc,
+        &[
+            WORD_0, WORD_1, WORD_1, WORD_0, WORD_1, WORD_1, WORD_0, WORD_1, ID, WORD_0, WORD_1,
+        ],
+    )?;
+    for _ in 0..vecs {
+        bytes.extend_from_slice(&[0, 0, 0, 16, 0, 0, 0, 1, 0, 0, 0, 1])?;
+    }
+    bytes.extend_from_slice(WORD_1)?;
+    bytes.extend_from_slice(WORD_0)?;
+    Ok(bytes)
+}
+
+#[test]
+fn levels_of_arguments(rt: HostRuntime) -> Result<(), Fail> {
+    let alloc = rt.alloc();
+    // A value has levels of its own, however deep the call stands.
+    let bytes = with_argument(alloc, 99)?;
+    assert_eq!(rt; bytes.len(), 1268);
+    assert_eq!(rt; refusal(alloc, &bytes), None);
+    let bytes = with_argument(alloc, 100)?;
+    assert_eq!(rt; refusal(alloc, &bytes), bad(1268, Why::Depth));
     Ok(())
 }
 
@@ -111,7 +146,7 @@ const PAYLOAD_HASH: [u32; 8] = [
 fn payloads(rt: HostRuntime) -> Result<(), Fail> {
     let alloc = rt.alloc();
     let mut bytes = joined(alloc, &ENTRY)?;
-    bytes.extend_from_slice(W0)?;
+    bytes.extend_from_slice(WORD_0)?;
     let entry = decode::<AuthEntry>(alloc, &bytes)?;
     assert!(rt; matches!(entry.credentials, Credentials::Address(_)));
     let hash = payload_hash(alloc, &Hash([5; 32]), &entry)?;

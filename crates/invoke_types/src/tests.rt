@@ -7,17 +7,17 @@ use value_types::Hash;
 use value_xdr::{Xdr, decode, encode};
 use xdr_core::{ReadXdr, Why, XdrErr};
 
-const W0: &[u8] = &[0, 0, 0, 0];
+const WORD_0: &[u8] = &[0, 0, 0, 0];
 
-const W1: &[u8] = &[0, 0, 0, 1];
+const WORD_1: &[u8] = &[0, 0, 0, 1];
 
-const W2: &[u8] = &[0, 0, 0, 2];
+const WORD_2: &[u8] = &[0, 0, 0, 2];
 
-const W3: &[u8] = &[0, 0, 0, 3];
+const WORD_3: &[u8] = &[0, 0, 0, 3];
 
-const W4: &[u8] = &[0, 0, 0, 4];
+const WORD_4: &[u8] = &[0, 0, 0, 4];
 
-const W5: &[u8] = &[0, 0, 0, 5];
+const WORD_5: &[u8] = &[0, 0, 0, 5];
 
 const W33: &[u8] = &[0, 0, 0, 33];
 
@@ -45,25 +45,27 @@ fn spell<T: Xdr + Drop>(alloc: Global, parts: &[&[u8]]) -> Result<bool, Fail> {
 fn host_functions(rt: HostRuntime) -> Result<(), Fail> {
     let rows: [&[&[u8]]; 7] = [
         // a call of "ab" with VOID
-        &[W0, W1, ID, W2, b"ab\0\0", W1, W1],
+        &[WORD_0, WORD_1, ID, WORD_2, b"ab\0\0", WORD_1, WORD_1],
         // from an account and from a contract, each running a module
-        &[W1, W0, W0, W0, ID, SALT, W0, ID],
-        &[W1, W0, W1, ID, SALT, W0, ID],
+        &[WORD_1, WORD_0, WORD_0, WORD_0, ID, SALT, WORD_0, ID],
+        &[WORD_1, WORD_0, WORD_1, ID, SALT, WORD_0, ID],
         // from assets, running the contract of the asset
-        &[W1, W1, W0, W1],
-        &[W1, W1, W2, b"USDCandSoOn.", W0, ID, W1],
+        &[WORD_1, WORD_1, WORD_0, WORD_1],
+        &[WORD_1, WORD_1, WORD_2, b"USDCandSoOn.", WORD_0, ID, WORD_1],
         // a module of 5 bytes
-        &[W2, W5, b"\0asm\x01\0\0\0"],
+        &[WORD_2, WORD_5, b"\0asm\x01\0\0\0"],
         // with a constructor that takes VOID
-        &[W3, W1, W1, b"USDC", W0, ID, W1, W1, W1],
+        &[
+            WORD_3, WORD_1, WORD_1, b"USDC", WORD_0, ID, WORD_1, WORD_1, WORD_1,
+        ],
     ];
     for row in rows {
         assert!(rt; spell::<HostFunction>(rt.alloc(), row)?);
     }
     let functions: [&[&[u8]]; 3] = [
-        &[W0, W0, W0, ID, W0, W0],
-        &[W1, W1, W0, W1],
-        &[W2, W1, W0, W1, W0],
+        &[WORD_0, WORD_0, WORD_0, ID, WORD_0, WORD_0],
+        &[WORD_1, WORD_1, WORD_0, WORD_1],
+        &[WORD_2, WORD_1, WORD_0, WORD_1, WORD_0],
     ];
     for row in functions {
         assert!(rt; spell::<Function>(rt.alloc(), row)?);
@@ -74,15 +76,19 @@ fn host_functions(rt: HostRuntime) -> Result<(), Fail> {
 #[test]
 fn events(rt: HostRuntime) -> Result<(), Fail> {
     let rows: [&[&[u8]]; 3] = [
-        &[W0, W0, W0, W0, W0, W1],
-        &[W0, W1, ID, W1, W0, W2, W1, W1, W1],
-        &[W0, W0, W2, W0, W0, W1],
+        &[WORD_0, WORD_0, WORD_0, WORD_0, WORD_0, WORD_1],
+        &[
+            WORD_0, WORD_1, ID, WORD_1, WORD_0, WORD_2, WORD_1, WORD_1, WORD_1,
+        ],
+        &[WORD_0, WORD_0, WORD_2, WORD_0, WORD_0, WORD_1],
     ];
     for row in rows {
         assert!(rt; spell::<ContractEvent>(rt.alloc(), row)?);
     }
     // VOID, and an event of a contract
-    let preimage: [&[u8]; 9] = [W1, W1, W0, W1, ID, W1, W0, W0, W1];
+    let preimage: [&[u8]; 9] = [
+        WORD_1, WORD_1, WORD_0, WORD_1, ID, WORD_1, WORD_0, WORD_0, WORD_1,
+    ];
     assert!(rt; spell::<SuccessPreimage>(rt.alloc(), &preimage)?);
     Ok(())
 }
@@ -105,28 +111,32 @@ fn bad(at: u64, why: Why) -> Option<ReadXdr> {
 fn refusals(rt: HostRuntime) -> Result<(), Fail> {
     let rows: [(&[&[u8]], u64, Why); 9] = [
         // no such function, no such preimage, no such asset
-        (&[W4], 0, Why::Tag),
-        (&[W1, W2], 4, Why::Tag),
-        (&[W1, W1, W3], 8, Why::Tag),
+        (&[WORD_4], 0, Why::Tag),
+        (&[WORD_1, WORD_2], 4, Why::Tag),
+        (&[WORD_1, WORD_1, WORD_3], 8, Why::Tag),
         // an address of a kind that is not taken
-        (&[W0, W2], 4, Why::Tag),
+        (&[WORD_0, WORD_2], 4, Why::Tag),
         // a name of 33 bytes
-        (&[W0, W1, ID, W33], 40, Why::Limit),
-        (&[W0, W1, ID, W2, b"ab\0\x01"], 44, Why::Padding),
+        (&[WORD_0, WORD_1, ID, W33], 40, Why::Limit),
+        (&[WORD_0, WORD_1, ID, WORD_2, b"ab\0\x01"], 44, Why::Padding),
         // no such executable
-        (&[W1, W1, W0, W2], 12, Why::Tag),
-        (&[W2, W5, b"\0asm\x01\0\0"], 15, Why::End),
-        (&[W1, W1, W0, W1, W0], 16, Why::Trailing),
+        (&[WORD_1, WORD_1, WORD_0, WORD_2], 12, Why::Tag),
+        (&[WORD_2, WORD_5, b"\0asm\x01\0\0"], 15, Why::End),
+        (&[WORD_1, WORD_1, WORD_0, WORD_1, WORD_0], 16, Why::Trailing),
     ];
     for (row, at, why) in rows {
         assert_eq!(rt; function_refusal(rt.alloc(), row)?, bad(at, why));
     }
     let rows: [(&[&[u8]], u64, Why); 4] = [
         // an extension, a flag, a type and a body that are not taken
-        (&[W1, W1, W1], 8, Why::Tag),
-        (&[W1, W1, W0, W2], 12, Why::Boolean),
-        (&[W1, W1, W0, W0, W3], 16, Why::Tag),
-        (&[W1, W1, W0, W0, W2, W1], 20, Why::Tag),
+        (&[WORD_1, WORD_1, WORD_1], 8, Why::Tag),
+        (&[WORD_1, WORD_1, WORD_0, WORD_2], 12, Why::Boolean),
+        (&[WORD_1, WORD_1, WORD_0, WORD_0, WORD_3], 16, Why::Tag),
+        (
+            &[WORD_1, WORD_1, WORD_0, WORD_0, WORD_2, WORD_1],
+            20,
+            Why::Tag,
+        ),
     ];
     for (row, at, why) in rows {
         assert_eq!(rt; refusal(rt.alloc(), row)?, bad(at, why));
@@ -137,14 +147,22 @@ fn refusals(rt: HostRuntime) -> Result<(), Fail> {
 #[test]
 fn copies(rt: HostRuntime) -> Result<(), Fail> {
     let alloc = rt.alloc();
-    let bytes = joined(alloc, &[W0, W1, ID, W2, b"ab\0\0", W1, W1])?;
+    let bytes = joined(
+        alloc,
+        &[WORD_0, WORD_1, ID, WORD_2, b"ab\0\0", WORD_1, WORD_1],
+    )?;
     let function = decode::<HostFunction>(alloc, &bytes)?;
     let again = encode(alloc, &function.clone()?)?;
     assert_eq!(rt; again.as_slice(), bytes.as_slice());
     let function = decode::<Function>(alloc, &bytes)?;
     let again = encode(alloc, &function.clone()?)?;
     assert_eq!(rt; again.as_slice(), bytes.as_slice());
-    let bytes = joined(alloc, &[W1, W1, W0, W1, ID, W1, W0, W0, W1])?;
+    let bytes = joined(
+        alloc,
+        &[
+            WORD_1, WORD_1, WORD_0, WORD_1, ID, WORD_1, WORD_0, WORD_0, WORD_1,
+        ],
+    )?;
     let preimage = decode::<SuccessPreimage>(alloc, &bytes)?;
     let again = encode(alloc, &preimage.clone()?)?;
     assert_eq!(rt; again.as_slice(), bytes.as_slice());
@@ -180,10 +198,10 @@ fn id_of(alloc: Global, parts: &[&[u8]]) -> Result<Hash, Fail> {
 #[test]
 fn contract_ids(rt: HostRuntime) -> Result<(), Fail> {
     let rows: [&[&[u8]]; 4] = [
-        &[W0, W0, W0, ID, SALT],
-        &[W0, W1, ID, SALT],
-        &[W1, W1, b"USDC", W0, ID],
-        &[W1, W0],
+        &[WORD_0, WORD_0, WORD_0, ID, SALT],
+        &[WORD_0, WORD_1, ID, SALT],
+        &[WORD_1, WORD_1, b"USDC", WORD_0, ID],
+        &[WORD_1, WORD_0],
     ];
     for (row, words) in rows.iter().zip(CONTRACT_IDS.iter()) {
         let id = id_of(rt.alloc(), row)?;

@@ -1,0 +1,110 @@
+-- Calls that do not fail: what they find, and what they come to.
+use Rattle.std.proofs.Common.{◌≡◌, ◌≢◌, ℕ, zero, suc, ◌+◌, ◌-◌, ◌<◌, ◌≤◌, Bool, true, false, List, [], ◌∷◌, ◌++◌, length, map, take, drop, replicate, Option, Some, None, refl, ap, ◌∙◌, arith}
+use Rattle.std.specs.Prelude.{slice_get, IsSome, ◌&&◌}
+use Rattle.wasm_spec.specs.declared.types.ValueType.{ValueType}
+use Rattle.wasm_spec.specs.declared.types.FuncType.{FuncType}
+use Rattle.wasm_spec.specs.declared.values.Value.{Value}
+use Rattle.wasm_spec.specs.declared.values.TrapKind.TheVariants.{CallDepth}
+use Rattle.wasm_spec.specs.declared.module.Locals.{Locals}
+use Rattle.wasm_spec.specs.declared.module.Function.{Function}
+use Rattle.wasm_spec.specs.declared.module.Module.{Module}
+use Rattle.wasm_spec.specs.Typing.{result_of, local_types}
+use Rattle.wasm_spec.specs.Stores.{number_of, zero_of}
+use Rattle.wasm_spec.specs.Runs.{State}
+use Rattle.wasm_spec.specs.Meaning.{same_type, same_types, arguments, start_locals, MOST_CALLS}
+use Rattle.wasm_spec.proofs.Sound.{same_types_are}
+use Rattle.wasm_code.specs.declared.step.FlatCode.{FlatCode}
+use Rattle.wasm_machine.specs.Numbers.{first_locals}
+use Rattle.wasm_machine.specs.Machine.{Frame, Machine, Moved, Goes, Traps, Fails, Asks, on_with, room_of, taking, enters, calls_own, asks, calls}
+
+-- types
+
+pub same_types-drop : (xs ys : List ValueType) (i : ℕ) (x y : ValueType) → slice_get xs i ≡ Some x → slice_get ys i ≡ Some y → same_types (drop i xs) (drop i ys) ≡ (same_type x y && same_types (drop (suc i) xs) (drop (suc i) ys))
+same_types-drop [] ys i x y e f = cc
+same_types-drop (a ∷ xs) [] i x y e f = cc
+same_types-drop (a ∷ xs) (b ∷ ys) zero x y e f = let p : a ≡ x = cc in let q : b ≡ y = cc in ap (λ v. same_type v b && same_types xs ys) p ∙ ap (λ v. same_type x v && same_types xs ys) q
+same_types-drop (a ∷ xs) (b ∷ ys) (suc i) x y e f = same_types-drop xs ys i x y e f
+
+pub same_types-all : (xs ys : List ValueType) (i : ℕ) → length xs ≡ length ys → length xs ≤ i → same_types (drop i xs) (drop i ys) ≡ true
+same_types-all [] [] zero e le = refl
+same_types-all [] [] (suc i) e le = refl
+same_types-all [] (y ∷ ys) i e le = absurd (omega arith)
+same_types-all (x ∷ xs) [] i e le = absurd (omega arith)
+same_types-all (x ∷ xs) (y ∷ ys) zero e le = absurd (omega arith)
+same_types-all (x ∷ xs) (y ∷ ys) (suc i) e le = same_types-all xs ys i (omega arith) (omega arith)
+
+differ_if : (b : Bool) (xs ys : List ValueType) → same_types xs ys ≡ b → length xs ≢ length ys → b ≡ false
+differ_if true xs ys e ne = absurd (ne (ap length (same_types_are xs ys e)))
+differ_if false xs ys e ne = refl
+
+pub same_types-differ : (xs ys : List ValueType) → length xs ≢ length ys → same_types xs ys ≡ false
+same_types-differ xs ys ne = differ_if (same_types xs ys) xs ys refl ne
+
+-- locals
+
+map-append : (xs ys : List ValueType) → map zero_of (xs ++ ys) ≡ map zero_of xs ++ map zero_of ys
+map-append [] ys = refl
+map-append (x ∷ xs) ys = ap (λ l. zero_of x ∷ l) (map-append xs ys)
+
+map-replicate : (n : ℕ) (t : ValueType) → map zero_of (replicate n t) ≡ replicate n (zero_of t)
+map-replicate zero t = refl
+map-replicate (suc n) t = ap (λ l. zero_of t ∷ l) (map-replicate n t)
+
+pub zeros_of : (ls : List Locals) → map zero_of (local_types ls) ≡ first_locals ls
+zeros_of [] = refl
+zeros_of (l ∷ ls) =
+    map-append (replicate l.count l.value_type) (local_types ls) ∙ ap (λ x. x ++ map zero_of (local_types ls)) (map-replicate l.count l.value_type)
+    ∙ ap (λ x. replicate l.count (zero_of l.value_type) ++ x) (zeros_of ls)
+
+pub take_whole : {A : Type 0} (xs : List A) (n : ℕ) → length xs ≤ n → take n xs ≡ xs
+take_whole [] zero le = refl
+take_whole [] (suc n) le = refl
+take_whole (x ∷ xs) zero le = absurd (omega arith)
+take_whole (x ∷ xs) (suc n) le = ap (λ l. x ∷ l) (take_whole xs n (omega arith))
+
+-- operands
+
+pub arguments_found : (o : Option (List Value × List Value)) (go : List Value → List Value → Moved) → taking o go ≢ Fails → IsSome o
+arguments_found None go h = absurd (h refl)
+arguments_found (Some a) go h = refl
+
+most_is : MOST_CALLS ≡ 512
+unfolding MOST_CALLS
+most_is = refl
+
+pub asks_are : (t : FuncType) (f : ℕ) (m : Machine) (args rest : List Value) → arguments (length t.params) [] m.operands ≡ Some (args, rest) → asks t f m ≡ Asks f (map number_of args) (result_of t) (on_with rest m)
+asks_are t f m args rest e = ap (λ o. taking o (λ args under. Asks f (map number_of args) (result_of t) (on_with under m))) e
+
+pub own_deep : (f : Function) (entry : ℕ) (t : FuncType) (m : Machine) (args rest : List Value) → arguments (length t.params) [] m.operands ≡ Some (args, rest) → 511 ≤ length m.frames → calls_own (Some f) (Some entry) t m ≡ Traps CallDepth m.state.meter
+own_deep f entry t m args rest e deep =
+    let none : room_of m.frames ≡ 0 = let k = most_is in omega arith in
+    ap (λ o. taking o (λ args under. enters (room_of m.frames) f entry args under m)) e ∙ ap (λ n. enters n f entry args rest m) none
+
+pub own_enters : (f : Function) (entry : ℕ) (t : FuncType) (m : Machine) (args rest : List Value) → arguments (length t.params) [] m.operands ≡ Some (args, rest) → length m.frames < 511 → calls_own (Some f) (Some entry) t m ≡ Goes (record { place = entry; operands = rest; state = record m.state { locals = start_locals f args }; frames = (record { place = m.place + 1; locals = m.state.locals }) ∷ m.frames })
+own_enters f entry t m args rest e shallow =
+    let some : room_of m.frames ≡ suc (510 - length m.frames) = let k = most_is in omega arith in
+    ap (λ o. taking o (λ args under. enters (room_of m.frames) f entry args under m)) e ∙ ap (λ n. enters n f entry args rest m) some
+
+abbrev machine : ℕ → List Value → State → List Frame → Machine
+machine place ops s fs = record { place = place; operands = ops; state = s; frames = fs }
+
+-- functions
+
+own_found : (o : Option Function) (e : Option ℕ) (t : FuncType) (m : Machine) → calls_own o e t m ≢ Fails → (f : Function) × (entry : ℕ) × (o ≡ Some f) × (e ≡ Some entry)
+own_found None e t m h = absurd (h refl)
+own_found (Some f) None t m h = absurd (h refl)
+own_found (Some f) (Some entry) t m h = (f, entry, refl, refl)
+
+pub type_found : (source : Module) (flat : FlatCode) (b : Bool) (o : Option FuncType) (f : ℕ) (m : Machine) → calls source flat b o f m ≢ Fails → (t : FuncType) × (o ≡ Some t)
+type_found source flat b None f m h = absurd (h refl)
+type_found source flat b (Some t) f m h = (t, refl)
+
+pub function_found : (source : Module) (flat : FlatCode) (b : Bool) (o : Option FuncType) (f : ℕ) (m : Machine) → b ≡ false → calls source flat b o f m ≢ Fails
+    → (own : Function) × (entry : ℕ) × (slice_get source.functions (f - length source.imports) ≡ Some own) × (slice_get flat.entries (f - length source.imports) ≡ Some entry)
+function_found source flat b None f m e h = absurd (h refl)
+function_found source flat true (Some t) f m e h = cc
+function_found source flat false (Some t) f m e h = own_found (slice_get source.functions (f - length source.imports)) (slice_get flat.entries (f - length source.imports)) t m h
+
+-- a function that is entered, where its parts are known by equations
+pub entered : (place : ℕ) (ops ls ls' : List Value) (s : State) (fs fs' : List Frame) → ls ≡ ls' → fs ≡ fs' → machine place ops (record s { locals = ls }) fs ≡ machine place ops (record s { locals = ls' }) fs'
+entered place ops ls ls' s fs fs' e f = ap (λ l. machine place ops (record s { locals = l }) fs) e ∙ ap (machine place ops (record s { locals = ls' })) f

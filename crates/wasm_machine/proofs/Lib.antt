@@ -1,0 +1,13 @@
+pub mod CallLaws
+pub mod Events
+pub mod LeftLaws
+pub mod Measure
+pub mod MoveLaws
+pub mod PlainLaws
+pub mod Sim
+pub mod SimCalls
+pub mod SimCode
+pub mod SimStart
+pub mod Stack
+pub mod Spends
+pub mod Ways

@@ -1,0 +1,7 @@
+use Rattle.wasm_machine.specs.Running.{machine_of}
+use Rattle.wasm_machine.proofs.PlainLaws.{can_apply}
+use Rattle.wasm_machine.proofs.step.go_on.Goals as goal
+
+pub apply-requires-clause-able : goal.apply-requires-clause-able
+apply-requires-clause-able c =
+    can_apply c.args.plain c.args.m.now.operands c.args.m.now.locals.items c.args.m.now.store (machine_of c.args.m.now c.args.budget.now) c.requires.other c.requires.moves

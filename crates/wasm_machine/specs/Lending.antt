@@ -1,0 +1,14 @@
+-- What is left where the memory was written to.
+use Rattle.std.specs.Prelude.{ℕ, List, length}
+use Rattle.std.specs.List.{refill}
+use Rattle.std.specs.Borrow.{Lends, MutBor, Fml, Array, u8}
+use Rattle.wasm_spec.specs.Stores.{Store, with_bytes}
+use Rattle.wasm_machine.specs.contracts.store.Store.{the_row}
+
+-- The store with these bytes in its memory. They are as many as before: were they more or fewer, they would be cut or filled up.
+abbrev pub rewritten : Store → List ℕ → Store
+rewritten s bytes = with_bytes (refill (length s.memory.bytes) s.memory.bytes bytes) s
+
+-- s ends with the last bytes behind r in its memory
+abbrev pub LendsMemory : MutBor Store → MutBor (List ℕ) → Fml
+LendsMemory s r = Lends the_row (Array u8 0) s r (rewritten s.now)

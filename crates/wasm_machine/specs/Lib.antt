@@ -1,0 +1,8 @@
+pub mod Behaves
+pub mod Frames
+pub mod Lending
+pub mod Machine
+pub mod Numbers
+pub mod Running
+pub mod Says
+pub mod Spending

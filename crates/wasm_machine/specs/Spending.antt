@@ -1,0 +1,10 @@
+-- Budgets as a run goes on.
+use Rattle.std.specs.Prelude.{◌≡◌, ◌≤◌}
+use Rattle.budget_meter.specs.Meter.{Meter}
+
+-- the same budget, with no less spent
+pub record IsLater (old new : Meter) : Type 0 where
+  pub limits : new.limits ≡ old.limits
+  pub terms : new.terms ≡ old.terms
+  pub instructions : old.used.instructions ≤ new.used.instructions
+  pub memory : old.used.memory ≤ new.used.memory

@@ -1,0 +1,152 @@
+//! The operands of all open calls.
+
+ghost use Rattle.std.specs.Prelude.{◌≡◌, ◌<◌, ◌≤◌, List, [], ◌∷◌, ◌++◌, drop, length, map, reverse, slice_get, Some, IsSome, OnOk, OnErr, IfOk};
+ghost use Rattle.wasm_spec.specs.declared.values.Value.{Value as Value_};
+ghost use Rattle.wasm_spec.specs.declared.types.ValueType.TheVariants.{I32, I64};
+ghost use Rattle.wasm_spec.specs.declared.values.Value.TheVariants as value;
+ghost use Rattle.wasm_spec.specs.Stores.{value_of};
+ghost use Rattle.wasm_spec.specs.Meaning.{arguments};
+ghost use Rattle.wasm_machine.specs.Machine.{removed, cut};
+ghost use Rattle.wasm_machine.specs.Numbers.{HasTop};
+
+use std::alloc::{AllocError, Global};
+use std::marker::Model;
+use wasm_spec::{Value, ValueType};
+
+/// A stack of values: contracts see it as the list of them, the topmost first.
+#[derive(Drop)]
+pub struct Operands {
+    values: Vec<Value>,
+}
+
+impl Model for Operands {
+    ghost use Rattle.std.specs.Prelude.{List, reverse};
+    ghost use Rattle.wasm_spec.specs.declared.values.Value.{Value as Operand};
+
+    ghost Value = { List Operand };
+
+    ghost view = { λ o. reverse o.values.items };
+}
+
+/// Puts these numbers in place of the first values.
+pub fn put_numbers(values: &mut [Value], numbers: &[u64])
+    requires { length numbers.now ≤ length values.old }
+    ensures { values.new ≡ map value.I64 numbers.now ++ drop (length numbers.now) values.old }
+{
+    for (i, number) in numbers.iter().enumerate() {
+        values[i] = Value::I64(*number);
+    }
+}
+
+impl Operands {
+    pub fn new(alloc: Global) -> Self
+        ensures { result ≡ [] }
+    {
+        Operands {
+            values: Vec::new(alloc),
+        }
+    }
+
+    /// These values, the last one the topmost. Takes no memory.
+    pub fn from_vec(values: Vec<Value>) -> Self
+        ensures { result ≡ reverse values.items }
+    {
+        Operands { values }
+    }
+
+    pub fn push(&mut self, value: Value) -> Result<(), AllocError>
+        ensures ok { OnOk result (self.new ≡ value ∷ self.old) }
+        ensures err { OnErr result (self.new ≡ self.old) }
+    {
+        self.values.push(value)?;
+        Ok(())
+    }
+
+    pub fn pop(&mut self) -> Value
+        requires { 0 < length self.old }
+        ensures { self.old ≡ result ∷ self.new }
+    {
+        match self.values.pop() {
+            Some(value) => value,
+            None => unreachable!(),
+        }
+    }
+
+    /// The topmost value.
+    pub fn top(&self) -> Option<Value>
+        ensures { result ≡ slice_get self.now 0 }
+    {
+        self.values.last().copied()
+    }
+
+    /// Puts another value in place of the topmost.
+    pub fn replace(&mut self, value: Value)
+        requires { 0 < length self.old }
+        ensures { (v : Value_) (below : List Value_) → self.old ≡ v ∷ below → self.new ≡ value ∷ below }
+    {
+        let top = self.values.len() - 1;
+        self.values[top] = value;
+    }
+
+    /// Puts these numbers in place of all values, as the last one the topmost.
+    pub fn replace_all(&mut self, numbers: &[u64])
+        requires { length self.old ≡ length numbers.now }
+        ensures { self.new ≡ reverse (map value.I64 numbers.now) }
+    {
+        put_numbers(&mut self.values, numbers);
+    }
+
+    /// The topmost number, which has 32 bits.
+    pub fn pop32(&mut self) -> u32
+        requires { HasTop I32 self.old }
+        ensures { self.old ≡ value.I32 result ∷ self.new }
+    {
+        match self.values.pop() {
+            Some(Value::I32(number)) => number,
+            _ => unreachable!(),
+        }
+    }
+
+    /// The topmost number, which has 64 bits.
+    pub fn pop64(&mut self) -> u64
+        requires { HasTop I64 self.old }
+        ensures { self.old ≡ value.I64 result ∷ self.new }
+    {
+        match self.values.pop() {
+            Some(Value::I64(number)) => number,
+            _ => unreachable!(),
+        }
+    }
+
+    /// Takes the n topmost away.
+    pub fn remove(&mut self, n: usize)
+        requires { IsSome (removed n self.old) }
+        ensures { removed n self.old ≡ Some self.new }
+    {
+        self.values.truncate(self.values.len() - n);
+    }
+
+    /// Takes n away from under the value that is carried.
+    pub fn cut(&mut self, carried: Option<ValueType>, n: usize)
+        requires { IsSome (cut carried n self.old) }
+        ensures { cut carried n self.old ≡ Some self.new }
+    {
+        match carried {
+            None => self.remove(n),
+            Some(_) => {
+                let top = self.values.len() - 1;
+                self.values[top - n] = self.values[top];
+                self.values.truncate(top + 1 - n);
+            }
+        }
+    }
+
+    /// Takes the n topmost away, the first pushed first.
+    pub fn take_arguments(&mut self, n: usize) -> Result<Vec<Value>, AllocError>
+        requires { IsSome (arguments n [] self.old) }
+        ensures { IfOk result (λ args. arguments n [] self.old ≡ Some (args.items, self.new)) }
+    {
+        let rest = self.values.len() - n;
+        self.values.split_off(rest)
+    }
+}

@@ -1,0 +1,50 @@
+//! Runs up to the next call of an import.
+
+ghost use Rattle.std.specs.Prelude.{◌≡◌, slice_get, IfOk, OnOk};
+ghost use Rattle.wasm_spec.specs.Runs.{Run};
+ghost use Rattle.wasm_machine.specs.Behaves.{Behaves};
+ghost use Rattle.wasm_machine.specs.Running.{machine_of};
+ghost use Rattle.wasm_machine.specs.Says.{Says, IsLess};
+ghost use Rattle.wasm_machine.specs.Spending.{IsLater};
+
+use crate::machine::{Outcome, Running};
+use crate::step::step;
+use budget_meter::Budget;
+use std::alloc::AllocError;
+use wasm_code::FlatCode;
+use wasm_spec::{Module, TrapKind, Value, ValueType};
+
+/// What a run comes to.
+#[derive(Drop)]
+pub enum Paused {
+    /// The end, with the topmost operand.
+    Done(Option<Value>),
+    /// The call of an import, which waits for an answer of this type.
+    HostCall(u32, Vec<u64>, Option<ValueType>),
+    Trap(TrapKind),
+    Spent,
+}
+
+/// Goes on as far as the budget allows: to the run's end, or to the next call of an import.
+pub fn run(
+    source: &Module,
+    code: &FlatCode,
+    m: &mut Running,
+    budget: &mut Budget,
+) -> Result<Paused, AllocError>
+    requires { (r : Run) × Behaves source.now code.now (machine_of m.old budget.old) r }
+    ensures says { IfOk result (λ p. (r : Run) → Behaves source.now code.now (machine_of m.old budget.old) r
+        → Says source.now code.now r p (machine_of m.new budget.new)) }
+    ensures spends { IfOk result (λ _. IsLater budget.old budget.new) }
+    ensures less { IfOk result (λ p. IsLess code.now p (machine_of m.old budget.old) (machine_of m.new budget.new)) }
+{
+    loop {
+        match step(source, code, m, budget)? {
+            Outcome::Goes => {}
+            Outcome::Ends => return Ok(Paused::Done(m.operands.top())),
+            Outcome::Traps(kind) => return Ok(Paused::Trap(kind)),
+            Outcome::RunsOut => return Ok(Paused::Spent),
+            Outcome::Asks(f, args, result) => return Ok(Paused::HostCall(f, args, result)),
+        }
+    }
+}

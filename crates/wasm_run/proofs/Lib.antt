@@ -1,0 +1,5 @@
+pub mod Expressions
+pub mod Fold
+pub mod Starts
+pub mod Suspends
+pub mod Walks

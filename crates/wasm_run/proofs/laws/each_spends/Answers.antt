@@ -1,0 +1,5 @@
+use Rattle.wasm_spec.proofs.RunLaws.{executed_spends}
+use Rattle.wasm_run.proofs.laws.each_spends.Goals as goal
+
+pub returns : goal.returns
+returns c = executed_spends

@@ -1,0 +1,70 @@
+//! The export that is called.
+
+ghost use Rattle.std.specs.Prelude.{◌≡◌, replicate, Some};
+ghost use Rattle.std.specs.Str.{bytes_eq};
+ghost use Rattle.wasm_spec.specs.declared.types.ValueType.TheVariants.{I64};
+ghost use Rattle.wasm_spec.specs.Meaning.{same_type, same_types};
+ghost use Rattle.wasm_spec.specs.Instances.{function_exported, function_named, has_arity};
+
+use wasm_spec::{Export, ExportKind, FuncType, ValueType};
+
+fn same_name(a: &[u8], b: &[u8]) -> bool
+    ensures { result ≡ bytes_eq a.now b.now }
+{
+    a == b
+}
+
+// The function that an export names, if it names one.
+fn function_exported(export: &Export) -> Option<u32>
+    ensures { result ≡ function_exported export.now.kind export.now.index }
+{
+    match export.kind {
+        ExportKind::Function => Some(export.index),
+        ExportKind::Table => None,
+        ExportKind::Memory => None,
+        ExportKind::Global => None,
+    }
+}
+
+/// The function that is exported under a name.
+pub fn function_named(name: &[u8], exports: &[Export]) -> Option<u32>
+    ensures { result ≡ function_named name.now exports.now }
+{
+    for export in exports {
+        if same_name(export.name.as_slice(), name) {
+            return function_exported(export);
+        }
+    }
+    None
+}
+
+fn is_word(value_type: ValueType) -> bool
+    ensures { result ≡ same_type value_type I64 }
+{
+    match value_type {
+        ValueType::I32 => false,
+        ValueType::I64 => true,
+    }
+}
+
+// Whether these are so many types of 64 bits.
+fn are_words(count: usize, types: &[ValueType]) -> bool
+    ensures { result ≡ same_types types.now (replicate count I64) }
+{
+    if types.len() != count {
+        return false;
+    }
+    for value_type in types {
+        if !is_word(*value_type) {
+            return false;
+        }
+    }
+    true
+}
+
+/// Whether a function of the type takes so many words and gives one.
+pub fn has_arity(arity: usize, func_type: &FuncType) -> bool
+    ensures { result ≡ has_arity arity (Some func_type.now) }
+{
+    are_words(arity, func_type.params.as_slice()) && are_words(1, func_type.results.as_slice())
+}

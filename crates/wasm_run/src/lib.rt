@@ -1,0 +1,20 @@
+//! Calls of the exports of a valid module, which stop at each call of an import (core section 4.5).
+#![tactic(auto)]
+
+mod constants;
+mod error;
+mod export;
+mod instance;
+mod laws;
+mod placing;
+mod prepare;
+mod segments;
+#[cfg(test)]
+mod tests;
+mod trap;
+
+pub use error::StartErr;
+pub use instance::{Event, Instance, Phase};
+pub use laws::{count_never_ends, each_spends, events_fold, never_breaks};
+pub use prepare::{Beginning, begin};
+pub use trap::trap_error;

@@ -1,0 +1,126 @@
+//! What a call begins with: the function that is exported, and the store (core section 4.5.4).
+
+ghost use Rattle.std.specs.Prelude.{◌≡◌, ◌≤◌, Some, IfOk};
+ghost use Rattle.wasm_spec.specs.Typing.{Typed};
+ghost use Rattle.wasm_spec.specs.Instances.{table_of, memory_of, empty_store, segments_fit, start_filled, start_function, start_of};
+ghost use Rattle.wasm_run.specs.Begun.{IsStart, IsFirstStore};
+
+use crate::constants::first_values;
+use crate::error::StartErr;
+use crate::export::{function_named, has_arity};
+use crate::segments::{data_fit, elements_fit, put_data, put_elements};
+use std::alloc::{AllocError, Global};
+use wasm_machine::{PAGE_BYTES, Store, function_type};
+use wasm_spec::{Limits, Module, TableType, Value};
+
+/// The most pages that any memory may have.
+const MOST_PAGES: u32 = 64;
+
+/// What a call begins with.
+#[derive(Drop)]
+pub struct Beginning {
+    pub function: u32,
+    pub store: Store,
+}
+
+// A table whose elements were never set.
+fn first_table(alloc: Global, table_type: Option<TableType>) -> Result<Vec<Option<u32>>, AllocError>
+    ensures { IfOk result (λ v. v.items ≡ table_of table_type) }
+{
+    let mut table = Vec::new(alloc);
+    if let Some(table_type) = table_type {
+        table.resize(table_type.limits.min as usize, None)?;
+    }
+    Ok(table)
+}
+
+// A memory of zeros.
+fn first_memory(alloc: Global, limits: Option<Limits>) -> Result<Vec<u8>, AllocError>
+    ensures { IfOk result (λ v. v.items ≡ (memory_of limits).bytes) }
+{
+    let mut memory = Vec::new(alloc);
+    if let Some(limits) = limits {
+        memory.resize(limits.min as usize * PAGE_BYTES, 0)?;
+    }
+    Ok(memory)
+}
+
+// How many pages the memory may have.
+fn most_pages(limits: Option<Limits>) -> u32
+    ensures value { result ≡ (memory_of limits).most_pages }
+    ensures few { result ≤ 64 }
+{
+    match limits {
+        None => 0,
+        Some(limits) => limits.max.unwrap_or(MOST_PAGES).min(MOST_PAGES),
+    }
+}
+
+// Whether all segments fit.
+fn segments_fit(source: &Module, globals: &[Value], table: &[Option<u32>], memory: &[u8]) -> bool
+    ensures { result ≡ segments_fit source.now (record { memory = record { bytes = memory.now; most_pages = 0 }; globals = globals.now; table = table.now }) }
+{
+    elements_fit(globals, table, source.elements.as_slice())
+        && data_fit(globals, memory, source.data.as_slice())
+}
+
+// The store with all segments put into it.
+fn first_store(alloc: Global, source: &Module) -> Result<Store, StartErr>
+    requires { Typed source.now }
+    ensures { IsFirstStore source.now result }
+{
+    let limits = source.memories.as_slice().first().copied();
+    let globals = first_values(alloc, source.globals.as_slice())?;
+    let mut table = first_table(alloc, source.tables.as_slice().first().copied())?;
+    let mut memory = first_memory(alloc, limits)?;
+    if !segments_fit(source, &globals, &table, &memory) {
+        return Err(StartErr::Segment);
+    }
+    put_elements(alloc, &globals, &mut table, source.elements.as_slice())?;
+    put_data(&globals, &mut memory, source.data.as_slice());
+    Ok(Store::new(memory, most_pages(limits), globals, table))
+}
+
+// The function, which has the arity, with the store.
+fn begin_filled(alloc: Global, source: &Module, function: u32) -> Result<Beginning, StartErr>
+    requires { Typed source.now }
+    ensures { IsStart (start_filled source.now function (empty_store source.now)) result }
+{
+    let store = first_store(alloc, source)?;
+    Ok(Beginning { function, store })
+}
+
+// The function, if it has the arity, with the store.
+fn begin_function(
+    alloc: Global,
+    source: &Module,
+    function: u32,
+    arity: usize,
+) -> Result<Beginning, StartErr>
+    requires { Typed source.now }
+    ensures { IsStart (start_function source.now arity (Some function)) result }
+{
+    let Some(func_type) = function_type(source, function) else {
+        return Err(StartErr::WrongArity);
+    };
+    if !has_arity(arity, func_type) {
+        return Err(StartErr::WrongArity);
+    }
+    begin_filled(alloc, source, function)
+}
+
+/// What the call of an export begins with, which is to take so many words.
+pub fn begin(
+    alloc: Global,
+    source: &Module,
+    export: &[u8],
+    arity: usize,
+) -> Result<Beginning, StartErr>
+    requires { Typed source.now }
+    ensures { IsStart (start_of source.now export.now arity) result }
+{
+    match function_named(export, source.exports.as_slice()) {
+        None => Err(StartErr::Missing),
+        Some(function) => begin_function(alloc, source, function, arity),
+    }
+}
