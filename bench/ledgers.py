@@ -8,10 +8,9 @@ usage: bench/ledgers.py PROGRAM (crates/soroban_cmd/out/soroban_cmd; it needs GN
 import hashlib
 import os
 import struct
-import subprocess
-import sys
 import tempfile
-import time
+
+from measure import measure, measure_apply, program_argument
 
 NETWORK = bytes([7]) * 32
 # The terms of the kinds of cost, as in examples/ledger.hex: instructions (constant, linear), memory (constant, linear).
@@ -22,10 +21,12 @@ SETTINGS = [
 
 
 def words(*numbers):
+    """Numbers of four bytes each."""
     return b"".join(struct.pack(">I", number) for number in numbers)
 
 
 def header():
+    """What stands before the entries in the file of a ledger."""
     fields = words(1) + NETWORK + words(100) + struct.pack(">Q", 1000) + words(16, 4096, 3110400)
     return fields + struct.pack(">Q", 41943040) + b"".join(words(*row) for row in SETTINGS)
 
@@ -36,9 +37,15 @@ def key(number):
 
 
 def record(number):
+    """A contract's data entry in the file of a ledger, its key's hash and how long it lives behind it."""
     name = key(number)
     entry = words(50, 6, 0) + name[4:] + words(3, number, 0)
     return entry + hashlib.sha256(name).digest() + words(200)
+
+
+def ledger(count):
+    """The file of a ledger of this many entries."""
+    return header() + words(count) + b"".join(map(record, range(count)))
 
 
 def extend(number):
@@ -48,40 +55,16 @@ def extend(number):
     return words(1) + bytes(32) + words(1, 1, 0, 1, 1, 1, 2) + transaction + words(0)
 
 
-def measure(command):
-    """Seconds and peak memory in MiB of a command.
-
-    GNU time starts it: a child of this interpreter would be charged with the interpreter's own peak.
-    """
-    start = time.monotonic()
-    done = subprocess.run(
-        ["/usr/bin/time", "-q", "-f", "%M", *command], stdout=subprocess.DEVNULL, stderr=subprocess.PIPE, text=True
-    )
-    seconds = time.monotonic() - start
-    if done.returncode != 0:
-        sys.exit(f"{command[0]} ended with {done.returncode}: {done.stderr}")
-    return seconds, int(done.stderr.split()[-1]) / 1024
-
-
 def main():
-    program = os.path.abspath(sys.argv[1])
+    program = program_argument(__doc__)
     print("| entries | ledger file | seconds | peak memory | sha256sum |")
     print("|---|---|---|---|---|")
     with tempfile.TemporaryDirectory() as folder:
-        path = {name: os.path.join(folder, name) for name in ("set", "ledger", "verdicts", "report", "next")}
-        with open(path["verdicts"], "wb") as file:
-            file.write(words(0))
         for count in (2_000, 20_000, 200_000):
-            with open(path["set"], "wb") as file:
-                file.write(extend(count // 2))
-            with open(path["ledger"], "wb") as file:
-                file.write(header() + words(count) + b"".join(map(record, range(count))))
-            seconds, memory = measure([
-                program, "apply", "--set", path["set"], "--ledger", path["ledger"], "--verdicts", path["verdicts"],
-                "--close-time", "1001", "--workers", "1", "--report", path["report"], "--ledger-out", path["next"],
-            ])
-            other, _ = measure(["sha256sum", path["ledger"]])
-            size = os.path.getsize(path["ledger"]) / 2**20
+            contents = {"set": extend(count // 2), "ledger": ledger(count), "verdicts": words(0)}
+            seconds, memory = measure_apply(program, folder, contents)
+            other, _ = measure(["sha256sum", os.path.join(folder, "ledger")])
+            size = len(contents["ledger"]) / 2**20
             print(f"| {count:,} | {size:.1f} MiB | {seconds:.3f} | {memory:.0f} MiB | {other:.3f} |")
 
 

@@ -8,8 +8,9 @@ import os
 import re
 import resource
 import subprocess
-import sys
 import tempfile
+
+from measure import program_argument
 
 LOOPS = """(module (memory 16)
 (func (export "count") (result i64) (local i64)
@@ -34,11 +35,13 @@ NAMES = ["count", "fibonacci", "sieve", "calls"]
 
 
 def processor_seconds():
+    """Seconds of processor time of all commands that have ended."""
     used = resource.getrusage(resource.RUSAGE_CHILDREN)
     return used.ru_utime + used.ru_stime
 
 
 def timed(*command):
+    """Seconds of processor time of a command, and what it said."""
     start = processor_seconds()
     said = subprocess.run(command, stdout=subprocess.PIPE, check=True).stdout.decode()
     return processor_seconds() - start, said
@@ -50,7 +53,8 @@ def alone(name):
     return re.sub(rf' \(export "(?:{others})"\)', "", LOOPS)
 
 
-def main(program):
+def main():
+    program = program_argument(__doc__)
     print(f"{'loop':10} {'instructions':>13} {'here':>14} {'wasm-interp':>14}  a second")
     with tempfile.TemporaryDirectory() as folder:
         for name in NAMES:
@@ -65,4 +69,5 @@ def main(program):
             print(f"{name:10} {count:13,} {count / here:14,.0f} {count / there:14,.0f}")
 
 
-main(sys.argv[1])
+if __name__ == "__main__":
+    main()

@@ -6,11 +6,11 @@ usage: bench/sets.py SET_BENCH (the built program of crates/set_bench; it needs 
 
 import os
 import subprocess
-import sys
 import tempfile
 import time
 
 from ledgers import key, words
+from measure import program_argument
 
 TRANSACTIONS = 100_000
 TURNS = 10
@@ -28,18 +28,20 @@ def transaction(number):
 
 
 def transaction_set(count):
+    """A set of this many transactions in one cluster."""
     front = words(1) + bytes(32) + words(1, 1, 0, 1, 1, count)
     return front + b"".join(map(transaction, range(count)))
 
 
 def seconds(*command):
+    """Seconds of a command."""
     start = time.monotonic()
     subprocess.run(command, stdout=subprocess.DEVNULL, check=True)
     return time.monotonic() - start
 
 
 def main():
-    program = os.path.abspath(sys.argv[1])
+    program = program_argument(__doc__)
     with tempfile.TemporaryDirectory() as folder:
         path = os.path.join(folder, "set")
         data = transaction_set(TRANSACTIONS)

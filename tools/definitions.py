@@ -1,3 +1,4 @@
+#!/usr/bin/env python3
 """Writes the list of definitions in docs/DEFINITIONS.md anew, under its table, from the files of specs/: python3 tools/definitions.py"""
 import pathlib
 import re
@@ -52,4 +53,5 @@ def main():
     PAGE.write_text("\n".join(said).rstrip("\n") + "\n", encoding="utf-8")
 
 
-main()
+if __name__ == "__main__":
+    main()

@@ -194,4 +194,5 @@ def main():
     print(len(lines), file=sys.stderr)
 
 
-main()
+if __name__ == "__main__":
+    main()

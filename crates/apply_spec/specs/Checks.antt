@@ -28,16 +28,20 @@ abbrev pub footprint_in : TransactionExt → Footprint
 footprint_in exts.None = record { read_only = []; read_write = [] }
 footprint_in (exts.Soroban soroban) = soroban.footprint
 
+-- a transaction has contract data where its ext is 1
 abbrev pub is_soroban : TransactionExt → Bool
 is_soroban exts.None = false
 is_soroban (exts.Soroban soroban) = true
 
+-- what a transaction declares
 abbrev pub footprint_of : Transaction → Footprint
 footprint_of tx = footprint_in tx.ext
 
+-- two keys are one where their XDR bytes are
 abbrev pub is_key : LedgerKey → LedgerKey → Bool
 is_key a b = bytes_eq (key_bytes a) (key_bytes b)
 
+-- the key is among these
 abbrev pub has_key : List LedgerKey → LedgerKey → Bool
 has_key keys key = list_any (is_key key) keys
 
@@ -45,6 +49,7 @@ has_key keys key = list_any (is_key key) keys
 abbrev pub declares_write : Transaction → LedgerKey → Bool
 declares_write tx key = has_key (footprint_of tx).read_write key
 
+-- the transaction declares the key in either list
 abbrev pub declares : Transaction → LedgerKey → Bool
 declares tx key = has_key (footprint_of tx).read_only key || declares_write tx key
 
@@ -65,6 +70,7 @@ may_be_declared (ClaimableBalance id) = false
 may_be_declared (LiquidityPool pool) = false
 may_be_declared (Ttl hash) = false
 
+-- both lists together, read-only first
 abbrev pub declared_keys : Footprint → List LedgerKey
 declared_keys footprint = footprint.read_only ++ footprint.read_write
 
@@ -74,16 +80,19 @@ may_be_footprint keys = if has_twice keys then false else list_all may_be_declar
 
 -- ---- when a transaction may run (CAP-0021): the header has the close time of the ledger that is being made
 
+-- the bounds on close times that preconditions have
 abbrev pub time_bounds_of : Preconditions → Option TimeBounds
 time_bounds_of preconditions.None = None
 time_bounds_of (preconditions.Time bounds) = Some bounds
 time_bounds_of (preconditions.V2 v2) = v2.time_bounds
 
+-- the bounds on ledger numbers that preconditions have
 abbrev pub ledger_bounds_of : Preconditions → Option LedgerBounds
 ledger_bounds_of preconditions.None = None
 ledger_bounds_of (preconditions.Time bounds) = None
 ledger_bounds_of (preconditions.V2 v2) = v2.ledger_bounds
 
+-- the close time lies before the least time
 abbrev pub is_before_time : ℕ → Option TimeBounds → Bool
 is_before_time close_time None = false
 is_before_time close_time (Some bounds) = nat_lt close_time bounds.min_time
@@ -93,6 +102,7 @@ abbrev pub is_after_time : ℕ → Option TimeBounds → Bool
 is_after_time close_time None = false
 is_after_time close_time (Some bounds) = not (bounds.max_time == 0) && nat_lt bounds.max_time close_time
 
+-- ledger n lies before the least ledger
 abbrev pub is_before_ledger : ℕ → Option LedgerBounds → Bool
 is_before_ledger n None = false
 is_before_ledger n (Some bounds) = nat_lt n bounds.min_ledger
@@ -102,16 +112,19 @@ abbrev pub is_after_ledger : ℕ → Option LedgerBounds → Bool
 is_after_ledger n None = false
 is_after_ledger n (Some bounds) = not (bounds.max_ledger == 0) && nat_le bounds.max_ledger n
 
+-- txTOO_EARLY: before the least time, or the least ledger
 abbrev pub is_too_early : Header → Transaction → Bool
 is_too_early header tx =
     is_before_time header.close_time (time_bounds_of tx.preconditions) || is_before_ledger (next_seq header) (ledger_bounds_of tx.preconditions)
 
+-- txTOO_LATE: after the greatest time, or the greatest ledger
 abbrev pub is_too_late : Header → Transaction → Bool
 is_too_late header tx =
     is_after_time header.close_time (time_bounds_of tx.preconditions) || is_after_ledger (next_seq header) (ledger_bounds_of tx.preconditions)
 
 -- ---- the checks: the first that fails decides
 
+-- each check, and the code where it fails
 abbrev pub checks_of : Header → Transaction → List (Bool × TransactionOutcome)
 checks_of header tx =
     (nat_lt 0 (length tx.operations), MissingOperation)
@@ -121,9 +134,11 @@ checks_of header tx =
     ∷ (may_be_footprint (declared_keys (footprint_of tx)), SorobanInvalid)
     ∷ []
 
+-- the code of the first check that fails
 abbrev pub first_failed : List (Bool × TransactionOutcome) → Option TransactionOutcome
 first_failed [] = None
 first_failed (check ∷ rest) = if check.0 then first_failed rest else Some check.1
 
+-- the code of a transaction that does not run
 abbrev pub refusal_of : Header → Transaction → Option TransactionOutcome
 refusal_of header tx = first_failed (checks_of header tx)

@@ -27,6 +27,7 @@ pub record Enforced : Type 0 where
   pub outcome : TransactionOutcome
   pub extensions : List Extension
 
+-- the outcome alone
 abbrev pub without_effect : TransactionOutcome → Enforced
 without_effect outcome = record { outcome = outcome; extensions = [] }
 
@@ -56,9 +57,11 @@ extension_seen (live kept) key until =
 extension_seen absent key until = None
 extension_seen archived key until = None
 
+-- the lives that are to be longer, of these keys in their order
 abbrev pub extensions_of : ℕ → LedgerMap → List LedgerKey → ℕ → List Extension
 extensions_of n entries keys until = filter_map (λ key. extension_seen (seen n entries key) key until) keys
 
+-- what becomes of EXTEND_FOOTPRINT_TTL
 abbrev pub extended : Header → LedgerMap → Footprint → ℕ → Enforced
 extended header entries footprint extend_to =
     if may_extend header.settings footprint extend_to then record {
@@ -84,6 +87,7 @@ abbrev pub first_performed : Header → LedgerMap → Transaction → List Opera
 first_performed header entries tx [] = without_effect MissingOperation
 first_performed header entries tx (operation ∷ rest) = performed header entries tx operation.body
 
+-- a transaction that a check refuses has no effect
 abbrev pub unless_refused : Option TransactionOutcome → Enforced → Enforced
 unless_refused (Some outcome) done = without_effect outcome
 unless_refused None done = done

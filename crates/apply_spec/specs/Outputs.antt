@@ -3,14 +3,14 @@ use Rattle.std.specs.Prelude.{ℕ, ◌-◌, Bool, true, false, List, ◌++◌, l
 use Rattle.hex.specs.Hex.{encode_lower}
 use Rattle.sha2.specs.Sha256.{sha256}
 use Rattle.ledger_types.specs.declared.header.Header.{Header}
-use Rattle.tx_results.specs.Results.{report_bytes}
+use Rattle.tx_results.specs.Report.{report_bytes}
 use Rattle.tx_xdr.specs.declared.set.TxSet.{TxSet}
 use Rattle.tx_results.specs.declared.results.TransactionOutcome.{TransactionOutcome}
 use Rattle.tx_results.specs.declared.results.TransactionOutcome.TheVariants.{Success, Failed, TooEarly, TooLate, MissingOperation, Malformed, SorobanInvalid}
 use Rattle.tx_results.specs.declared.results.TransactionResultPair.{TransactionResultPair}
 use Rattle.ledger_spec.specs.LedgerMap.{LedgerMap}
 use Rattle.ledger_spec.specs.LedgerFile.{ledger_bytes}
-use Rattle.apply_spec.specs.Runs.{Running, run_set, new_header}
+use Rattle.apply_spec.specs.Runs.{Running, run_set, new_header, success_preimages}
 
 -- ---- the lines
 
@@ -24,24 +24,29 @@ is_success MissingOperation = false
 is_success Malformed = false
 is_success SorobanInvalid = false
 
+-- how many transactions succeeded
 abbrev pub successes : List TransactionResultPair → ℕ
 successes results = count_by (λ pair. is_success pair.result.outcome) results
 
+-- the first line: `ledger N: T transactions, S succeeded, F failed`
 abbrev pub count_line : ℕ → List TransactionResultPair → List ℕ
 count_line seq results =
     codes "ledger " ++ decimal seq ++ codes ": " ++ decimal (length results) ++ codes " transactions, "
     ++ decimal (successes results) ++ codes " succeeded, " ++ decimal (length results - successes results) ++ codes " failed\n"
 
+-- a name, and the SHA-256 of these bytes in hex
 abbrev pub hash_line : List ℕ → List ℕ → List ℕ
 hash_line name bytes = name ++ encode_lower (sha256 bytes) ++ codes "\n"
 
 -- ---- both files and all lines
 
+-- the bytes of the report and of the new ledger, and the lines that are said
 pub record Outputs : Type 0 where
   pub report : List ℕ
   pub ledger : List ℕ
   pub lines : List ℕ
 
+-- the lines beside the bytes of both files
 abbrev pub outputs_with : ℕ → List TransactionResultPair → List ℕ → List ℕ → Outputs
 outputs_with seq results report ledger = record {
   report = report;
@@ -49,9 +54,10 @@ outputs_with seq results report ledger = record {
   lines = count_line seq results ++ hash_line (codes "report ") report ++ hash_line (codes "ledger ") ledger;
 }
 
+-- what is stored and said where the set has run
 abbrev pub outputs_after : Header → Running → Outputs
 outputs_after header running =
-    outputs_with header.seq running.results (report_bytes (record { pairs = running.results })) (ledger_bytes header running.entries)
+    outputs_with header.seq running.results (report_bytes (record { pairs = running.results }) (success_preimages running)) (ledger_bytes header running.entries)
 
 -- what a set over a ledger stores and says
 abbrev pub outputs : Header → LedgerMap → TxSet → ℕ → Outputs

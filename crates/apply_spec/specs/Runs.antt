@@ -1,7 +1,8 @@
 -- What becomes of a set: its stages one after the other, a stage's clusters one after the other, and a cluster's
 -- transactions one after the other, on one map of all entries (own, after CAP-0063).
-use Rattle.std.specs.Prelude.{ℕ, pos, Bool, not, List, [], ◌∷◌, ◌++◌, map, fold, filter}
+use Rattle.std.specs.Prelude.{ℕ, pos, Bool, not, List, [], ◌∷◌, ◌++◌, Option, None, map, fold, filter}
 use Rattle.std.specs.List.{flat_map}
+use Rattle.invoke_types.specs.declared.success.SuccessPreimage.{SuccessPreimage}
 use Rattle.ledger_types.specs.declared.header.Header.{Header}
 use Rattle.tx_xdr.specs.Hashes.{transaction_hash}
 use Rattle.tx_xdr.specs.declared.transaction.Envelope.{Envelope}
@@ -26,15 +27,22 @@ pub record Running : Type 0 where
   pub pending : List Extension
   pub results : List TransactionResultPair
 
+-- What each transaction's call of a contract gave, where it made one that ended well. No contract is called in the sets that
+-- run today.
+abbrev pub success_preimages : Running → List (Option SuccessPreimage)
+success_preimages running = map (λ _. None) running.results
+
 -- by maximum: the longer life stays
 abbrev pub put_in : LedgerMap → Extension → LedgerMap
 put_in entries extension = raise entries extension.key extension.live_until
 
+-- one extension after the other
 abbrev pub put_all_in : LedgerMap → List Extension → LedgerMap
 put_all_in entries extensions = fold put_in entries extensions
 
 -- ---- a transaction in its cluster
 
+-- the transaction declares the extension's key read-write
 abbrev pub is_written : Transaction → Extension → Bool
 is_written tx extension = declares_write tx extension.key
 
@@ -45,6 +53,7 @@ before tx running = record running {
   pending = filter (λ extension. not (is_written tx extension)) running.pending;
 }
 
+-- the transaction's hash beside its outcome: no fee is charged
 abbrev pub result_pair : Header → Transaction → TransactionOutcome → TransactionResultPair
 result_pair header tx outcome = record {
   hash = transaction_hash header.network_id tx;
@@ -59,9 +68,11 @@ after header tx done running = record running {
   results = running.results ++ result_pair header tx done.outcome ∷ [];
 }
 
+-- the transaction itself, on what is put in before it
 abbrev pub run_prepared : Header → Transaction → Running → Running
 run_prepared header tx running = after header tx (enforced header running.entries tx) running
 
+-- a transaction in its cluster: first what was pending is put in
 abbrev pub run_transaction : Header → Running → Envelope → Running
 run_transaction header running envelope = run_prepared header envelope.tx (before envelope.tx running)
 
@@ -72,6 +83,7 @@ abbrev pub run_cluster : Header → LedgerMap → Cluster → Running
 run_cluster header entries cluster =
     fold (run_transaction header) (record { entries = entries; pending = []; results = [] }) cluster.envelopes
 
+-- a cluster's changes, its pending extensions and its results after those of the stage so far
 abbrev pub joined : Running → Running → Running
 joined running cluster = record {
   entries = cluster.entries;
@@ -79,6 +91,7 @@ joined running cluster = record {
   results = running.results ++ cluster.results;
 }
 
+-- the next cluster of a stage, on the map that the clusters before it left
 abbrev pub run_next_cluster : Header → Running → Cluster → Running
 run_next_cluster header running cluster = joined running (run_cluster header running.entries cluster)
 
@@ -86,6 +99,7 @@ run_next_cluster header running cluster = joined running (run_cluster header run
 abbrev pub ended : Running → Running
 ended running = record running { entries = put_all_in running.entries running.pending; pending = [] }
 
+-- a stage: its clusters in their order, and then its end
 abbrev pub run_stage : Header → Running → Stage → Running
 run_stage header running stage = ended (fold (run_next_cluster header) running stage.clusters)
 
@@ -93,10 +107,12 @@ run_stage header running stage = ended (fold (run_next_cluster header) running s
 abbrev pub component_stage : Component → Stage
 component_stage component = record { clusters = (record { envelopes = component.envelopes }) ∷ [] }
 
+-- the stages of a phase
 abbrev pub stages_in : Phase → List Stage
 stages_in (Components components) = map component_stage components
 stages_in (Parallel base_fee stages) = stages
 
+-- the stages of a set, phase after phase
 abbrev pub stages_of : TxSet → List Stage
 stages_of set = flat_map stages_in set.phases
 
@@ -104,6 +120,7 @@ stages_of set = flat_map stages_in set.phases
 abbrev pub running_header : Header → ℕ → Header
 running_header header close_time = record header { close_time = close_time }
 
+-- a set: its stages in their order
 abbrev pub run_set : Header → LedgerMap → TxSet → ℕ → Running
 run_set header entries set close_time =
     fold (run_stage (running_header header close_time)) (record { entries = entries; pending = []; results = [] }) (stages_of set)

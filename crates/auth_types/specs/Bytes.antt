@@ -1,4 +1,4 @@
--- The bytes of a tree of invocations, at any depth: the function, and the count of its sub-invocations and these. At each level
+-- The bytes of a tree of invocations, at any depth: the function, and the count of its sub-invocations and these (RFC 4506). At each level
 -- that is its spelling there.
 use Rattle.std.specs.Prelude.{ℕ, ◌<◌, ◌^◌, List, [], ◌++◌, length}
 use Rattle.std.specs.Int.{w32, to_be_bytes}

@@ -1,4 +1,4 @@
--- What a row of invocations contains is smaller than the row.
+-- What a row of invocations contains is smaller than the row (own).
 use Rattle.std.specs.Prelude.{◌≤◌, List, [], ◌∷◌}
 use Rattle.std.proofs.Common.{arith}
 use denote.Param.Weighed.{most}

@@ -1,4 +1,4 @@
--- The formats of trees of invocations are formats.
+-- The formats of trees of invocations are formats (own).
 use Rattle.std.proofs.Common.{◌≡◌, ℕ, zero, suc, List, [], ◌∷◌, refl, ap}
 use Rattle.xdr_spec.specs.declared.Why.TheVariants.{Depth}
 use Rattle.xdr_spec.specs.Format.{Format}

@@ -1,4 +1,4 @@
--- What an invocation is, without where it lies in memory: a function, and the trees below it. `size` counts the functions.
+-- What an invocation is, without where it lies in memory: a function, and the trees below it (own). `size` counts the functions.
 use Rattle.std.specs.Prelude.{ℕ, suc, ◌+◌, List, [], ◌∷◌}
 use Rattle.invoke_types.specs.declared.function.Function.{Function}
 

@@ -1,4 +1,4 @@
--- How the logic stores a tree.
+-- How the logic stores a tree (own).
 use Rattle.std.specs.Prelude.{◌≡◌}
 use Rattle.std.proofs.Common.{refl, ap, ap₂}
 use Rattle.std.specs.Coded.{Coded}

@@ -1,4 +1,4 @@
--- The invocations of the program as trees.
+-- The invocations of the program as trees (own).
 use Rattle.std.specs.Prelude.{List, map}
 use Rattle.invoke_types.specs.declared.function.Function.{Function}
 use Rattle.auth_types.specs.Tree.{Tree, node, trees_of, list_of_trees}

@@ -17,6 +17,7 @@ pub enum CredentialsType {
 }
 
 impl CredentialsType {
+    /// The constant of this number, if there is one (RFC 4506, section 4.3).
     pub fn from_number(number: u32) -> Option<CredentialsType>
         ensures { result ≡ kind_of number }
     {
@@ -27,6 +28,7 @@ impl CredentialsType {
         }
     }
 
+    /// Its number (RFC 4506, section 4.3).
     pub fn number(self) -> u32
         ensures { result ≡ number self }
     {
@@ -141,6 +143,7 @@ impl Clone for Credentials {
 }
 
 impl Credentials {
+    /// Which arm it is (RFC 4506, section 4.15).
     pub fn kind(&self) -> CredentialsType
         ensures { result ≡ kind self.now }
     {

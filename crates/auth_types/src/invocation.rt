@@ -45,22 +45,26 @@ impl Model for Invocations {
 impl Invocations {
     ghost use Rattle.auth_types.specs.Views.{forest_of};
 
+    /// The list of these items. It takes no memory.
     pub fn from_vec(items: Vec<Invocation>) -> Invocations
         ensures { result ≡ forest_of items.items }
     {
         Invocations { items }
     }
 
+    /// The items, lent.
     pub fn as_slice(&self) -> &[Invocation]
         ensures { forest_of result.now ≡ self.now }
     {
         &self.items
     }
 
+    /// Where its memory comes from.
     pub fn allocator(&self) -> Global {
         *self.items.allocator()
     }
 
+    /// The items as a `Vec`. It takes no memory.
     pub fn into_vec(self) -> Vec<Invocation>
         ensures { forest_of result.items ≡ self }
     {

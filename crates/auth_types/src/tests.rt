@@ -59,6 +59,8 @@ fn entries(rt: HostRuntime) -> Result<(), Fail> {
     )?;
     let entry = decode::<AuthEntry>(alloc, &bytes)?;
     assert_eq!(rt; entry.size(), 28);
+    let again = encode(alloc, &entry.clone()?)?;
+    assert_eq!(rt; again.as_slice(), bytes.as_slice());
     Ok(())
 }
 

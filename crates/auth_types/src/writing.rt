@@ -11,6 +11,8 @@ use crate::invocation::Invocation;
 use value_xdr::Xdr;
 use xdr_core::{NoMemory, Out, add_sizes};
 
+/// Writes the spelling of a tree of invocations. After an error
+/// bytes of unknown content may follow what was there.
 #[cycle(write)]
 pub fn write_invocation(invocation: &Invocation, out: &mut Out) -> Result<(), NoMemory>
     requires { IsInvocationBounded invocation.now }

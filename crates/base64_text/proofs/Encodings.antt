@@ -1,9 +1,9 @@
 -- A text gives exactly the bytes of which it is the encoding.
-use Rattle.std.proofs.Common.{◌≡◌, ◌<◌, ◌-◌, ◌^◌, ℕ, zero, suc, Bool, true, false, List, [], ◌∷◌, length, take, get_or, Option, Some, None, Result, Ok, Err, arith, refl, ap}
-use Rattle.std.specs.Prelude.{◌↔◌, slice_index, nat_lt, if◌then◌else◌, ◌&&◌, nat_eq}
+use Rattle.std.proofs.Common.{◌≡◌, ◌-◌, ℕ, zero, suc, Bool, true, false, List, [], ◌∷◌, length, take, Some, Result, Ok, Err, arith, refl, ap}
+use Rattle.std.specs.Prelude.{slice_index, nat_lt, if◌then◌else◌, ◌&&◌, nat_eq}
 use Rattle.std.specs.Result.{result_ok}
 use Rattle.base64.specs.Engines.{standard}
-use Rattle.base64.specs.GeneralPurpose.{IsBytes, IsStrict, decode_of, encode_of}
+use Rattle.base64.specs.GeneralPurpose.{IsBytes, IsStrict, decode_of}
 use Rattle.base64.specs.declared.decode.DecodeError.{DecodeError}
 use Rattle.base64.proofs.EngineFacts.{decode_of_iff}
 use Rattle.base64_text.specs.Text.{OnlyEncodings, bytes_in, without_newline}

@@ -40,7 +40,7 @@ pub fn decode_text(alloc: Global, text: &[u8]) -> Result<Vec<u8>, TextErr>
     }
 }
 
-// The text before one newline at its end.
+/// The text before one newline at its end.
 fn without_newline(text: &[u8]) -> &[u8]
     ensures { result.now ≡ without_newline text.now }
 {

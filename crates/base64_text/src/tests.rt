@@ -1,4 +1,5 @@
-// Texts with known bytes (RFC 4648, section 10), and texts that are the encoding of none.
+//! Texts with known bytes (RFC 4648, section 10), and texts that are the encoding of none.
+
 use super::*;
 use std::test::Fail;
 

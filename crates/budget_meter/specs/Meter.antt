@@ -1,4 +1,4 @@
--- What a budget is: limits, terms, and the sums spent so far.
+-- What a budget is: limits, terms, and the sums spent so far (own).
 use Rattle.std.specs.Prelude.{ℕ}
 use Rattle.budget_meter.specs.Costs.{terms_of, sums_after}
 use Rattle.budget_meter.specs.declared.kind.Kind.{Kind}

@@ -1,4 +1,5 @@
-// The commands and their options, for clap.
+//! The commands and their options, for clap.
+
 ghost use Rattle.std.specs.Prelude.{◌≡◌, false, IfOk};
 ghost use Rattle.clap.specs.Simple.{app_of, new_app, with_rule, with_subcommand};
 ghost use Rattle.clap.specs.Walk.{rule_of};
@@ -18,7 +19,7 @@ pub fn soroban_command<'a>(alloc: Global) -> Result<Command<'a>, AllocError>
     with_command(command, vet_command(alloc)?)
 }
 
-// The program before it has commands. It gives no help, and its own name is not among the words.
+/// The program before it has commands. It gives no help, and its own name is not among the words.
 fn bare_command<'a>(alloc: Global) -> Command<'a>
     ensures { app_of result ≡ bare_app }
 {
@@ -85,7 +86,7 @@ fn with_options<'a>(
     with_option(command, alloc, third)
 }
 
-// A long option that is required, with one value.
+/// A long option that is required, with one value.
 fn with_option<'a>(
     command: Command<'a>,
     alloc: Global,

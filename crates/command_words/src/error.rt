@@ -1,4 +1,5 @@
-// Why there is no request.
+//! Why there is no request.
+
 ghost use Rattle.std.specs.Prelude.{◌≡◌};
 ghost use Rattle.command_words.specs.declared.error.WordsErr.TheVariants.{NoMemory};
 

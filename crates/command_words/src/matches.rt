@@ -1,4 +1,5 @@
-// What clap found, as a request.
+//! What clap found, as a request.
+
 ghost use Rattle.std.specs.Prelude.{◌≡◌, option_and_then, option_map};
 ghost use Rattle.clap.specs.Matches.{found_of};
 ghost use Rattle.clap.specs.Simple.{subcommand_rows_of};
@@ -30,7 +31,7 @@ pub fn request_from(alloc: Global, matches: &ArgMatches<'_>) -> Result<Request, 
     }
 }
 
-// The subcommand of a parse, and its matches.
+/// The subcommand of a parse, and its matches.
 fn subcommand_in<'m, 'a>(matches: &'m ArgMatches<'a>) -> Option<(&'a str, &'m ArgMatches<'a>)>
     ensures { option_map (λ p. (p.0.now, rows_of (found_of p.1.now))) result ≡ subcommand_rows_of matches.now }
 {
@@ -87,7 +88,7 @@ fn vet_request(alloc: Global, found: &ArgMatches<'_>) -> Result<Request, WordsEr
     Ok(Request::Vet(VetRequest { module_file }))
 }
 
-// The value of an option.
+/// The value of an option.
 #[tactic(auto, using(crate::proofs::Parsing::first_of_rows))]
 fn value_of(alloc: Global, found: &ArgMatches<'_>, id: &str) -> Result<Word, WordsErr>
     ensures { ReadsWords result (first_of id.now (rows_of (found_of found.now))) }
@@ -99,7 +100,7 @@ fn value_of(alloc: Global, found: &ArgMatches<'_>, id: &str) -> Result<Word, Wor
     Ok(Word::new(text))
 }
 
-// The value of an option, as a number in this range.
+/// The value of an option, as a number in this range.
 #[tactic(auto, using(crate::proofs::Parsing::first_of_rows))]
 fn number_of(found: &ArgMatches<'_>, id: &str, least: u64, most: u64) -> Result<u64, WordsErr>
     ensures { ReadsWords result (option_and_then (number_in least most) (first_of id.now (rows_of (found_of found.now)))) }
@@ -110,7 +111,7 @@ fn number_of(found: &ArgMatches<'_>, id: &str, least: u64, most: u64) -> Result<
     number_in(text, least, most).ok_or(WordsErr::Usage)
 }
 
-// The value of an option, as a kind of file.
+/// The value of an option, as a kind of file.
 #[tactic(auto, using(crate::proofs::Parsing::first_of_rows))]
 fn kind_of(found: &ArgMatches<'_>, id: &str) -> Result<ShowKind, WordsErr>
     ensures { ReadsWords result (option_and_then kind_in (first_of id.now (rows_of (found_of found.now)))) }
@@ -121,7 +122,7 @@ fn kind_of(found: &ArgMatches<'_>, id: &str) -> Result<ShowKind, WordsErr>
     kind_in(text).ok_or(WordsErr::Usage)
 }
 
-// Whether a flag is among the words.
+/// Whether a flag is among the words.
 #[tactic(auto, using(crate::proofs::Parsing::first_of_rows))]
 fn is_set(found: &ArgMatches<'_>, id: &str) -> bool
     ensures { result ≡ is_set (first_of id.now (rows_of (found_of found.now))) }

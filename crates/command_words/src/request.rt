@@ -1,4 +1,4 @@
-// What right words ask for.
+//! What right words ask for.
 
 use edge_io::Word;
 

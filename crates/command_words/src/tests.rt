@@ -1,10 +1,11 @@
-// Rows of words, each with what it means.
+//! Rows of words, each with what it means.
+
 use super::*;
 use edge_io::Word;
 use std::alloc::{AllocError, Global};
 use std::test::Fail;
 
-// Each command in two orders, the flag before and after, and values behind an equals sign.
+/// Each command in two orders, the flag before and after, and values behind an equals sign.
 const RIGHT: &str = concat!(
     "apply --set s --ledger l --verdicts v --close-time 1234 --workers 03 --report r --ledger-out n|apply s l v 1234 3 r n false\n",
     "apply --ledger-out n --report r --workers 64 --close-time 18446744073709551615 --verdicts v --ledger l --set s --base64|apply s l v 18446744073709551615 64 r n true\n",
@@ -22,7 +23,7 @@ const RIGHT: &str = concat!(
     "vet --module vet|vet vet",
 );
 
-// Two spaces have an empty word between them.
+/// Two spaces have an empty word between them.
 const WRONG: &str = concat!(
     // Numbers.
     "apply --set s --ledger l --verdicts v --close-time 1234 --workers 0 --report r --ledger-out n\n",
@@ -66,7 +67,7 @@ const WRONG: &str = concat!(
     "",
 );
 
-// What these words mean, as text.
+/// What these words mean, as text.
 fn meaning(alloc: Global, words: &[Word]) -> Result<String, AllocError> {
     match request_of(alloc, words) {
         Ok(Request::Apply(request)) => applied(alloc, &request),

@@ -1,4 +1,5 @@
-// The values of options.
+//! The values of options.
+
 ghost use Rattle.std.specs.Prelude.{◌≡◌, ◌<◌, map};
 ghost use Rattle.std.specs.List.{list_any};
 ghost use Rattle.std.specs.Str.{bytes_eq};

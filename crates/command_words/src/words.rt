@@ -1,4 +1,5 @@
-// From the words to what they ask for.
+//! From the words to what they ask for.
+
 ghost use Rattle.command_words.specs.Answers.{IsRefusal, ReadsWords};
 ghost use Rattle.command_words.specs.Words.{asked_of};
 
@@ -22,7 +23,7 @@ pub fn request_of(alloc: Global, words: &[Word]) -> Result<Request, WordsErr>
     }
 }
 
-// What an error of clap says of the words.
+/// What an error of clap says of the words.
 fn refusal(error: &Error) -> WordsErr
     ensures { IsRefusal error.now result }
 {

@@ -1,4 +1,4 @@
--- What the reading of a whole file answers.
+-- What the reading of a whole file answers (own).
 use Rattle.std.specs.Prelude.{◌≡◌, ℕ, ◌<◌, ◌≤◌, ◌^◌, List, length, take, Option, Some, Result, Ok, Err, IsSomeAnd, ⊤}
 use Rattle.edge_io.specs.declared.failed.ReadErr.{ReadErr}
 use Rattle.edge_io.specs.declared.failed.ReadErr.TheVariants.{Fault, TooLong, NoMemory}

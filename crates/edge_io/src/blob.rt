@@ -1,4 +1,5 @@
-// The bytes of a whole file.
+//! The bytes of a whole file.
+
 ghost use Rattle.std.specs.Prelude.{◌≡◌, ◌≤◌, ◌^◌, length};
 
 use std::marker::Model;
@@ -20,6 +21,7 @@ impl Model for Blob {
 }
 
 impl Blob {
+    /// The file of these bytes. It takes no memory.
     pub fn new(bytes: Vec<u8>) -> Blob
         requires { length bytes.items ≤ 2 ^ 30 }
         ensures { result ≡ bytes.items }
@@ -27,6 +29,7 @@ impl Blob {
         Blob { bytes }
     }
 
+    /// The bytes, lent.
     pub fn as_slice(&self) -> &[u8]
         ensures value { result.now ≡ self.now }
         ensures small { length self.now ≤ 2 ^ 30 }

@@ -1,4 +1,5 @@
-// How a call at the edge ends badly.
+//! How a call at the edge ends badly.
+
 use thiserror::Error;
 
 /// The call failed.

@@ -1,4 +1,5 @@
-// The files of a command.
+//! The files of a command.
+
 ghost use Rattle.std.specs.Prelude.{◌≡◌, ◌<◌, ◌≤◌, ◌^◌, ◌-◌, ℕ, length, IsSome, IfOk, OnOk, OnErr, IsOk};
 ghost use Rattle.edge_io.specs.Contents.{Contents, IsThere, Reads, Stores};
 ghost use Rattle.edge_io.specs.Counts.{ChangesOnlyCount, Rose, OnFailed};

@@ -1,4 +1,4 @@
-// Where the workers of a set pass.
+//! Where the workers of a set pass.
 
 /// It is told of each cluster of transactions before a worker runs it. Stages and clusters are
 /// numbered from 0.

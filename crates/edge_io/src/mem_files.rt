@@ -1,4 +1,5 @@
-// Files in memory.
+//! Files in memory.
+
 ghost use Rattle.std.specs.Prelude.{◌≡◌, ℕ, ◌+◌, ◌-◌, ◌<◌, ◌≤◌, ◌^◌, ◌↔◌, [], ◌++◌, Some, None, refl, List, length, take, option_map, IfSome, IfOk, IsOk, IsErr, IsErrOf, OnOk, OnErr, ◌⊎◌};
 ghost use Rattle.std.specs.FinMap as map;
 ghost use Rattle.edge_io.specs.Contents.{IsPiece, IsThere, Reads, Stores, put};
@@ -154,7 +155,7 @@ fn find_bytes<'a>(stored: &'a [Stored], name: &Word) -> Option<&'a [u8]>
     None
 }
 
-// Copies the bytes from a place on, as far as they go, and answers how many.
+/// Copies the bytes from a place on, as far as they go, and answers how many.
 fn copy_from(bytes: &[u8], at: usize, buf: &mut [u8]) -> usize
     ensures within { result ≤ length buf.new }
     ensures piece { IsPiece bytes.now at buf.new result }

@@ -1,4 +1,5 @@
-// A text in memory.
+//! A text in memory.
+
 ghost use Rattle.std.specs.Prelude.{◌≡◌, ℕ, ◌+◌, ◌-◌, ◌<◌, ◌≤◌, ◌^◌, ◌↔◌, [], ◌++◌, Some, refl, take, OnOk, IsErrOf};
 ghost use Rattle.edge_io.specs.Counts.{OnFailed, Rose, raised};
 ghost use Rattle.edge_io.specs.Text.{Says};

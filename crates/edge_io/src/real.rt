@@ -1,12 +1,16 @@
-// The files of the system and its standard output. No contract says what they hold.
-ghost use Rattle.std.specs.Prelude.{◌≡◌, ℕ, ◌≤◌, length, slice_index, None, IfOk};
+//! The files of the system and its standard output. No contract says what they hold.
+
+ghost use Rattle.std.specs.Prelude.{◌≡◌, ◌<◌, ℕ, ◌≤◌, length, slice_index, None, IfOk, OnOk, OnErr};
+ghost use Rattle.edge_io.specs.Contents.{Stores};
+ghost use Rattle.edge_io.specs.Counts.{ChangesOnlyCount, OnFailed, RaisesOnly, Rose, raised};
+ghost use Rattle.edge_io.specs.Text.{Says};
 
 use crate::turns::raise;
 use crate::{EdgeErr, Failed, Files, Say, Word};
 use std::io::{Read, Seek, SeekFrom, Write};
 use std::{fs, io, rt};
 
-// The file that was read last stays open, so that a file is opened once for all of its pieces.
+/// The file that was read last stays open, so that a file is opened once for all of its pieces.
 #[derive(Drop)]
 struct OpenFile<R: rt::Files> {
     name: Word,
@@ -31,6 +35,7 @@ pub struct StdSay<R: Print + Drop> {
 }
 
 impl<R: rt::Files + Drop> RealFiles<R> {
+    /// No call has failed yet, and no file is open.
     pub fn new(rt: R) -> RealFiles<R>
         ensures { (file : ℕ) → ⟦<RealFiles<R> as Files>⟧.faults result file ≡ 0 }
     {
@@ -41,7 +46,7 @@ impl<R: rt::Files + Drop> RealFiles<R> {
         }
     }
 
-    // Reads from a place on.
+    /// Reads from a place on.
     fn read_at(&mut self, name: &Word, at: u64, buf: &mut [u8]) -> io::Result<usize>
         ensures within { IfOk result (λ n. n ≤ length buf.new) }
         ensures counts { self.new.counts ≡ self.old.counts }
@@ -65,6 +70,7 @@ impl<R: rt::Files + Drop> RealFiles<R> {
 }
 
 impl<R: Print + Drop> StdSay<R> {
+    /// No call has failed yet.
     pub fn new(rt: R) -> StdSay<R>
         ensures { ⟦<StdSay<R> as Say>⟧.faults result ≡ 0 }
     {
@@ -97,7 +103,19 @@ impl<R: rt::Files + Drop> Files for RealFiles<R> {
         }
     }
 
-    fn store(&mut self, file: u8, name: &Word, bytes: &[u8]) -> Result<(), EdgeErr> {
+    fn store(&mut self, file: u8, name: &Word, bytes: &[u8]) -> Result<(), EdgeErr>
+        requires { file < 8 }
+
+        ensures stored { Stores result name.now bytes.now None None }
+
+        ensures counts { ChangesOnlyCount file (⟦<RealFiles<R> as Files>⟧.faults self.old) (⟦<RealFiles<R> as Files>⟧.faults self.new) }
+        ensures cause { OnFailed result (Rose (⟦<RealFiles<R> as Files>⟧.faults self.old file) (⟦<RealFiles<R> as Files>⟧.faults self.new file)) }
+        ensures steady { ⊥ → OnFailed result ⊥ × ⊥ × (⟦<RealFiles<R> as Files>⟧.faults self.new file ≡ ⟦<RealFiles<R> as Files>⟧.faults self.old file) }
+
+        // The count rises by one exactly where it fails, and it fails for no other reason.
+        ensures raised { OnErr result (RaisesOnly file (⟦<RealFiles<R> as Files>⟧.faults self.old) (⟦<RealFiles<R> as Files>⟧.faults self.new)) }
+        ensures kept { OnOk result ((k : ℕ) → ⟦<RealFiles<R> as Files>⟧.faults self.new k ≡ ⟦<RealFiles<R> as Files>⟧.faults self.old k) }
+    {
         self.open = None;
         match fs::write(&self.rt, name.as_str(), bytes) {
             Ok(()) => Ok(()),
@@ -124,7 +142,17 @@ impl<R: Print + Drop> Say for StdSay<R> {
         self.count
     }
 
-    fn say(&mut self, bytes: &[u8]) -> Result<(), EdgeErr> {
+    fn say(&mut self, bytes: &[u8]) -> Result<(), EdgeErr>
+        ensures said { Says result bytes.now None None }
+
+        ensures counts { ⟦<StdSay<R> as Say>⟧.faults self.old ≤ ⟦<StdSay<R> as Say>⟧.faults self.new }
+        ensures cause { OnFailed result (Rose (⟦<StdSay<R> as Say>⟧.faults self.old) (⟦<StdSay<R> as Say>⟧.faults self.new)) }
+        ensures steady { ⊥ → OnFailed result ⊥ × ⊥ × (⟦<StdSay<R> as Say>⟧.faults self.new ≡ ⟦<StdSay<R> as Say>⟧.faults self.old) }
+
+        // The count rises by one exactly where it fails, and it fails for no other reason.
+        ensures raised { OnErr result (⟦<StdSay<R> as Say>⟧.faults self.new ≡ raised (⟦<StdSay<R> as Say>⟧.faults self.old)) }
+        ensures kept { OnOk result (⟦<StdSay<R> as Say>⟧.faults self.new ≡ ⟦<StdSay<R> as Say>⟧.faults self.old) }
+    {
         match io::writer(&self.rt).write_all(bytes) {
             Ok(()) => Ok(()),
             Err(_) => {

@@ -1,4 +1,5 @@
-// What the command says.
+//! What the command says.
+
 ghost use Rattle.std.specs.Prelude.{◌≡◌, ◌<◌, ◌≤◌, ◌^◌, ◌-◌, ℕ, List, Option, IsSome};
 ghost use Rattle.edge_io.specs.Text.{Says};
 ghost use Rattle.edge_io.specs.Counts.{Rose, OnFailed};

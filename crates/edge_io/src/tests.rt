@@ -1,4 +1,5 @@
-// The edge in memory, call by call, and the real edge once.
+//! The edge in memory, call by call, and the real edge once.
+
 use super::*;
 use std::alloc::{AllocError, Global};
 use std::test::Fail;

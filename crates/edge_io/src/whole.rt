@@ -1,4 +1,5 @@
-// The whole of a file, of at most 2^30 bytes.
+//! The whole of a file, of at most 2^30 bytes.
+
 ghost use Rattle.std.specs.Prelude.{◌≡◌, ◌+◌, ◌<◌, ◌≤◌, ◌^◌, ◌++◌, ◌↔◌, List, ℕ, length, take, drop, IsTrue, IfOk, IfSome, IsSomeAnd, OnErr, IsOk, IsErrOf};
 ghost use Rattle.std.specs.FinMap as map;
 ghost use Rattle.edge_io.specs.Contents.{IsThere, OnContent};
@@ -42,7 +43,7 @@ pub fn read_whole<F: Files>(
     }
 }
 
-// Whether the file has a byte at a place.
+/// Whether the file has a byte at a place.
 fn reaches<F: Files>(files: &mut F, file: u8, name: &Word, at: u64) -> Result<bool, Failed>
     requires { file < 8 }
 
@@ -60,7 +61,7 @@ fn reaches<F: Files>(files: &mut F, file: u8, name: &Word, at: u64) -> Result<bo
     Ok(n > 0)
 }
 
-// The bytes up to the limit.
+/// The bytes up to the limit.
 fn read_to_limit<F: Files>(
     alloc: Global,
     files: &mut F,
@@ -92,7 +93,7 @@ fn read_to_limit<F: Files>(
     Ok(bytes)
 }
 
-// Adds the next piece to the bytes so far, and answers how many bytes it has.
+/// Adds the next piece to the bytes so far, and answers how many bytes it has.
 fn append_piece<F: Files>(
     files: &mut F,
     file: u8,

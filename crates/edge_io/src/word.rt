@@ -1,4 +1,5 @@
-// A word of the command line, such as the name of a file.
+//! A word of the command line, such as the name of a file.
+
 ghost use Rattle.std.specs.Prelude.{◌≡◌, [], IfOk, string_bytes};
 
 use std::alloc::{AllocError, Global};
@@ -20,6 +21,7 @@ impl Model for Word {
 }
 
 impl Word {
+    /// The word of this text. It takes no memory.
     pub fn new(text: String) -> Word
         ensures { result ≡ string_bytes text }
     {
@@ -33,6 +35,7 @@ impl Word {
         Word::new(String::new(alloc))
     }
 
+    /// The text, lent.
     pub fn as_str(&self) -> &str
         ensures { result.now ≡ self.now }
     {

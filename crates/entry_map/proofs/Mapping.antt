@@ -1,16 +1,18 @@
 -- Slots as a map.
-use Rattle.std.specs.Prelude.{slice_get, IsTrue, All}
+use Rattle.std.specs.Prelude.{slice_get, IsTrue}
 use Rattle.std.specs.List.{list_all}
 use Rattle.std.specs.declared.cmp.Ordering.{Ordering}
-use Rattle.std.specs.declared.cmp.Ordering.TheVariants.{Less, Equal, Greater}
-use Rattle.std.specs.Ordering.{nat_cmp, is_lt, is_eq, eq_by_cmp}
-use Rattle.std.specs.Cmp.Lexicographic.{slice_cmp, nat_list_cmp_total}
-use Rattle.std.specs.FinMap.{FinMap, empty, len-empty, is_sorted, find, put, get, insert, entries, len, from_sorted, entries-from_sorted, get-from_sorted, len-entries, entries-insert, same_entries_map, slice_cmp-IsAntisymmetric, nat_cmp-IsAntisymmetric}
-use Rattle.std.specs.FinMap.Entries.{below_all, is_sorted-put, by_order}
-use Rattle.std.proofs.Common.{◌≡◌, T, ℕ, get_or, zero, suc, ◌+◌, ◌<◌, ◌^◌, Bool, true, false, ◌&&◌, cond, List, [], ◌∷◌, ◌++◌, length, set, max, Some, None, Option, refl, sym, ap, subst, ◌∙◌, arith}
+use Rattle.std.specs.declared.cmp.Ordering.TheVariants.{Less, Greater}
+use Rattle.std.specs.Ordering.{is_lt, is_eq, eq_by_cmp}
+use Rattle.std.specs.Cmp.Lexicographic.{nat_list_cmp_total}
+use Rattle.std.specs.FinMap.{empty, len-empty, is_sorted, find, put, get, insert, entries, len, entries-from_sorted, get-from_sorted, len-entries, entries-insert, same_entries_map}
+use Rattle.std.specs.FinMap.Entries.{below_all, is_sorted-put}
+use Rattle.std.proofs.Props.{props}
+use Rattle.std.proofs.Common.{◌≡◌, T, ℕ, get_or, zero, suc, ◌+◌, ◌<◌, ◌^◌, Bool, true, false, ◌&&◌, List, [], ◌∷◌, ◌++◌, length, set, Some, refl, sym, ap, subst, ◌∙◌, arith}
+use Rattle.sha2.specs.Sha256.{sha256}
 use Rattle.ledger_spec.specs.declared.Kept.{Kept}
-use Rattle.ledger_spec.specs.LedgerMap.{LedgerMap, IsKeptAt, IsLedgerMap}
-use Rattle.entry_map.specs.declared.search.Slot.{Slot}
+use Rattle.ledger_spec.specs.LedgerMap.{IsKeptAt, IsLedgerMap}
+use Rattle.entry_map.specs.declared.slot.Slot.{Slot}
 use Rattle.entry_map.specs.Slots.{pair_of, pairs_of, map_of, AreSorted, AreSlots, IsPlace, is_last}
 use Rattle.std.proofs.lemmas.Cmp.{tied_itself}
 use Rattle.std.proofs.lemmas.Option.{get_or_from_slice_get, slice_get_within}
@@ -129,30 +131,36 @@ found_at slots place key read s is h =
     ∙ find_there slots place is.slot s is.there
     ∙ ap (λ (x : Slot). Some x.kept) same
 
+-- that the hash is the key's has one proof
+one_proof : (slot : Slot) → IsProp (slot.key_hash.0 ≡ sha256 slot.key)
+one_proof slot = hlevel props
+
 -- the slot at the place, living longer
-abbrev pub raised_slot : Slot → ℕ → Slot
-raised_slot slot live_until = record { key = slot.key; kept = record { entry = slot.kept.entry; live_until = live_until } }
+abbrev pub raised_slot : (slot : Slot) → ℕ → slot.key_hash.0 ≡ sha256 slot.key → Slot
+raised_slot slot live_until hashed = record slot { kept = record { entry = slot.kept.entry; live_until = live_until }; hashed = hashed }
 
 still_kept : (bytes : List ℕ) (kept : Kept) (live_until : ℕ) → IsKeptAt bytes kept → live_until < 2 ^ 32 → IsKeptAt bytes (record { entry = kept.entry; live_until = live_until })
 still_kept bytes kept live_until k lt = record { fits = k.fits; numbered = lt; keyed = k.keyed; hashed = k.hashed }
 
-pub raised_slots : (slots : List Slot) (place : ℕ) (key : List ℕ) (read : Slot) (life : ℕ) → AreSlots slots → IsPlace slots place key → read ≡ get_or slots place read → life < 2 ^ 32
-    → AreSlots (set slots place (raised_slot read life))
-raised_slots slots place key read life s is h lt =
+pub raised_slots : (slots : List Slot) (place : ℕ) (key : List ℕ) (read : Slot) (life : ℕ) (hashed : read.key_hash.0 ≡ sha256 read.key) → AreSlots slots → IsPlace slots place key → read ≡ get_or slots place read → life < 2 ^ 32
+    → AreSlots (set slots place (raised_slot read life hashed))
+raised_slots slots place key read life hashed s is h lt =
     let same : is.slot ≡ read = sym (get_or_from_slice_get slots place is.slot read is.there) ∙ sym h in
     let there : slice_get slots place ≡ Some read = is.there ∙ ap (λ (x : Slot). Some x) same in
     let within = slice_get_within slots place read there in
     let kept = subst (λ (x : Slot). IsKeptAt x.key x.kept) (sym h) (s.each place read within) in
-    slots_after slots place read (record { entry = read.kept.entry; live_until = life }) s there (still_kept read.key read.kept life kept lt)
+    subst (λ (p : read.key_hash.0 ≡ sha256 read.key). AreSlots (set slots place (raised_slot read life p))) (one_proof read read.hashed hashed)
+    (slots_after slots place read (record { entry = read.kept.entry; live_until = life }) s there (still_kept read.key read.kept life kept lt))
 
-pub raised_map : (slots : List Slot) (place : ℕ) (key : List ℕ) (read : Slot) (life : ℕ) → AreSorted slots → IsPlace slots place key → read ≡ get_or slots place read
-    → insert (map_of slots) key (raised_slot read life).kept ≡ map_of (set slots place (raised_slot read life))
-raised_map slots place key read life s is h =
+pub raised_map : (slots : List Slot) (place : ℕ) (key : List ℕ) (read : Slot) (life : ℕ) (hashed : read.key_hash.0 ≡ sha256 read.key) → AreSorted slots → IsPlace slots place key → read ≡ get_or slots place read
+    → insert (map_of slots) key (raised_slot read life hashed).kept ≡ map_of (set slots place (raised_slot read life hashed))
+raised_map slots place key read life hashed s is h =
     let same : is.slot ≡ read = sym (get_or_from_slice_get slots place is.slot read is.there) ∙ sym h in
     let there : slice_get slots place ≡ Some read = is.there ∙ ap (λ (x : Slot). Some x) same in
     let bytes : read.key ≡ key = ap (λ (x : Slot). x.key) (sym same) ∙ is.keyed in
-    subst (λ (k : List ℕ). insert (map_of slots) k (raised_slot read life).kept ≡ map_of (set slots place (raised_slot read life))) bytes
-    (insert_there slots place read (record { entry = read.kept.entry; live_until = life }) s there)
+    subst (λ (k : List ℕ). insert (map_of slots) k (raised_slot read life hashed).kept ≡ map_of (set slots place (raised_slot read life hashed))) bytes
+    (insert_there slots place read (record { entry = read.kept.entry; live_until = life }) s there
+    ∙ ap (λ (p : read.key_hash.0 ≡ sha256 read.key). map_of (set slots place (raised_slot read life p))) (one_proof read read.hashed hashed))
 
 no_entries_in : (es : List (List ℕ × Kept)) → length es ≡ 0 → es ≡ []
 no_entries_in [] e = refl

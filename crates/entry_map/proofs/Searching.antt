@@ -9,7 +9,7 @@ use Rattle.std.specs.FinMap.Entries.{below_all}
 use Rattle.std.proofs.Common.{◌≡◌, ℕ, get_or, zero, suc, ◌+◌, ◌<◌, ◌≤◌, Bool, true, false, ◌&&◌, List, [], ◌∷◌, length, Some, None, refl, sym, ap, subst, ◌∙◌, arith, inl, inr}
 use Rattle.std.proofs.lemmas.Bool.{cases_lt}
 use Rattle.std.proofs.lemmas.Option.{slice_get_read}
-use Rattle.entry_map.specs.declared.search.Slot.{Slot}
+use Rattle.entry_map.specs.declared.slot.Slot.{Slot}
 use Rattle.entry_map.specs.Slots.{pairs_of, AreSorted, IsPlace}
 
 abbrev pub order : List ℕ → List ℕ → Ordering

@@ -1,4 +1,4 @@
--- Slots as the entries of a map.
+-- Slots as the entries of a map (own).
 use Rattle.std.specs.Prelude.{◌≡◌, ◌<◌, ◌^◌, ℕ, Bool, List, All, length, map, IsTrue, Some, slice_get}
 use Rattle.std.specs.List.{list_all}
 use Rattle.std.specs.Ordering.{nat_cmp, is_lt}
@@ -6,7 +6,7 @@ use Rattle.std.specs.Cmp.Lexicographic.{slice_cmp}
 use Rattle.std.specs.FinMap.{is_sorted, from_sorted, entries}
 use Rattle.ledger_spec.specs.declared.Kept.{Kept}
 use Rattle.ledger_spec.specs.LedgerMap.{LedgerMap, IsKeptAt}
-use Rattle.entry_map.specs.declared.search.Slot.{Slot}
+use Rattle.entry_map.specs.declared.slot.Slot.{Slot}
 
 abbrev pub pair_of : Slot → List ℕ × Kept
 pair_of slot = (slot.key, slot.kept)

@@ -3,9 +3,10 @@
 
 mod map;
 mod search;
+mod slot;
 
 pub use map::EntryMap;
-pub use search::Slot;
+pub use slot::Slot;
 
 #[cfg(test)]
 mod tests;

@@ -8,12 +8,12 @@ ghost use Rattle.ledger_spec.specs.LedgerMap.{find as find_in, IsLedgerMap, IsKe
 ghost use Rattle.ledger_spec.specs.Changes.{raise as raise_in};
 ghost use Rattle.entry_map.specs.Slots.{pairs_of, is_last};
 
-use crate::search::{Slot, place_of};
+use crate::search::place_of;
+use crate::slot::Slot;
 use ledger_spec::Kept;
 use ledger_types::LedgerKey;
 use std::alloc::Global;
 use std::marker::Model;
-use value_types::Blob;
 use xdr_core::NoMemory;
 
 /// The entries of a ledger in the order of their keys' XDR bytes, which are kept beside them. A look-up takes as many
@@ -74,14 +74,14 @@ impl EntryMap {
     }
 
     /// Adds an entry whose key comes after all others.
-    pub fn push(&mut self, key: Blob, kept: Kept) -> Result<(), NoMemory>
-        requires last { IsTrue (is_last self.old key) }
-        requires kept { IsKeptAt key kept }
+    pub fn push(&mut self, slot: Slot) -> Result<(), NoMemory>
+        requires last { IsTrue (is_last self.old slot.key) }
+        requires kept { IsKeptAt slot.key slot.kept }
         requires few { len self.old + 1 < 2 ^ 32 }
-        ensures ok { OnOk result (entries self.new ≡ entries self.old ++ (key, kept) ∷ []) }
+        ensures ok { OnOk result (entries self.new ≡ entries self.old ++ (slot.key, slot.kept) ∷ []) }
         ensures err { OnErr result (self.new ≡ self.old) }
     {
-        self.slots.push(Slot { key, kept })?;
+        self.slots.push(slot)?;
         Ok(())
     }
 

@@ -8,18 +8,10 @@ ghost use Rattle.ledger_types.specs.Key.{key_format};
 ghost use Rattle.ledger_spec.specs.LedgerMap.{key_bytes};
 ghost use Rattle.entry_map.specs.Slots.{pairs_of, AreSorted, IsPlace};
 
+use crate::slot::Slot;
 use key_order::compare_key;
-use ledger_spec::Kept;
 use ledger_types::LedgerKey;
 use std::cmp::Ordering;
-use value_types::Blob;
-
-/// The bytes of a key, and what is kept there.
-#[derive(Drop)]
-pub struct Slot {
-    pub key: Blob,
-    pub kept: Kept,
-}
 
 /// The place of a key among slots in order.
 pub fn place_of(slots: &[Slot], key: &LedgerKey) -> Option<usize>

@@ -2,15 +2,16 @@
 
 ghost use Rattle.ledger_types.specs.Key.{key_format};
 
-use crate::EntryMap;
+use crate::{EntryMap, Slot};
 use ledger_spec::Kept;
 use ledger_types::{LedgerEntry, LedgerEntryData, LedgerKey, key_of, write_key_of};
+use sha2::{Digest, Sha256};
 use std::test::Fail;
-use value_types::Blob;
+use value_types::{Blob, Hash};
 use value_xdr::decode;
 use xdr_core::Out;
 
-// The value 41 of the contract 07 07 .. at `ab`, written in ledger 50.
+/// The value 41 of the contract 07 07 .. at `ab`, written in ledger 50.
 const ENTRY: [u8; 76] = [
     0, 0, 0, 50, 0, 0, 0, 6, 0, 0, 0, 0, 0, 0, 0, 1, 7, 7, 7, 7, 7, 7, 7, 7, 7, 7, 7, 7, 7, 7, 7,
     7, 7, 7, 7, 7, 7, 7, 7, 7, 7, 7, 7, 7, 7, 7, 7, 7, 0, 0, 0, 15, 0, 0, 0, 2, 97, 98, 0, 0, 0, 0,
@@ -30,6 +31,7 @@ fn pushed_found_and_raised(rt: HostRuntime) -> Result<(), Fail> {
     let mut bytes = Out::new(rt.alloc());
     write_key_of(&entry, &mut bytes)?;
     let bytes = Blob::from_vec(bytes.into_vec());
+    let key_hash = Hash(Sha256::digest(bytes.as_slice()));
     let is_data = matches!(&entry.data, LedgerEntryData::ContractData(_));
     assert!(rt; is_data);
     let mut entries = EntryMap::new(rt.alloc());
@@ -39,7 +41,11 @@ fn pushed_found_and_raised(rt: HostRuntime) -> Result<(), Fail> {
         entry,
         live_until: 100,
     };
-    entries.push(bytes, kept)?;
+    entries.push(Slot {
+        key: bytes,
+        key_hash,
+        kept,
+    })?;
     assert_eq!(rt; entries.as_slice().len(), 1);
     assert_eq!(rt; life(&entries, &key), Some(100));
     entries.raise(&key, 90);

@@ -19,6 +19,7 @@ pub enum AssetType {
 }
 
 impl AssetType {
+    /// The constant of this number, if there is one (RFC 4506, section 4.3).
     pub fn from_number(number: u32) -> Option<AssetType>
         ensures { result ≡ kind_of number }
     {
@@ -30,6 +31,7 @@ impl AssetType {
         }
     }
 
+    /// Its number (RFC 4506, section 4.3).
     pub fn number(self) -> u32
         ensures { result ≡ number self }
     {
@@ -95,6 +97,7 @@ impl Clone for Asset {
 impl Copy for Asset {}
 
 impl Asset {
+    /// Which arm it is (RFC 4506, section 4.15).
     pub fn kind(self) -> AssetType
         ensures { result ≡ kind self }
     {

@@ -27,6 +27,7 @@ pub enum ContractEventType {
 }
 
 impl ContractEventType {
+    /// The constant of this number, if there is one (RFC 4506, section 4.3).
     pub fn from_number(number: u32) -> Option<ContractEventType>
         ensures { result ≡ kind_of number }
     {
@@ -38,6 +39,7 @@ impl ContractEventType {
         }
     }
 
+    /// Its number (RFC 4506, section 4.3).
     pub fn number(self) -> u32
         ensures { result ≡ number self }
     {

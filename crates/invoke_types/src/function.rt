@@ -18,6 +18,7 @@ pub enum FunctionType {
 }
 
 impl FunctionType {
+    /// The constant of this number, if there is one (RFC 4506, section 4.3).
     pub fn from_number(number: u32) -> Option<FunctionType>
         ensures { result ≡ kind_of number }
     {
@@ -29,6 +30,7 @@ impl FunctionType {
         }
     }
 
+    /// Its number (RFC 4506, section 4.3).
     pub fn number(self) -> u32
         ensures { result ≡ number self }
     {
@@ -88,6 +90,7 @@ impl Clone for Function {
 }
 
 impl Function {
+    /// Which arm it is (RFC 4506, section 4.15).
     pub fn kind(&self) -> FunctionType
         ensures { result ≡ kind self.now }
     {

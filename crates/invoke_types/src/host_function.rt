@@ -20,6 +20,7 @@ pub enum HostFunctionType {
 }
 
 impl HostFunctionType {
+    /// The constant of this number, if there is one (RFC 4506, section 4.3).
     pub fn from_number(number: u32) -> Option<HostFunctionType>
         ensures { result ≡ kind_of number }
     {
@@ -32,6 +33,7 @@ impl HostFunctionType {
         }
     }
 
+    /// Its number (RFC 4506, section 4.3).
     pub fn number(self) -> u32
         ensures { result ≡ number self }
     {
@@ -99,6 +101,7 @@ impl Clone for HostFunction {
 }
 
 impl HostFunction {
+    /// Which arm it is (RFC 4506, section 4.15).
     pub fn kind(&self) -> HostFunctionType
         ensures { result ≡ kind self.now }
     {

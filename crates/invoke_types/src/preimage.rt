@@ -18,6 +18,7 @@ pub enum PreimageType {
 }
 
 impl PreimageType {
+    /// The constant of this number, if there is one (RFC 4506, section 4.3).
     pub fn from_number(number: u32) -> Option<PreimageType>
         ensures { result ≡ kind_of number }
     {
@@ -28,6 +29,7 @@ impl PreimageType {
         }
     }
 
+    /// Its number (RFC 4506, section 4.3).
     pub fn number(self) -> u32
         ensures { result ≡ number self }
     {
@@ -84,6 +86,7 @@ impl Clone for Preimage {
 impl Copy for Preimage {}
 
 impl Preimage {
+    /// Which arm it is (RFC 4506, section 4.15).
     pub fn kind(self) -> PreimageType
         ensures { result ≡ kind self }
     {

@@ -19,7 +19,7 @@ const WORD_4: &[u8] = &[0, 0, 0, 4];
 
 const WORD_5: &[u8] = &[0, 0, 0, 5];
 
-const W33: &[u8] = &[0, 0, 0, 33];
+const WORD_33: &[u8] = &[0, 0, 0, 33];
 
 const ID: &[u8] = &[7; 32];
 
@@ -33,7 +33,7 @@ fn joined(alloc: Global, parts: &[&[u8]]) -> Result<Vec<u8>, Fail> {
     Ok(bytes)
 }
 
-// Whether the bytes are read as a value of which they are the spelling.
+/// Whether the bytes are read as a value of which they are the spelling.
 fn spell<T: Xdr + Drop>(alloc: Global, parts: &[&[u8]]) -> Result<bool, Fail> {
     let bytes = joined(alloc, parts)?;
     let value = decode::<T>(alloc, &bytes)?;
@@ -41,33 +41,35 @@ fn spell<T: Xdr + Drop>(alloc: Global, parts: &[&[u8]]) -> Result<bool, Fail> {
     Ok(again.as_slice() == bytes.as_slice() && value.size() == bytes.len() as u64)
 }
 
+const HOST_FUNCTIONS: [&[&[u8]]; 7] = [
+    // a call of "ab" with VOID
+    &[WORD_0, WORD_1, ID, WORD_2, b"ab\0\0", WORD_1, WORD_1],
+    // from an account and from a contract, each running a module
+    &[WORD_1, WORD_0, WORD_0, WORD_0, ID, SALT, WORD_0, ID],
+    &[WORD_1, WORD_0, WORD_1, ID, SALT, WORD_0, ID],
+    // from assets, running the contract of the asset
+    &[WORD_1, WORD_1, WORD_0, WORD_1],
+    &[WORD_1, WORD_1, WORD_2, b"USDCandSoOn.", WORD_0, ID, WORD_1],
+    // a module of 5 bytes
+    &[WORD_2, WORD_5, b"\0asm\x01\0\0\0"],
+    // with a constructor that takes VOID
+    &[
+        WORD_3, WORD_1, WORD_1, b"USDC", WORD_0, ID, WORD_1, WORD_1, WORD_1,
+    ],
+];
+
+const FUNCTIONS: [&[&[u8]]; 3] = [
+    &[WORD_0, WORD_0, WORD_0, ID, WORD_0, WORD_0],
+    &[WORD_1, WORD_1, WORD_0, WORD_1],
+    &[WORD_2, WORD_1, WORD_0, WORD_1, WORD_0],
+];
+
 #[test]
 fn host_functions(rt: HostRuntime) -> Result<(), Fail> {
-    let rows: [&[&[u8]]; 7] = [
-        // a call of "ab" with VOID
-        &[WORD_0, WORD_1, ID, WORD_2, b"ab\0\0", WORD_1, WORD_1],
-        // from an account and from a contract, each running a module
-        &[WORD_1, WORD_0, WORD_0, WORD_0, ID, SALT, WORD_0, ID],
-        &[WORD_1, WORD_0, WORD_1, ID, SALT, WORD_0, ID],
-        // from assets, running the contract of the asset
-        &[WORD_1, WORD_1, WORD_0, WORD_1],
-        &[WORD_1, WORD_1, WORD_2, b"USDCandSoOn.", WORD_0, ID, WORD_1],
-        // a module of 5 bytes
-        &[WORD_2, WORD_5, b"\0asm\x01\0\0\0"],
-        // with a constructor that takes VOID
-        &[
-            WORD_3, WORD_1, WORD_1, b"USDC", WORD_0, ID, WORD_1, WORD_1, WORD_1,
-        ],
-    ];
-    for row in rows {
+    for row in HOST_FUNCTIONS {
         assert!(rt; spell::<HostFunction>(rt.alloc(), row)?);
     }
-    let functions: [&[&[u8]]; 3] = [
-        &[WORD_0, WORD_0, WORD_0, ID, WORD_0, WORD_0],
-        &[WORD_1, WORD_1, WORD_0, WORD_1],
-        &[WORD_2, WORD_1, WORD_0, WORD_1, WORD_0],
-    ];
-    for row in functions {
+    for row in FUNCTIONS {
         assert!(rt; spell::<Function>(rt.alloc(), row)?);
     }
     Ok(())
@@ -117,7 +119,7 @@ fn refusals(rt: HostRuntime) -> Result<(), Fail> {
         // an address of a kind that is not taken
         (&[WORD_0, WORD_2], 4, Why::Tag),
         // a name of 33 bytes
-        (&[WORD_0, WORD_1, ID, W33], 40, Why::Limit),
+        (&[WORD_0, WORD_1, ID, WORD_33], 40, Why::Limit),
         (&[WORD_0, WORD_1, ID, WORD_2, b"ab\0\x01"], 44, Why::Padding),
         // no such executable
         (&[WORD_1, WORD_1, WORD_0, WORD_2], 12, Why::Tag),
@@ -147,16 +149,18 @@ fn refusals(rt: HostRuntime) -> Result<(), Fail> {
 #[test]
 fn copies(rt: HostRuntime) -> Result<(), Fail> {
     let alloc = rt.alloc();
-    let bytes = joined(
-        alloc,
-        &[WORD_0, WORD_1, ID, WORD_2, b"ab\0\0", WORD_1, WORD_1],
-    )?;
-    let function = decode::<HostFunction>(alloc, &bytes)?;
-    let again = encode(alloc, &function.clone()?)?;
-    assert_eq!(rt; again.as_slice(), bytes.as_slice());
-    let function = decode::<Function>(alloc, &bytes)?;
-    let again = encode(alloc, &function.clone()?)?;
-    assert_eq!(rt; again.as_slice(), bytes.as_slice());
+    for row in HOST_FUNCTIONS {
+        let bytes = joined(alloc, row)?;
+        let function = decode::<HostFunction>(alloc, &bytes)?;
+        let again = encode(alloc, &function.clone()?)?;
+        assert_eq!(rt; again.as_slice(), bytes.as_slice());
+    }
+    for row in FUNCTIONS {
+        let bytes = joined(alloc, row)?;
+        let function = decode::<Function>(alloc, &bytes)?;
+        let again = encode(alloc, &function.clone()?)?;
+        assert_eq!(rt; again.as_slice(), bytes.as_slice());
+    }
     let bytes = joined(
         alloc,
         &[

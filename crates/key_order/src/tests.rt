@@ -6,7 +6,7 @@ use std::cmp::Ordering;
 use std::test::Fail;
 use value_xdr::decode;
 
-// A word, two words, three bytes behind their number, and a byte.
+/// A word, two words, three bytes behind their number, and a byte.
 const PARTS: [u8; 21] = [
     0, 0, 0, 1, 0, 0, 0, 0, 0, 0, 0, 2, 0, 0, 0, 3, 1, 2, 3, 0, 9,
 ];
@@ -24,7 +24,7 @@ fn bytes_that_come(rt: HostRuntime) {
     assert_eq!(rt; matcher.finish(), Ordering::Greater);
 }
 
-// The key of the code with the hash 07 07 ...
+/// The key of the code with the hash 07 07 ...
 const CODE: [u8; 36] = [
     0, 0, 0, 7, 7, 7, 7, 7, 7, 7, 7, 7, 7, 7, 7, 7, 7, 7, 7, 7, 7, 7, 7, 7, 7, 7, 7, 7, 7, 7, 7, 7,
     7, 7, 7, 7,

@@ -4,3 +4,4 @@ pub mod Waiting
 pub mod Written
 pub mod Effects
 pub mod On
+pub mod Calls

@@ -1,5 +1,5 @@
 -- Extensions that are pending in a cluster, as they are kept: all that came, and for each key that has some pending the
--- place from which on they are pending and the longest life among them.
+-- place from which on they are pending and the longest life among them (own).
 use Rattle.std.specs.Prelude.{◌≡◌, ◌≤◌, ◌+◌, ℕ, Vec, Bool, false, List, [], ◌∷◌, All, length, filter, max, Option, Some, None, nat_le, if◌then◌else◌}
 use Rattle.std.specs.BTreeMap.{BTreeMap, get_by}
 use Rattle.std.specs.Cmp.Lexicographic.{slice_cmp}

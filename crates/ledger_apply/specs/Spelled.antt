@@ -1,4 +1,4 @@
--- Sets of transactions that run today.
+-- Sets of transactions that run today (own).
 use Rattle.std.specs.Prelude.{All}
 use Rattle.tx_xdr.specs.Limits.{today}
 use Rattle.tx_xdr.specs.Transaction.{transaction_format}

@@ -1,4 +1,4 @@
--- What the code holds, as what the meaning of a set speaks of.
+-- What the code holds, as what the meaning of a set speaks of (own).
 use Rattle.std.specs.Prelude.{◌≡◌, ◌<◌, ◌^◌, IsTrue, All, length}
 use Rattle.std.specs.List.{AllByRecursion}
 use Rattle.ledger_types.specs.Key.{key_format}

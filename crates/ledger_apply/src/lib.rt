@@ -2,12 +2,14 @@
 #![tactic(auto)]
 
 mod cluster;
+mod laws;
 mod pending;
 mod running;
 mod set;
 mod step;
 
 pub use cluster::run_cluster;
+pub use laws::preimages_stand_with_calls;
 pub use pending::Pending;
 pub use running::{Running, RunningCluster};
 pub use set::{Applied, apply_set};

@@ -80,6 +80,7 @@ impl Model for Pending {
 }
 
 impl Pending {
+    /// Nothing is pending.
     pub fn new(alloc: Global) -> Pending
         ensures { result ≡ [] }
     {

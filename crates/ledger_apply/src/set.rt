@@ -1,29 +1,50 @@
 //! Transaction sets.
 
-ghost use Rattle.std.specs.Prelude.{◌≡◌, [], All, IfOk, IsTrue, fold};
+ghost use Rattle.std.specs.Prelude.{◌≡◌, [], All, IfOk, IsTrue, None, fold, length, map};
+ghost use Rattle.xdr_spec.specs.Format.{optional};
+ghost use Rattle.invoke_types.specs.Success.{success_format};
 ghost use Rattle.ledger_spec.specs.LedgerFile.{are_settings, has_next};
 ghost use Rattle.tx_xdr.specs.Limits.{today};
 ghost use Rattle.tx_xdr.specs.Set.{set_format, phase_format};
 ghost use Rattle.tx_results.specs.Results.{result_set_format};
-ghost use Rattle.apply_spec.specs.Runs.{run_stage as run_stage_in, run_set, new_header, stages_in};
+ghost use Rattle.apply_spec.specs.Runs.{run_stage as run_stage_in, run_set, new_header, stages_in, success_preimages};
 ghost use Rattle.ledger_apply.specs.State.{running_of, IsOn};
 ghost use Rattle.ledger_apply.specs.Spelled.{IsStage};
 
 use crate::cluster::run_stage;
 use crate::running::Running;
+use invoke_types::SuccessPreimage;
 use ledger_file::Ledger;
 use ledger_types::Header;
 use std::alloc::Global;
-use tx_results::ResultSet;
+use tx_results::{ResultSet, TransactionResultPair};
 use tx_xdr::{Phase, Stage, TxSet};
 use value_types::Items;
 use xdr_core::NoMemory;
 
-/// The ledger after a set, and the results in the set's order.
+/// The ledger after a set, and in the set's order the results and what calls of contracts gave.
 #[derive(Drop)]
 pub struct Applied {
     pub ledger: Ledger,
     pub results: ResultSet,
+    /// For each result, where the transaction called a contract and that ended well.
+    pub successes: Items<Option<SuccessPreimage>, 4294967295>,
+}
+
+/// What calls of contracts gave, for each result: nothing, since none is called today.
+fn no_successes(
+    alloc: Global,
+    results: &[TransactionResultPair],
+) -> Result<Vec<Option<SuccessPreimage>>, NoMemory>
+    ensures none { IfOk result (λ successes. successes.items ≡ map (λ _. None) results.now) }
+    ensures spelled { IfOk result (λ successes. All (λ s. (optional success_format).fits s) successes.items) }
+    ensures each { IfOk result (λ successes. length successes.items ≡ length results.now) }
+{
+    let mut successes = Vec::new(alloc);
+    for _result in results {
+        successes.push(None)?;
+    }
+    Ok(successes)
 }
 
 /// The stages of a phase that runs today, which are its own.
@@ -60,9 +81,12 @@ pub fn apply_set(
     ensures header { IfOk result (λ a. a.ledger.header ≡ new_header ledger.header close_time) }
     ensures entries { IfOk result (λ a. a.ledger.entries ≡ (run_set ledger.header ledger.entries set.now close_time).entries) }
     ensures results { IfOk result (λ a. a.results.pairs ≡ (run_set ledger.header ledger.entries set.now close_time).results) }
+    ensures successes { IfOk result (λ a. a.successes ≡ success_preimages (run_set ledger.header ledger.entries set.now close_time)) }
 
     // So they can be written.
     ensures spelled { IfOk result (λ a. result_set_format.fits a.results) }
+    ensures successes_spelled { IfOk result (λ a. All (λ s. (optional success_format).fits s) a.successes) }
+    ensures each { IfOk result (λ a. length a.successes ≡ length a.results.pairs) }
 {
     let Ledger { header, entries } = ledger;
     let running_header = Header {
@@ -86,6 +110,7 @@ pub fn apply_set(
         results,
         ..
     } = running;
+    let successes = no_successes(alloc, &results)?;
     Ok(Applied {
         ledger: Ledger {
             header: Header {
@@ -97,5 +122,6 @@ pub fn apply_set(
         results: ResultSet {
             pairs: Items::from_vec(results),
         },
+        successes: Items::from_vec(successes),
     })
 }

@@ -2,11 +2,9 @@
 use Rattle.std.specs.Prelude.{All}
 use Rattle.std.specs.Ordering.{is_lt}
 use Rattle.std.specs.List.{AllByRecursion}
-use Rattle.std.specs.Str.{bytes_eq}
 use Rattle.std.specs.FinMap.{is_sorted, entries, entries-from_sorted, len-entries, values}
 use Rattle.std.specs.FinMap.Entries.{below_all}
 use Rattle.std.proofs.lemmas.List.{length-map}
-use Rattle.std.proofs.lemmas.Slice.Eq.{bytes_eq-Decides}
 use Rattle.std.proofs.Common.{◌≡◌, ℕ, zero, suc, ◌+◌, Bool, true, false, not, ◌&&◌, cond, T, List, [], ◌∷◌, length, map, Some, None, Option, Ok, Err, Result, refl, sym, ap, subst, ◌∙◌, arith}
 use Rattle.sha2.specs.Sha256.{sha256}
 use Rattle.xdr_spec.specs.declared.XdrErr.{XdrErr}
@@ -24,7 +22,7 @@ use Rattle.ledger_spec.specs.declared.LedgerWhy.{LedgerWhy}
 use Rattle.ledger_spec.specs.declared.LedgerWhy.TheVariants as why
 use Rattle.ledger_spec.specs.declared.LedgerRefusal.{LedgerRefusal}
 use Rattle.ledger_spec.specs.LedgerMap.{LedgerMap, IsKeptAt}
-use Rattle.ledger_spec.specs.LedgerFile.{record_of, are_settings, has_next, is_above, record_key, fault_of, fault_at, first_fault, kept_of, map_of, as_map, judged_if, ledger_of, refusal, has_code_hash}
+use Rattle.ledger_spec.specs.LedgerFile.{record_of, are_settings, has_next, record_key, fault_of, fault_at, first_fault, kept_of, map_of, as_map, judged_if, ledger_of, refusal}
 use Rattle.ledger_file.specs.Records.{pair_of}
 use Rattle.ledger_file.specs.FileOf.{IsFileOf}
 use Rattle.ledger_file.proofs.Keys.{order, less_through, first_of_two, second_of_two, both_of_two, good, kept_by}
@@ -66,16 +64,9 @@ sorted_good before (r ∷ rs) h =
 
 -- ---- records made again
 
-hashed_by : (before : Option (List ℕ)) (r : LedgerRecord) (a t : Bool) → bytes_eq r.ttl.key_hash.0 (sha256 (record_key r)) ≡ t
-    → cond (not a) (Some why.Order) (cond (not t) (Some why.TtlHash) (cond (not (has_code_hash r.entry.data)) (Some why.CodeHash) None)) ≡ None
-    → sha256 (record_key r) ≡ r.ttl.key_hash.0
-hashed_by before r true true p e = sym ((bytes_eq-Decides r.ttl.key_hash.0 (sha256 (record_key r))).0 p)
-hashed_by before r true false p e = cc
-hashed_by before r false t p e = cc
-
 made_again : (before : Option (List ℕ)) (r : LedgerRecord) → fault_of before r ≡ None → record_of (kept_of r) ≡ r
 made_again before r e =
-    let p : sha256 (record_key r) ≡ r.ttl.key_hash.0 = hashed_by before r (is_above before (record_key r)) (bytes_eq r.ttl.key_hash.0 (sha256 (record_key r))) refl e in
+    let p : sha256 (record_key r) ≡ r.ttl.key_hash.0 = sym (good before r e).hashed in
     λ i. record { entry = r.entry; ttl = record { key_hash = record { 0 = p i }; live_until_ledger_seq = r.ttl.live_until_ledger_seq } }
 
 cons_is : (r q : LedgerRecord) (rs qs : List LedgerRecord) → r ≡ q → rs ≡ qs → r ∷ rs ≡ q ∷ qs

@@ -21,7 +21,7 @@ use Rattle.ledger_spec.specs.declared.Kept.{Kept}
 use Rattle.ledger_spec.specs.declared.LedgerWhy.TheVariants as why
 use Rattle.ledger_spec.specs.LedgerMap.{LedgerMap, IsKeptAt, HasCodeHash}
 use Rattle.ledger_spec.specs.LedgerFile.{is_above, has_code_hash, record_key, kept_of, fault_of}
-use Rattle.entry_map.specs.declared.search.Slot.{Slot}
+use Rattle.entry_map.specs.declared.slot.Slot.{Slot}
 use Rattle.entry_map.specs.Slots.{pair_of as slot_pair, pairs_of, is_last}
 use Rattle.ledger_file.specs.Records.{last_key}
 
@@ -72,18 +72,19 @@ above_all (x ∷ y ∷ es) key s h =
 -- what a key that is above the last, and has no other fault, is
 pub record IsGood (before : Option (List ℕ)) (item : LedgerRecord) : Type 0 where
   pub above : is_above before (record_key item) ≡ true
+  pub hashed : item.ttl.key_hash.0 ≡ sha256 (record_key item)
   pub coded : has_code_hash item.entry.data ≡ true
 
-good_by : (before : Option (List ℕ)) (item : LedgerRecord) (a t c : Bool) → is_above before (record_key item) ≡ a → has_code_hash item.entry.data ≡ c
-    → (if not a then Some why.Order else if not t then Some why.TtlHash else if not c then Some why.CodeHash else None) ≡ None → IsGood before item
-good_by before item true true true p q e = record { above = p; coded = q }
-good_by before item false t c p q e = absurd (some_none why.Order e)
-good_by before item true false c p q e = absurd (some_none why.TtlHash e)
-good_by before item true true false p q e = absurd (some_none why.CodeHash e)
+good_by : (before : Option (List ℕ)) (item : LedgerRecord) (a t c : Bool) → is_above before (record_key item) ≡ a → bytes_eq item.ttl.key_hash.0 (sha256 (record_key item)) ≡ t
+    → has_code_hash item.entry.data ≡ c → (if not a then Some why.Order else if not t then Some why.TtlHash else if not c then Some why.CodeHash else None) ≡ None → IsGood before item
+good_by before item true true true p h q e = record { above = p; hashed = (bytes_eq-Decides item.ttl.key_hash.0 (sha256 (record_key item))).0 h; coded = q }
+good_by before item false t c p h q e = absurd (some_none why.Order e)
+good_by before item true false c p h q e = absurd (some_none why.TtlHash e)
+good_by before item true true false p h q e = absurd (some_none why.CodeHash e)
 
 pub good : (before : Option (List ℕ)) (item : LedgerRecord) → fault_of before item ≡ None → IsGood before item
 good before item e =
-    good_by before item (is_above before (record_key item)) (bytes_eq item.ttl.key_hash.0 (sha256 (record_key item))) (has_code_hash item.entry.data) refl refl e
+    good_by before item (is_above before (record_key item)) (bytes_eq item.ttl.key_hash.0 (sha256 (record_key item))) (has_code_hash item.entry.data) refl refl refl e
 
 coded_by : (body : LedgerEntryData) → has_code_hash body ≡ true → HasCodeHash body
 coded_by (ContractData entry) e = tt

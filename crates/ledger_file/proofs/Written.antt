@@ -17,7 +17,7 @@ use Rattle.ledger_types.specs.declared.record.LedgerRecord.{LedgerRecord}
 use Rattle.ledger_spec.specs.declared.Kept.{Kept}
 use Rattle.ledger_spec.specs.LedgerMap.{LedgerMap, IsKeptAt}
 use Rattle.ledger_spec.specs.LedgerFile.{record_of, ledger_bytes}
-use Rattle.entry_map.specs.declared.search.Slot.{Slot}
+use Rattle.entry_map.specs.declared.slot.Slot.{Slot}
 use Rattle.entry_map.specs.Slots.{pair_of as slot_pair, pairs_of}
 
 pub kept_slot : (slots : List Slot) (k : ℕ) (slot : Slot) → All (λ e. IsKeptAt e.0 e.1) (pairs_of slots) → k < length slots → slot ≡ get_or slots k slot

@@ -1,4 +1,4 @@
--- Why no ledger was read.
+-- Why no ledger was read (own).
 use Rattle.std.specs.Prelude.{◌≡◌, Result, Err}
 use Rattle.ledger_spec.specs.declared.LedgerRefusal.{LedgerRefusal}
 use Rattle.ledger_file.specs.declared.error.LedgerErr.{LedgerErr}

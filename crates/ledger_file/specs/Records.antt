@@ -1,4 +1,4 @@
--- Records and the entries that are made of them.
+-- Records and the entries that are made of them (own).
 use Rattle.std.specs.Prelude.{◌≡◌, ℕ, List, [], ◌∷◌, Option, Some, None}
 use Rattle.ledger_types.specs.declared.record.LedgerRecord.{LedgerRecord}
 use Rattle.ledger_spec.specs.LedgerFile.{record_key, kept_of, refusal}

@@ -12,7 +12,7 @@ ghost use Rattle.ledger_file.specs.Records.{last_key, pair_of, IsFaultUnlessMemo
 
 use crate::error::LedgerErr;
 use crate::rules::record_fault;
-use entry_map::EntryMap;
+use entry_map::{EntryMap, Slot};
 use ledger_spec::{Kept, LedgerRefusal};
 use ledger_types::{LedgerEntry, LedgerRecord, write_key_of};
 use std::alloc::Global;
@@ -78,11 +78,15 @@ fn push_record(alloc: Global, entries: &mut EntryMap, item: LedgerRecord) -> Res
 {
     let judged = judged_key(alloc, entries, &item);
     let (item, key) = beside(item, judged)?;
-    let kept = Kept {
-        entry: item.entry,
-        live_until: item.ttl.live_until_ledger_seq,
-    };
-    entries.push(key, kept)?;
+    // The record was judged by the hash of its key.
+    entries.push(Slot {
+        key,
+        key_hash: item.ttl.key_hash,
+        kept: Kept {
+            entry: item.entry,
+            live_until: item.ttl.live_until_ledger_seq,
+        },
+    })?;
     Ok(())
 }
 

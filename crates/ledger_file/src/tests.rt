@@ -10,7 +10,7 @@ use value_types::Hash;
 use value_xdr::decode;
 use xdr_core::{ReadXdr, Why, XdrErr};
 
-// Of ledger 100 of the network 07 07 .., closed at 1000, up to the count of records.
+/// Of ledger 100 of the network 07 07 .., closed at 1000, up to the count of records.
 const HEADER: [u8; 244] = [
     0, 0, 0, 1, 7, 7, 7, 7, 7, 7, 7, 7, 7, 7, 7, 7, 7, 7, 7, 7, 7, 7, 7, 7, 7, 7, 7, 7, 7, 7, 7, 7,
     7, 7, 7, 7, 0, 0, 0, 100, 0, 0, 0, 0, 0, 0, 3, 232, 0, 0, 0, 16, 0, 0, 16, 0, 0, 47, 118, 0, 0,
@@ -29,7 +29,7 @@ const WORD_1: &[u8] = &[0, 0, 0, 1];
 
 const WORD_2: &[u8] = &[0, 0, 0, 2];
 
-// The value 41 of the contract 07 07 .. at `ab`, live until ledger 5000.
+/// The value 41 of the contract 07 07 .. at `ab`, live until ledger 5000.
 const DATA: [u8; 112] = [
     0, 0, 0, 50, 0, 0, 0, 6, 0, 0, 0, 0, 0, 0, 0, 1, 7, 7, 7, 7, 7, 7, 7, 7, 7, 7, 7, 7, 7, 7, 7,
     7, 7, 7, 7, 7, 7, 7, 7, 7, 7, 7, 7, 7, 7, 7, 7, 7, 0, 0, 0, 15, 0, 0, 0, 2, 97, 98, 0, 0, 0, 0,
@@ -38,7 +38,7 @@ const DATA: [u8; 112] = [
     78, 0, 0, 19, 136,
 ];
 
-// A module of 34 bytes, live until ledger 4000.
+/// A module of 34 bytes, live until ledger 4000.
 const CODE: [u8; 124] = [
     0, 0, 0, 50, 0, 0, 0, 7, 0, 0, 0, 0, 215, 93, 7, 251, 57, 217, 232, 109, 25, 8, 223, 67, 237,
     47, 190, 202, 25, 62, 86, 39, 59, 15, 254, 162, 23, 143, 177, 24, 216, 74, 197, 157, 0, 0, 0,
@@ -48,7 +48,7 @@ const CODE: [u8; 124] = [
     0, 0, 15, 160,
 ];
 
-// The same under the hash 07 07 .., which is not its own.
+/// The same under the hash 07 07 .., which is not its own.
 const OTHER_CODE: [u8; 124] = [
     0, 0, 0, 50, 0, 0, 0, 7, 0, 0, 0, 0, 7, 7, 7, 7, 7, 7, 7, 7, 7, 7, 7, 7, 7, 7, 7, 7, 7, 7, 7,
     7, 7, 7, 7, 7, 7, 7, 7, 7, 7, 7, 7, 7, 0, 0, 0, 34, 0, 97, 115, 109, 1, 0, 0, 0, 1, 5, 1, 96,
@@ -57,7 +57,7 @@ const OTHER_CODE: [u8; 124] = [
     119, 42, 110, 191, 191, 70, 201, 211, 138, 62, 16, 0, 0, 15, 160,
 ];
 
-// The key of DATA.
+/// The key of DATA.
 const KEY: [u8; 56] = [
     0, 0, 0, 6, 0, 0, 0, 1, 7, 7, 7, 7, 7, 7, 7, 7, 7, 7, 7, 7, 7, 7, 7, 7, 7, 7, 7, 7, 7, 7, 7, 7,
     7, 7, 7, 7, 7, 7, 7, 7, 0, 0, 0, 15, 0, 0, 0, 2, 97, 98, 0, 0, 0, 0, 0, 1,
@@ -129,7 +129,7 @@ fn refusals_of_records(rt: HostRuntime) -> Result<(), Fail> {
     Ok(())
 }
 
-// What is read where the header has other bytes at some places.
+/// What is read where the header has other bytes at some places.
 fn changed(
     alloc: Global,
     changes: &[(usize, u8)],
@@ -144,10 +144,10 @@ fn changed(
     Ok(read_ledger(alloc, &bytes, follows).err())
 }
 
-// Ledger 4,000,000,000.
+/// Ledger 4,000,000,000.
 const LAST: [(usize, u8); 4] = [(36, 0xee), (37, 0x6b), (38, 0x28), (39, 0)];
 
-// The same, with a least life of 0.
+/// The same, with a least life of 0.
 const LAST_OF_NONE: [(usize, u8); 5] = [(36, 0xee), (37, 0x6b), (38, 0x28), (39, 0), (51, 0)];
 
 #[test]

@@ -12,9 +12,8 @@ ghost use Rattle.entry_map.specs.Slots.{pairs_of};
 use crate::ledger::Ledger;
 use entry_map::Slot;
 use ledger_types::{LEDGER_FILE_VERSION, TtlEntry};
-use sha2::{Digest, Sha256};
 use std::alloc::Global;
-use value_types::{Blob, Hash};
+use value_types::Blob;
 use value_xdr::Xdr;
 use xdr_core::{NoMemory, Out};
 
@@ -27,7 +26,7 @@ fn write_record(slot: &Slot, out: &mut Out) -> Result<(), NoMemory>
 {
     slot.kept.entry.write(out)?;
     let ttl = TtlEntry {
-        key_hash: Hash(Sha256::digest(slot.key.as_slice())),
+        key_hash: slot.key_hash,
         live_until_ledger_seq: slot.kept.live_until,
     };
     ttl.write(out)

@@ -13,6 +13,7 @@ use Rattle.ledger_spec.specs.Seen.{Seen, live, absent, archived, seen, is_tempor
 abbrev pub least_life : Settings → LedgerEntry → ℕ
 least_life settings entry = if is_temporary entry.data then settings.min_temporary_ttl else settings.min_persistent_ttl
 
+-- the last ledger of a new entry's first life
 abbrev pub first_life : Settings → ℕ → LedgerEntry → ℕ
 first_life settings n entry = n + least_life settings entry - 1
 
@@ -20,6 +21,7 @@ first_life settings n entry = n + least_life settings entry - 1
 abbrev pub furthest : Settings → ℕ → ℕ
 furthest settings n = n + settings.max_entry_ttl - 1
 
+-- an entry as it is written in ledger n
 abbrev pub written : ℕ → LedgerEntry → LedgerEntry
 written n entry = record entry { last_modified_ledger_seq = n }
 
@@ -32,6 +34,7 @@ put_seen absent settings n map entry =
     Some (insert map (key_bytes (key_of entry)) (record { entry = written n entry; live_until = first_life settings n entry }))
 put_seen archived settings n map entry = None
 
+-- a put in ledger n, by what is seen at the entry's key
 abbrev pub put : Settings → ℕ → LedgerMap → LedgerEntry → Option LedgerMap
 put settings n map entry = put_seen (seen n map (key_of entry)) settings n map entry
 
@@ -41,6 +44,7 @@ delete_seen (live kept) map key = Some (remove map (key_bytes key))
 delete_seen absent map key = Some map
 delete_seen archived map key = None
 
+-- a delete in ledger n, by what is seen at the key
 abbrev pub delete : ℕ → LedgerMap → LedgerKey → Option LedgerMap
 delete n map key = delete_seen (seen n map key) map key
 
@@ -63,16 +67,19 @@ abbrev pub longer : ℕ → Kept → ℕ → ℕ → Kept
 longer n kept threshold life =
     if nat_lt kept.live_until life && nat_le (kept.live_until - n) threshold then record kept { live_until = life } else kept
 
+-- the extension of a live entry, where what is asked can be had
 abbrev pub extend_live : Option ℕ → ℕ → LedgerMap → LedgerKey → Kept → ℕ → Result LedgerMap Unextended
 extend_live None n map key kept threshold = Err too_far
 extend_live (Some life) n map key kept threshold = Ok (insert map (key_bytes key) (longer n kept threshold life))
 
+-- an extension, by what is seen at the key
 abbrev pub extend_seen : Seen → Settings → ℕ → LedgerMap → LedgerKey → ℕ → ℕ → Result LedgerMap Unextended
 extend_seen (live kept) settings n map key threshold extend_to =
     extend_live (asked_life settings n kept.entry extend_to) n map key kept threshold
 extend_seen absent settings n map key threshold extend_to = Err missing
 extend_seen archived settings n map key threshold extend_to = Err in_archive
 
+-- an extension in ledger n: where at most `threshold` ledgers are left, to `extend_to` ledgers from n on
 abbrev pub extend : Settings → ℕ → LedgerMap → LedgerKey → ℕ → ℕ → Result LedgerMap Unextended
 extend settings n map key threshold extend_to =
     if nat_lt extend_to threshold then Err backward
@@ -83,5 +90,6 @@ abbrev pub raised : Option Kept → LedgerMap → LedgerKey → ℕ → LedgerMa
 raised None map key live_until = map
 raised (Some kept) map key live_until = insert map (key_bytes key) (record kept { live_until = max kept.live_until live_until })
 
+-- the entry at a key, if there is one, lives at least until this ledger
 abbrev pub raise : LedgerMap → LedgerKey → ℕ → LedgerMap
 raise map key live_until = raised (find map key) map key live_until

@@ -23,12 +23,14 @@ use Rattle.ledger_spec.specs.LedgerMap.{LedgerMap, key_bytes}
 
 -- ---- what is written
 
+-- the record of an entry: itself, the hash of its key, and its last ledger
 abbrev pub record_of : Kept → LedgerRecord
 record_of kept = record {
   entry = kept.entry;
   ttl = record { key_hash = record { 0 = sha256 (key_bytes (key_of kept.entry)) }; live_until_ledger_seq = kept.live_until };
 }
 
+-- the file of a ledger: its header, and its records in the order of the keys' bytes
 abbrev pub file_of : Header → LedgerMap → LedgerFile
 file_of header entries = record { header = header; records = map record_of (values entries) }
 
@@ -38,6 +40,7 @@ ledger_bytes header entries = file_format.spell (file_of header entries)
 
 -- ---- what is read
 
+-- a life is from 1 to the greatest
 abbrev pub is_life : Settings → ℕ → Bool
 is_life settings life = nat_le 1 life && nat_le life settings.max_entry_ttl
 
@@ -56,10 +59,12 @@ abbrev pub is_above : Option (List ℕ) → List ℕ → Bool
 is_above None key = true
 is_above (Some before) key = is_lt (slice_cmp nat_cmp before key)
 
+-- the hash of a code entry is the SHA-256 of its code
 abbrev pub has_code_hash : LedgerEntryData → Bool
 has_code_hash (ContractData entry) = true
 has_code_hash (ContractCode entry) = bytes_eq entry.hash.0 (sha256 entry.code)
 
+-- the bytes of a record's key
 abbrev pub record_key : LedgerRecord → List ℕ
 record_key entry = key_bytes (key_of entry.entry)
 
@@ -71,9 +76,11 @@ fault_of before entry =
     else if not (has_code_hash entry.entry.data) then Some why.CodeHash
     else None
 
+-- a refusal for this reason at this place
 abbrev pub refusal : LedgerWhy → ℕ → LedgerRefusal
 refusal reason at = record { why = reason; at = at }
 
+-- a record's own fault comes before those of later records
 abbrev pub fault_at : ℕ → Option LedgerWhy → Option LedgerRefusal → Option LedgerRefusal
 fault_at at None later = later
 fault_at at (Some reason) later = Some (refusal reason at)
@@ -84,12 +91,15 @@ first_fault at before [] = None
 first_fault at before (entry ∷ rest) =
     fault_at at (fault_of before entry) (first_fault (at + 1) (Some (record_key entry)) rest)
 
+-- what a record says of its entry: itself, and its last ledger
 abbrev pub kept_of : LedgerRecord → Kept
 kept_of entry = record { entry = entry.entry; live_until = entry.ttl.live_until_ledger_seq }
 
+-- the map of records that stand in order
 abbrev pub map_of : List LedgerRecord → LedgerMap
 map_of records = from_sorted (map (λ entry. (record_key entry, kept_of entry)) records)
 
+-- the header and the map, unless a record is at fault
 abbrev pub as_map : LedgerFile → Option LedgerRefusal → Result (Header × LedgerMap) LedgerRefusal
 as_map file None = Ok (file.header, map_of file.records)
 as_map file (Some found) = Err found
@@ -101,6 +111,7 @@ judged follows file =
     else if follows && not (has_next file.header) then Err (refusal why.SeqEnd 0)
     else as_map file (first_fault 0 None file.records)
 
+-- the same of what was read, unless the bytes were refused
 abbrev pub judged_if : Bool → Result LedgerFile XdrErr → Result (Header × LedgerMap) LedgerRefusal
 judged_if follows (Ok file) = judged follows file
 judged_if follows (Err e) = Err (refusal why.Xdr e.at)
@@ -111,6 +122,7 @@ ledger_of follows bytes = judged_if follows (decoded file_format bytes)
 
 -- ---- the number of a refusal, as it is printed
 
+-- (own)
 abbrev pub why_number : LedgerWhy → ℕ
 why_number why.Xdr = 1
 why_number why.Order = 2

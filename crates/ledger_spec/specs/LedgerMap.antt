@@ -16,6 +16,7 @@ use Rattle.ledger_spec.specs.declared.Kept.{Kept}
 abbrev pub LedgerMap : Type 0
 LedgerMap = FinMap (slice_cmp nat_cmp) Kept
 
+-- the XDR bytes of a key
 abbrev pub key_bytes : LedgerKey → List ℕ
 key_bytes key = key_format.spell key
 

@@ -8,11 +8,13 @@ use Rattle.ledger_types.specs.declared.entry.LedgerEntryData.TheVariants.{Contra
 use Rattle.ledger_spec.specs.declared.Kept.{Kept}
 use Rattle.ledger_spec.specs.LedgerMap.{LedgerMap, find}
 
+-- what an access finds at a key
 pub data Seen : Type 0 where
   live : Kept → Seen
   absent : Seen
   archived : Seen
 
+-- of the two durabilities, temporary
 abbrev pub is_temporary_at : Durability → Bool
 is_temporary_at Temporary = true
 is_temporary_at Persistent = false
@@ -31,5 +33,6 @@ seen_of n (Some kept) =
     else if is_temporary kept.entry.data then absent
     else archived
 
+-- what an access in ledger n finds at a key of the map
 abbrev pub seen : ℕ → LedgerMap → LedgerKey → Seen
 seen n map key = seen_of n (find map key)

@@ -10,7 +10,7 @@ pub struct Kept {
     pub live_until: u32,
 }
 
-/// Why a ledger file is refused, with the number that is printed.
+/// Why a ledger file is refused, with the number that is printed (own).
 #[derive(Clone, Copy, Debug, PartialEq, Eq)]
 pub enum LedgerWhy {
     /// 1: the bytes spell no ledger file.

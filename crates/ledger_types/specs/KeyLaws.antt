@@ -1,5 +1,4 @@
--- The key of an entry that has a spelling has one.
-use Rattle.xdr_spec.specs.Format.{Format}
+-- The key of an entry that has a spelling has one (own).
 use Rattle.ledger_types.specs.ContractEntries.{data_format, code_format}
 use Rattle.ledger_types.specs.Key.{key_format}
 use Rattle.ledger_types.specs.Entry.{body_format, entry_format, key_of, key_of_data}

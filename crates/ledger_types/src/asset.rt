@@ -94,6 +94,7 @@ pub enum AssetType {
 }
 
 impl AssetType {
+    /// The constant of this number, if there is one (RFC 4506, section 4.3).
     pub fn from_number(number: u32) -> Option<AssetType>
         ensures { result ≡ kind_of number }
     {
@@ -106,6 +107,7 @@ impl AssetType {
         }
     }
 
+    /// Its number (RFC 4506, section 4.3).
     pub fn number(self) -> u32
         ensures { result ≡ number self }
     {
@@ -174,6 +176,7 @@ impl Clone for TrustLineAsset {
 impl Copy for TrustLineAsset {}
 
 impl TrustLineAsset {
+    /// Which arm it is (RFC 4506, section 4.15).
     pub fn kind(self) -> AssetType
         ensures { result ≡ kind self }
     {

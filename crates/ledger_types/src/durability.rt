@@ -17,6 +17,7 @@ pub enum Durability {
 }
 
 impl Durability {
+    /// The constant of this number, if there is one (RFC 4506, section 4.3).
     pub fn from_number(number: u32) -> Option<Durability>
         ensures { result ≡ kind_of number }
     {
@@ -27,6 +28,7 @@ impl Durability {
         }
     }
 
+    /// Its number (RFC 4506, section 4.3).
     pub fn number(self) -> u32
         ensures { result ≡ number self }
     {

@@ -17,6 +17,7 @@ pub enum ContractEntryType {
 }
 
 impl ContractEntryType {
+    /// The constant of this number, if there is one (RFC 4506, section 4.3).
     pub fn from_number(number: u32) -> Option<ContractEntryType>
         ensures { result ≡ kind_of number }
     {
@@ -27,6 +28,7 @@ impl ContractEntryType {
         }
     }
 
+    /// Its number (RFC 4506, section 4.3).
     pub fn number(self) -> u32
         ensures { result ≡ number self }
     {
@@ -86,6 +88,7 @@ impl Clone for LedgerEntryData {
 }
 
 impl LedgerEntryData {
+    /// Which arm it is (RFC 4506, section 4.15).
     pub fn kind(&self) -> ContractEntryType
         ensures { result ≡ kind self.now }
     {

@@ -22,6 +22,7 @@ pub enum LedgerEntryType {
 }
 
 impl LedgerEntryType {
+    /// The constant of this number, if there is one (RFC 4506, section 4.3).
     pub fn from_number(number: u32) -> Option<LedgerEntryType>
         ensures { result ≡ kind_of number }
     {
@@ -39,6 +40,7 @@ impl LedgerEntryType {
         }
     }
 
+    /// Its number (RFC 4506, section 4.3).
     pub fn number(self) -> u32
         ensures { result ≡ number self }
     {

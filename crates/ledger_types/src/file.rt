@@ -15,7 +15,7 @@ pub const LEDGER_FILE_VERSION: u32 = 1;
 /// How many bytes the version has.
 const VERSION_SIZE: u64 = 4;
 
-/// What a ledger's file spells: it is not judged whether it is that of a ledger.
+/// What a ledger's file spells (own): it is not judged whether it is that of a ledger.
 #[derive(Drop)]
 pub struct LedgerFile {
     pub header: Header,

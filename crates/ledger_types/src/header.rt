@@ -10,7 +10,7 @@ use value_types::Hash;
 use value_xdr::Xdr;
 use xdr_core::{Cursor, NoMemory, Out, ReadXdr, add_sizes};
 
-/// The network's settings.
+/// The settings that the host needs (own, after `ConfigSettingEntry`).
 #[derive(Debug, PartialEq, Eq)]
 pub struct Settings {
     /// How many ledgers a new temporary entry lives, the first included.
@@ -71,7 +71,7 @@ impl Xdr for Settings {
     ghost lawful = { settings_lawful };
 }
 
-/// A ledger without its entries.
+/// A ledger without its entries (own, after `LedgerHeader`).
 #[derive(Debug, PartialEq, Eq)]
 pub struct Header {
     /// The SHA-256 of the network's passphrase.

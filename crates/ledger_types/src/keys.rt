@@ -31,7 +31,7 @@ pub fn key_of(entry: &LedgerEntry) -> Result<LedgerKey, AllocError>
     }
 }
 
-/// Writes the spelling of the key of an entry.
+/// Writes the spelling of the key of an entry. After an error bytes of unknown content may follow what was there.
 #[tactic(auto, unfolding(crate::specs::Key::key_format, crate::specs::EntryType::type_format, crate::specs::Entry::entry_format, crate::specs::Entry::body_format, crate::specs::ContractEntries::data_format, crate::specs::ContractEntries::code_format))]
 pub fn write_key_of(entry: &LedgerEntry, out: &mut Out) -> Result<(), NoMemory>
     requires { entry_format.fits entry.now }

@@ -57,7 +57,7 @@ impl Xdr for TtlEntry {
     ghost lawful = { ttl_lawful };
 }
 
-/// A record of a ledger file: an entry and its life.
+/// A record of a ledger file: an entry and its life (own).
 #[derive(Drop)]
 pub struct LedgerRecord {
     pub entry: LedgerEntry,

@@ -1,6 +1,8 @@
 //! Spellings by the XDR files, put together by hand.
 
-use crate::{LedgerEntry, LedgerFile, LedgerKey, Verdicts, key_hash, key_of};
+use crate::{
+    LedgerEntry, LedgerFile, LedgerKey, LedgerRecord, Verdict, Verdicts, key_hash, key_of,
+};
 use std::alloc::Global;
 use std::test::Fail;
 use value_types::Hash;
@@ -39,7 +41,7 @@ fn joined(alloc: Global, parts: &[&[u8]]) -> Result<Vec<u8>, Fail> {
     Ok(bytes)
 }
 
-// Whether the bytes are read as a key of which they are the spelling.
+/// Whether the bytes are read as a key of which they are the spelling.
 fn spell_key(alloc: Global, parts: &[&[u8]]) -> Result<bool, Fail> {
     let bytes = joined(alloc, parts)?;
     let key = decode::<LedgerKey>(alloc, &bytes)?;
@@ -107,7 +109,7 @@ fn refusals(rt: HostRuntime) -> Result<(), Fail> {
     Ok(())
 }
 
-// A data entry with the key `ab` and the value 41, written in ledger 50.
+/// A data entry with the key `ab` and the value 41, written in ledger 50.
 const DATA_ENTRY: [&[u8]; 11] = [
     &[0, 0, 0, 50],
     WORD_6,
@@ -137,6 +139,30 @@ fn entries(rt: HostRuntime) -> Result<(), Fail> {
     Ok(())
 }
 
+// A module of 5 bytes, written in ledger 50.
+const CODE_ENTRY: [&[u8]; 6] = [
+    &[0, 0, 0, 50],
+    WORD_7,
+    WORD_0,
+    ID,
+    WORD_5,
+    b"\0asm\x01\0\0\0",
+];
+
+#[test]
+fn records(rt: HostRuntime) -> Result<(), Fail> {
+    let entries: [&[&[u8]]; 2] = [&DATA_ENTRY, &CODE_ENTRY];
+    for entry in entries {
+        let mut bytes = joined(rt.alloc(), entry)?;
+        // which live until ledger 9
+        bytes.extend_from_slice(&joined(rt.alloc(), &[WORD_0, ID, WORD_9])?)?;
+        let record = decode::<LedgerRecord>(rt.alloc(), &bytes)?;
+        let again = encode(rt.alloc(), &record.clone()?)?;
+        assert_eq!(rt; again.as_slice(), bytes.as_slice());
+    }
+    Ok(())
+}
+
 #[test]
 fn verdicts(rt: HostRuntime) -> Result<(), Fail> {
     let bytes = joined(
@@ -146,10 +172,17 @@ fn verdicts(rt: HostRuntime) -> Result<(), Fail> {
     let verdicts = decode::<Verdicts>(rt.alloc(), &bytes)?;
     assert!(rt; verdicts.holds(&Hash([3; 32]), &Hash([4; 32])));
     assert!(rt; !verdicts.holds(&Hash([1; 32]), &Hash([4; 32])));
+    let again = encode(rt.alloc(), &verdicts)?;
+    assert_eq!(rt; again.as_slice(), bytes.as_slice());
+    let bytes = joined(rt.alloc(), &[&[1; 32], &[2; 32]])?;
+    let verdict = decode::<Verdict>(rt.alloc(), &bytes)?;
+    assert_eq!(rt; verdict.payload, Hash([2; 32]));
+    let again = encode(rt.alloc(), &verdict)?;
+    assert_eq!(rt; again.as_slice(), bytes.as_slice());
     Ok(())
 }
 
-// Of ledger 100 of the network 07 07 .., closed at 1000, with no records.
+/// Of ledger 100 of the network 07 07 .., closed at 1000, with no records.
 const EMPTY_FILE: [u8; 248] = [
     0, 0, 0, 1, 7, 7, 7, 7, 7, 7, 7, 7, 7, 7, 7, 7, 7, 7, 7, 7, 7, 7, 7, 7, 7, 7, 7, 7, 7, 7, 7, 7,
     7, 7, 7, 7, 0, 0, 0, 100, 0, 0, 0, 0, 0, 0, 3, 232, 0, 0, 0, 16, 0, 0, 16, 0, 0, 47, 118, 0, 0,

@@ -8,7 +8,7 @@ use value_types::{Hash, Items};
 use value_xdr::Xdr;
 use xdr_core::{Cursor, NoMemory, Out, ReadXdr, add_sizes};
 
-/// The signature that a key gave for a payload is good.
+/// The signature that a key gave for a payload is good (own).
 #[derive(Debug, PartialEq, Eq)]
 pub struct Verdict {
     /// An ed25519 public key.
@@ -51,7 +51,7 @@ impl Xdr for Verdict {
     ghost lawful = { verdict_lawful };
 }
 
-/// The signatures that are good: the content of a verdicts file.
+/// The signatures that are good: the content of a verdicts file (own).
 #[derive(Drop)]
 pub struct Verdicts {
     /// In any order.

@@ -1,17 +1,17 @@
 -- What is said of bytes is exactly what is so.
-use Rattle.std.proofs.Common.{◌≡◌, ◌+◌, ℕ, Bool, true, false, List, length, Option, Some, None, Result, Ok, Err, refl, sym, ap, ◌∙◌, subst}
+use Rattle.std.proofs.Common.{◌≡◌, ℕ, Bool, true, false, List, Option, Some, None, Result, Ok, Err, refl, sym, ap, ◌∙◌, subst}
 use Rattle.std.specs.Prelude.{◌&&◌, if◌then◌else◌}
 use Rattle.wasm_spec.specs.Binary.{ModuleBytes}
 use Rattle.wasm_spec.specs.Typing.{FunctionTyped, OutsideValid, Typed}
 use Rattle.wasm_spec.specs.declared.module.Module.{Module}
 use Rattle.wasm_read.specs.Reading.{module_at}
 use Rattle.wasm_read.proofs.ModuleLaws.{module_again, module_takes}
-use Rattle.wasm_check.specs.Linking.{ImportLinked, Linked, host_functions, import_ok}
+use Rattle.wasm_check.specs.Linking.{ImportLinked, host_functions, import_ok}
 use Rattle.wasm_check.specs.Outside.{exports_differ, rules_ok}
 use Rattle.wasm_check.proofs.LinkLaws.{same_import}
 use Rattle.wasm_check.proofs.OutsideLaws.{outside_back, outside_on}
 use Rattle.wasm_check.proofs.Passed.{and_true, both_true}
-use Rattle.module_vet.specs.Verdict.{IsExact, IsVerdict, IsVerdictUnlessMemory, GivesVerdict, by_function, by_import, first_failing, function_ok, judged, judged_if, sizes_of, verdict_of}
+use Rattle.module_vet.specs.Verdict.{IsExact, IsVerdict, IsVerdictUnlessMemory, GivesVerdict, by_function, by_import, first_failing, function_ok, judged, judged_if, verdict_of}
 use Rattle.module_vet.specs.declared.Flaw.{Flaw}
 use Rattle.module_vet.specs.declared.Flaw.TheVariants.{NotAModule, Ill, Unlinked}
 use Rattle.module_vet.specs.declared.Sizes.{Sizes}

@@ -1,6 +1,6 @@
 -- A function passes its test exactly where it is typed.
-use Rattle.std.proofs.Common.{◌≡◌, ◌+◌, Bool, true, false, length, Option, Some, None, Err, refl, sym, ◌∙◌}
-use Rattle.std.specs.Prelude.{nat_le, slice_get, is_some, ◌&&◌}
+use Rattle.std.proofs.Common.{◌≡◌, ◌+◌, true, false, length, Option, Some, None, Err, refl}
+use Rattle.std.specs.Prelude.{nat_le, slice_get, is_some}
 use Rattle.std.proofs.lemmas.Bool.{leb-true}
 use Rattle.wasm_spec.specs.declared.types.FuncType.{FuncType}
 use Rattle.wasm_spec.specs.declared.module.Function.{Function}

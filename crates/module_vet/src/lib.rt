@@ -69,7 +69,7 @@ fn judged(alloc: Global, bytes: &[u8]) -> Result<Sizes, VetErr>
     }
 }
 
-// The module that the bytes spell, which is valid.
+/// The module that the bytes spell, which is valid.
 fn valid_module(alloc: Global, bytes: &[u8]) -> Result<ValidModule, VetErr>
     ensures spelled { IfOk result (λ m. ModuleBytes m bytes.now) }
     ensures valid { IfOk result Typed }

@@ -1,16 +1,17 @@
-// What is said of small modules, and of modules with one flaw.
+//! What is said of small modules, and of modules with one flaw.
+
 use super::*;
 use std::test::Fail;
 
 const PREAMBLE: &str = "0061736d01000000";
 
-// A function `f` without parameters that gives 2, before and behind the type of its result.
+/// A function `f` without parameters that gives 2, before and behind the type of its result.
 const BEFORE_TYPE: &str = "0061736d01000000010501600001";
 
 const BEHIND_TYPE: &str = "03020100070501016600000a06010400";
 
-// A function that reads a number, adds 1 to it and writes it again, by two functions of the host: the bytes before the module
-// of the first, behind it, and behind the function's own first opcode.
+/// A function that reads a number, adds 1 to it and writes it again, by two functions of the host: the bytes before the module
+/// of the first, behind it, and behind the function's own first opcode.
 const BUMP: &str = "0061736d0100000001120360027e7e017e60037e7e7e017e6000017e022d0201";
 
 const BUMP_IMPORTS: &str = concat!(
@@ -21,7 +22,7 @@ const BUMP_IMPORTS: &str = concat!(
 
 const BUMP_BODY: &str = "8ece26420110004280808080107c2100428ece262000420110010b";
 
-// The verdicts on modules, whose bytes stand in parts.
+/// The verdicts on modules, whose bytes stand in parts.
 const ROWS: [(&[&str], Result<Sizes, Flaw>); 10] = [
     (
         &[BEFORE_TYPE, "7e", BEHIND_TYPE, "42020b"],

@@ -21,7 +21,7 @@ fn main(rt: HostRuntime) -> ExitCode {
     }
 }
 
-// Reads and writes the set of the file so many times. How many bytes were written last, if they are those of the file.
+/// Reads and writes the set of the file so many times. How many bytes were written last, if they are those of the file.
 fn run<R: Runtime + AllocGlobal>(rt: &R) -> Option<usize> {
     let alloc = rt.alloc();
     let mut words = std::env::args(rt).ok()?.skip(1);

@@ -76,7 +76,7 @@ fn push_stages<'a>(parts: &mut Vec<Part<'a>>, stages: &'a [Stage]) -> Result<(),
     Ok(())
 }
 
-// The lines of stages, numbered from 0.
+/// The lines of stages, numbered from 0.
 fn push_parts(lines: &mut Vec<u8>, parts: &[Part<'_>]) -> Result<(), AllocError>
     ensures { OnOk result (lines.new.items ≡ lines.old.items ++ numbered stage_lines 0 (map part_of parts.now)) }
 {

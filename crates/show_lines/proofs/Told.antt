@@ -4,7 +4,7 @@ use Rattle.std.specs.Prelude.{codes, decimal, min}
 use Rattle.std.specs.FinMap.{entries, len}
 use Rattle.std.specs.List.{flat_map}
 use Rattle.entry_map.specs.Slots.{pairs_of}
-use Rattle.entry_map.specs.declared.search.Slot.{Slot}
+use Rattle.entry_map.specs.declared.slot.Slot.{Slot}
 use Rattle.ledger_file.proofs.Keys.{slots_len}
 use Rattle.ledger_spec.specs.LedgerMap.{LedgerMap}
 use Rattle.ledger_types.specs.declared.header.Header.{Header}

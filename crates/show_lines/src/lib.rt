@@ -10,7 +10,6 @@ ghost use Rattle.value_types.specs.Formats.{scval_format};
 use entry_map::Slot;
 use ledger_file::Ledger;
 use ledger_types::Header;
-use sha2::{Digest, Sha256};
 use std::alloc::{AllocError, Global};
 use text_lines::{push_hex, push_number};
 use value_types::{ScVal, depth};
@@ -61,6 +60,6 @@ fn push_records(alloc: Global, lines: &mut Vec<u8>, slots: &[Slot]) -> Result<()
 fn push_record(alloc: Global, lines: &mut Vec<u8>, slot: &Slot) -> Result<(), AllocError>
     ensures { OnOk result (lines.new.items ≡ lines.old.items ++ record_line (slot.now.key, slot.now.kept)) }
 {
-    push_hex(alloc, lines, &Sha256::digest(slot.key.as_slice()), b" ")?;
+    push_hex(alloc, lines, &slot.key_hash.0, b" ")?;
     push_number(lines, slot.kept.live_until as u64, b"\n")
 }

@@ -28,7 +28,7 @@ fn run<R: Runtime + AllocGlobal + Threads + Sync>(rt: &R) -> Result<Status, Allo
     Ok(status)
 }
 
-// The words behind the program's name. Words that are not text are wrong words.
+/// The words behind the program's name. Words that are not text are wrong words.
 fn words(rt: &(impl Env + AllocGlobal)) -> Result<Vec<Word>, Status> {
     let args = match std::env::args(rt) {
         Ok(args) => args,

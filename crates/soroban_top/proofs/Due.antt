@@ -1,20 +1,17 @@
 -- The status that is due, of what the files spell.
-use Rattle.std.proofs.Common.{◌≡◌, ◌↔◌, ℕ, ◌^◌, List, length, Bool, true, false, Option, Some, None, Result, Ok, Err, refl}
-use Rattle.std.specs.Prelude.{nat_lt, if◌then◌else◌}
+use Rattle.std.proofs.Common.{◌≡◌, ◌↔◌, ℕ, List, Result, Ok, Err, refl}
 use Rattle.std.specs.FinMap.{get}
-use Rattle.base64_text.specs.Text.{bytes_in}
 use Rattle.ledger_types.specs.Verdicts.{verdicts_format, verdicts_lawful}
 use Rattle.ledger_types.specs.declared.verdicts.Verdicts.{Verdicts}
 use Rattle.tx_xdr.specs.Limits.{today}
 use Rattle.tx_xdr.specs.Set.{set_format, set_lawful}
-use Rattle.tx_xdr.specs.declared.set.TxSet.{TxSet}
 use Rattle.xdr_spec.specs.Decoded.{decoded}
 use Rattle.xdr_spec.specs.Format.{IsBytes}
-use Rattle.xdr_spec.specs.Refusal.{Spells, Refuses}
+use Rattle.xdr_spec.specs.Refusal.{Refuses}
 use Rattle.xdr_spec.specs.declared.Why.{Why}
 use Rattle.xdr_spec.specs.declared.XdrErr.{XdrErr}
-use Rattle.xdr_spec.proofs.Decoding.{decoded_refuses, decoded_spells, spells_decoded}
-use Rattle.soroban_top.specs.Judged.{as_bytes, as_verdicts, bytes_of, set_in, set_opened, verdicts_in}
+use Rattle.xdr_spec.proofs.Decoding.{decoded_refuses, spells_decoded}
+use Rattle.soroban_top.specs.Judged.{as_verdicts, set_in, verdicts_in}
 use Rattle.soroban_top.specs.Laws.{DoneLaw, MalformedLaw, VerdictsLaw}
 use Rattle.soroban_top.specs.Outcome.{applied, outputs_of}
 use Rattle.soroban_top.specs.Product.{file}
@@ -22,7 +19,8 @@ use Rattle.soroban_top.specs.Steps.{◌>>=◌, status_of}
 use Rattle.soroban_top.specs.declared.status.Status.{Status}
 use Rattle.soroban_top.specs.declared.status.Status.TheVariants as status
 use Rattle.soroban_top.proofs.Decoding.{refuses_decoded}
-use Rattle.soroban_top.proofs.Statuses.{done_due, malformed_due, spelled_status}
+use Rattle.soroban_top.proofs.Later.{Later, set_file}
+use Rattle.soroban_top.proofs.Statuses.{done_due, malformed_due}
 
 pub malformed_law : MalformedLaw
 unfolding verdicts_in set_in
@@ -37,29 +35,6 @@ done_law a m bytes inputs =
     let given = inputs.before in
     let verdicts = spells_decoded verdicts_format verdicts_lawful inputs.verdicts inputs.bytes inputs.spells in
     rw (given.is_ledger, given.has_verdicts, verdicts, inputs.has_set, inputs.opens) (done_due (set_format today) (set_lawful today) bytes _ inputs.are_bytes)
-
--- what is read after the verdicts is not at fault as they are
-no_verdicts_of_set : {B : Type 0} (r : Result TxSet XdrErr) (f : TxSet → B) (at : ℕ) → spelled_status r f ≡ status.Verdicts at → ⊥
-no_verdicts_of_set (Ok s) f at h = cc
-no_verdicts_of_set (Err e) f at h = cc
-
-no_verdicts_opened : {B : Type 0} (o : Option (List ℕ)) (name : List ℕ) (f : TxSet → B) (at : ℕ) → status_of (as_bytes name o >>= set_in >>= (λ s. Ok (f s))) ≡ status.Verdicts at → ⊥
-unfolding set_in
-no_verdicts_opened None name f at h = cc
-no_verdicts_opened (Some bytes) name f at h = no_verdicts_of_set (decoded (set_format today) bytes) f at h
-
-by_flag : {B : Type 0} (base64 : Bool) (name text : List ℕ) (f : TxSet → B) (at : ℕ) → status_of (set_opened base64 name text >>= (λ s. Ok (f s))) ≡ status.Verdicts at → ⊥
-unfolding set_in
-by_flag false name text f at h = no_verdicts_of_set (decoded (set_format today) text) f at h
-by_flag true name text f at h = no_verdicts_opened (bytes_in text) name f at h
-
-by_length : {B : Type 0} (long base64 : Bool) (name bytes : List ℕ) (f : TxSet → B) (at : ℕ) → status_of ((if long then Err (status.TooLong name) else Ok bytes) >>= set_opened base64 name >>= (λ s. Ok (f s))) ≡ status.Verdicts at → ⊥
-by_length true base64 name bytes f at h = cc
-by_length false base64 name bytes f at h = by_flag base64 name bytes f at h
-
-no_verdicts : {B : Type 0} (found : Option (List ℕ)) (base64 : Bool) (name : List ℕ) (f : TxSet → B) (at : ℕ) → status_of (bytes_of found name >>= set_opened base64 name >>= (λ s. Ok (f s))) ≡ status.Verdicts at → ⊥
-no_verdicts None base64 name f at h = cc
-no_verdicts (Some bytes) base64 name f at h = by_length (nat_lt (2 ^ 30) (length bytes)) base64 name bytes f at h
 
 verdicts_is : {B : Type 0} (r : Result Verdicts XdrErr) (rest : Verdicts → Result B Status) (at : ℕ) → ((v : Verdicts) → status_of (rest v) ≡ status.Verdicts at → ⊥) → status_of (as_verdicts r >>= rest) ≡ status.Verdicts at → (e : XdrErr) × (r ≡ Err e) × (e.at ≡ at)
 verdicts_is (Ok v) rest at none h = absurd (none v h)
@@ -76,4 +51,11 @@ verdicts_due bytes rest at fit none = (
 pub verdicts_law : VerdictsLaw
 unfolding verdicts_in
 verdicts_law a m bytes given at =
-    rw (given.is_ledger, given.has_verdicts) (verdicts_due bytes _ at given.are_bytes (λ v h. no_verdicts (get m a.set) a.base64 a.set (λ s. applied (file 3 a.report) (file 4 a.ledger_out) (outputs_of given.ledger s a.close_time)) at h))
+    let later : Later (λ s. s ≡ status.Verdicts at → ⊥) = record {
+      fault = λ name h. cc;
+      long = λ name h. cc;
+      text = λ name h. cc;
+      malformed = λ place why h. cc;
+      done = λ h. cc;
+    } in
+    rw (given.is_ledger, given.has_verdicts) (verdicts_due bytes _ at given.are_bytes (λ v. set_file _ later (get m a.set) a.base64 a.set (λ s. applied (file 3 a.report) (file 4 a.ledger_out) (outputs_of given.ledger s a.close_time))))

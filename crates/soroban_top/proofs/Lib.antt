@@ -1,5 +1,7 @@
 mod Causes
 mod Decoding
+mod Later
+mod Ledgers
 mod Due
 mod Made
 mod Leaving

@@ -1,12 +1,13 @@
 -- What a set makes of a ledger, from what its run and the writers give.
-use Rattle.std.proofs.Common.{◌≡◌, ℕ, ◌<◌, ◌^◌, List, IsTrue, ◌∙◌, ap, arith}
+use Rattle.std.proofs.Common.{◌≡◌, ℕ, ◌<◌, ◌^◌, List, Option, IsTrue, ◌∙◌, ap, ap₂, arith}
 use borrow.Author.Tests.{ltb-true}
 use Rattle.apply_spec.specs.Outputs.{outputs_after, outputs_with}
-use Rattle.apply_spec.specs.Runs.{Running, new_header}
+use Rattle.apply_spec.specs.Runs.{Running, new_header, success_preimages}
+use Rattle.invoke_types.specs.declared.success.SuccessPreimage.{SuccessPreimage}
 use Rattle.ledger_spec.specs.LedgerFile.{has_next}
 use Rattle.ledger_types.specs.Header.{header_format}
 use Rattle.ledger_types.specs.declared.header.Header.{Header}
-use Rattle.tx_results.specs.Results.{report_bytes}
+use Rattle.tx_results.specs.Report.{report_bytes}
 use Rattle.tx_results.specs.declared.results.ResultSet.{ResultSet}
 use Rattle.tx_results.specs.declared.results.TransactionResultPair.{TransactionResultPair}
 use Rattle.xdr_spec.specs.Format.{number32, number64}
@@ -18,8 +19,10 @@ new_header_fits header close_time fits next small =
     let below : header.seq < 4000000000 = ltb-true header.seq 4000000000 next in
     (fits.0, (omega arith, (small, fits.1.1.1)))
 
-pub report_made : (running : Running) (results : ResultSet) (report : List ℕ) → results.pairs ≡ running.results → report ≡ report_bytes results → report ≡ report_bytes (record { pairs = running.results })
-report_made running results report same is = is ∙ ap (λ pairs. report_bytes (record { pairs = pairs })) same
+pub report_made : (running : Running) (results : ResultSet) (successes : List (Option SuccessPreimage)) (report : List ℕ) → results.pairs ≡ running.results → successes ≡ success_preimages running → report ≡ report_bytes results successes
+    → report ≡ report_bytes (record { pairs = running.results }) (success_preimages running)
+report_made running results successes report same_results same_successes is =
+    is ∙ ap₂ (λ pairs s. report_bytes (record { pairs = pairs }) s) same_results same_successes
 
 pub lines_made : (header given : Header) (running : Running) (pairs : List TransactionResultPair) (report ledger lines : List ℕ) → given ≡ header → pairs ≡ running.results → report ≡ (outputs_after header running).report → ledger ≡ (outputs_after header running).ledger
     → lines ≡ (outputs_with given.seq pairs report ledger).lines → lines ≡ (outputs_after header running).lines

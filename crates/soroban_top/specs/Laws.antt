@@ -1,5 +1,5 @@
 -- What apply comes to, in terms of what the bytes of its files spell (RFC 4506) alone.
-use Rattle.std.specs.Prelude.{◌≡◌, ◌↔◌, ℕ, List, Result, Ok, Some}
+use Rattle.std.specs.Prelude.{◌≡◌, ◌↔◌, ℕ, false, List, Result, Ok, Some}
 use Rattle.command_words.specs.declared.request.ApplyRequest.{ApplyRequest}
 use Rattle.command_words.specs.declared.request.Request.TheVariants.{Apply, Show, Vet}
 use Rattle.command_words.specs.declared.request.ShowKind.{ShowKind}
@@ -7,7 +7,10 @@ use Rattle.command_words.specs.declared.request.ShowKind.TheVariants as kinds
 use Rattle.command_words.specs.declared.request.ShowRequest.{ShowRequest}
 use Rattle.command_words.specs.declared.request.VetRequest.{VetRequest}
 use Rattle.edge_io.specs.Contents.{FileMap}
+use Rattle.ledger_file.specs.FileOf.{IsFileOf}
 use Rattle.ledger_spec.specs.LedgerMap.{LedgerMap}
+use Rattle.ledger_spec.specs.declared.LedgerWhy.TheVariants as ledger_why
+use Rattle.ledger_types.specs.File.{file_format}
 use Rattle.ledger_types.specs.Verdicts.{verdicts_format}
 use Rattle.ledger_types.specs.declared.header.Header.{Header}
 use Rattle.ledger_types.specs.declared.verdicts.Verdicts.{Verdicts}
@@ -28,6 +31,11 @@ use Rattle.soroban_top.specs.Steps.{◌>>=◌}
 use Rattle.soroban_top.specs.Vetted.{as_vetted}
 use Rattle.soroban_top.specs.declared.status.Status.{Status}
 use Rattle.soroban_top.specs.declared.status.Status.TheVariants as status
+
+-- the ledger's file has these bytes
+pub record HasLedgerFile (a : ApplyRequest) (m : FileMap) (bytes : List ℕ) : Type 0 where
+  pub has_ledger : content_of m a.ledger ≡ Ok bytes
+  pub are_bytes : IsBytes bytes
 
 -- the ledger's file is right, and the verdicts' file has these bytes
 pub record HasLedger (a : ApplyRequest) (m : FileMap) (verdicts : List ℕ) : Type 0 where
@@ -50,6 +58,11 @@ pub record HasInputs (a : ApplyRequest) (m : FileMap) (set : List ℕ) : Type 0 
 -- the status that is due of this command
 abbrev pub due_of : ApplyRequest → FileMap → Status
 due_of a m = due (Some (Apply a)) m
+
+-- Ledger is due for want of a spelling exactly where the bytes are refused, at that place, whatever else is wrong.
+abbrev pub LedgerLaw : Type 0
+LedgerLaw = (a : ApplyRequest) (m : FileMap) (bytes : List ℕ) → HasLedgerFile a m bytes → (at : ℕ)
+    → (due_of a m ≡ status.Ledger ledger_why.Xdr at) ↔ ((why : Why) × Refuses file_format bytes at why)
 
 -- Verdicts is due exactly where the bytes are refused, at that place.
 abbrev pub VerdictsLaw : Type 0
@@ -101,6 +114,16 @@ EnvelopeMalformedLaw = ShownMalformed kinds.Envelope (envelope_format whole)
 
 abbrev pub EnvelopeDoneLaw : Type 0
 EnvelopeDoneLaw = ShownDone kinds.Envelope (envelope_format whole)
+
+-- A ledger that is shown is refused for want of a spelling exactly where its bytes are refused, at that place; Done is due
+-- exactly where they are the file of a ledger.
+abbrev pub LedgerShownLaw : Type 0
+LedgerShownLaw = (s : ShowRequest) (m : FileMap) (bytes : List ℕ) → s.kind ≡ kinds.Ledger → HasShown s m bytes → (at : ℕ)
+    → (due_of_show s m ≡ status.Ledger ledger_why.Xdr at) ↔ ((why : Why) × Refuses file_format bytes at why)
+
+abbrev pub LedgerDoneLaw : Type 0
+LedgerDoneLaw = (s : ShowRequest) (m : FileMap) (bytes : List ℕ) → s.kind ≡ kinds.Ledger → HasShown s m bytes
+    → (due_of_show s m ≡ status.Done) ↔ ((header : Header) × (entries : LedgerMap) × IsFileOf false bytes header entries)
 
 abbrev pub ValueMalformedLaw : Type 0
 ValueMalformedLaw = ShownMalformed kinds.Value scval_format

@@ -1,4 +1,5 @@
-// The command apply: a transaction set over a ledger.
+//! The command apply: a transaction set over a ledger.
+
 ghost use Rattle.std.specs.Prelude.{◌≡◌, [], ◌∷◌, IfOk, IfErr, IfSome};
 ghost use Rattle.command_words.specs.declared.request.Request.TheVariants.{Apply as Asked};
 ghost use Rattle.soroban_top.specs.Asked.{reads_of, writes_of};
@@ -10,6 +11,7 @@ ghost use Rattle.soroban_top.specs.Views.{made_of, targets_of};
 
 use crate::judged::{read_ledger, read_set, read_verdicts};
 use crate::outputs::{Outputs, make_outputs};
+use crate::product::{LEDGER, LEDGER_OUT, REPORT, SET, VERDICTS};
 use crate::{FileArg, Product, Status, Store};
 use command_words::ApplyRequest;
 use edge_io::Files;
@@ -29,15 +31,15 @@ pub fn apply<'a, F: Files>(
     ensures steady { F.steady files.old → IfSome (F.contents files.old) (λ m. UnlessFault (status_of (outcome_of (Asked request.now) m))
         (F.steady files.new × SameCounts (F.faults files.old) (F.faults files.new))) }
 {
-    let ledger = read_ledger(alloc, files, 1, &request.ledger)?;
-    let _verdicts = read_verdicts(alloc, files, 2, &request.verdicts)?;
-    let set = read_set(alloc, files, 0, &request.set, request.base64)?;
+    let ledger = read_ledger(alloc, files, LEDGER, &request.ledger)?;
+    let _verdicts = read_verdicts(alloc, files, VERDICTS, &request.verdicts)?;
+    let set = read_set(alloc, files, SET, &request.set, request.base64)?;
     let outputs = make_outputs(alloc, ledger, &set, request.close_time)?;
     let product = product_of(alloc, request, outputs)?;
     Ok(product)
 }
 
-// The report is stored first, then the new ledger.
+/// The report is stored first, then the new ledger.
 fn product_of<'a>(
     alloc: Global,
     request: &'a ApplyRequest,
@@ -48,11 +50,11 @@ fn product_of<'a>(
     ensures targets { IfOk result (λ p. targets_of p.stores.items ≡ writes_of (Asked request.now)) }
 {
     let report = FileArg {
-        option: 3,
+        option: REPORT,
         name: &request.report,
     };
     let ledger_out = FileArg {
-        option: 4,
+        option: LEDGER_OUT,
         name: &request.ledger_out,
     };
     let mut stores = Vec::new(alloc);

@@ -1,26 +1,15 @@
-// Reads a file of a command, and stores what it makes.
+//! Reads a file of a command, and stores what it makes.
+
 ghost use Rattle.std.specs.Prelude.{◌≡◌, [], ◌∷◌, IfOk, IfErr, IfSome};
 ghost use Rattle.soroban_top.specs.Counts.{NoLower, SameCounts, HasCause};
 ghost use Rattle.soroban_top.specs.Judged.{content_of};
 ghost use Rattle.soroban_top.specs.Left.{StoresAll};
 ghost use Rattle.soroban_top.specs.Steps.{Gives, UnlessFault, status_of};
 ghost use Rattle.soroban_top.specs.Views.{file_of, job_of, jobs_of, targets_of};
-ghost use Rattle.soroban_top.specs.declared.status.Status.TheVariants.{NoMemory};
 
 use crate::{FileArg, Status, Store};
-use edge_io::{Blob, EdgeErr, Files, ReadErr, Word, read_whole};
+use edge_io::{Blob, EdgeErr, Files, ReadErr, read_whole};
 use std::alloc::Global;
-
-// The name, so that a fault can tell it.
-fn named(name: &Word) -> Result<Word, Status>
-    ensures ok { IfOk result (λ w. w ≡ name.now) }
-    ensures err { IfErr result (λ e. e ≡ NoMemory) }
-{
-    match name.clone() {
-        Ok(name) => Ok(name),
-        Err(_) => Err(Status::NoMemory),
-    }
-}
 
 /// The bytes of a file.
 pub fn read_file<F: Files>(alloc: Global, files: &mut F, file: &FileArg<'_>) -> Result<Blob, Status>
@@ -31,7 +20,8 @@ pub fn read_file<F: Files>(alloc: Global, files: &mut F, file: &FileArg<'_>) -> 
     ensures steady { F.steady files.old → IfSome (F.contents files.old) (λ m. UnlessFault (status_of (content_of m file.now.name.now))
         (F.steady files.new × SameCounts (F.faults files.old) (F.faults files.new))) }
 {
-    let name = named(file.name)?;
+    // Cloned before the call, so that a fault can tell it.
+    let name = file.name.clone()?;
     match read_whole(alloc, files, file.option, file.name) {
         Ok(blob) => Ok(blob),
         Err(ReadErr::Fault) => Err(Status::Fault { name }),
@@ -40,14 +30,14 @@ pub fn read_file<F: Files>(alloc: Global, files: &mut F, file: &FileArg<'_>) -> 
     }
 }
 
-// Stores the bytes of a file.
+/// Stores the bytes of a file.
 fn store_file<F: Files>(files: &mut F, store: &Store<'_>) -> Result<(), Status>
     ensures left { StoresAll (status_of result) (job_of store.now ∷ []) (F.contents files.old) (F.contents files.new) }
     ensures counts { NoLower (F.faults files.old) (F.faults files.new) }
     ensures cause { IfErr result (HasCause (file_of store.now.file ∷ []) (F.faults files.old) (F.faults files.new)) }
     ensures steady { F.steady files.old → F.steady files.new × SameCounts (F.faults files.old) (F.faults files.new) }
 {
-    let name = named(store.file.name)?;
+    let name = store.file.name.clone()?;
     match files.store(store.file.option, store.file.name, &store.bytes) {
         Ok(()) => Ok(()),
         Err(EdgeErr::Failed) => Err(Status::Fault { name }),

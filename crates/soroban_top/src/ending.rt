@@ -1,4 +1,5 @@
-// The end of every command: its status says its lines.
+//! The end of every command: its status says its lines.
+
 ghost use Rattle.std.specs.Prelude.{◌≡◌, ◌⊎◌, ◌≤◌, ◌++◌};
 ghost use Rattle.edge_io.specs.Counts.{OnFailed, Rose};
 ghost use Rattle.soroban_top.specs.Lines.{Finishes, HasSayCause, IsStatusAfter, SaysLines, ill_line, line_of, name_of, number_of};
@@ -28,7 +29,7 @@ pub fn finish<S: Say>(alloc: Global, came_to: Result<Vec<u8>, Status>, say: &mut
     }
 }
 
-// The status of a command whose lines were said, or not all of them.
+/// The status of a command whose lines were said, or not all of them.
 fn unless_unsaid(alloc: Global, status: Status, said: Result<(), EdgeErr>) -> Status
     ensures { IsStatusAfter said status result }
 {
@@ -41,7 +42,7 @@ fn unless_unsaid(alloc: Global, status: Status, said: Result<(), EdgeErr>) -> St
     }
 }
 
-// Says the line of a status. It takes no memory.
+/// Says the line of a status. It takes no memory.
 fn say_status<S: Say>(say: &mut S, status: &Status) -> Result<(), EdgeErr>
     ensures said { SaysLines result (line_of status.now) (S.text say.old) (S.text say.new) }
     ensures counts { S.faults say.old ≤ S.faults say.new }
@@ -79,7 +80,7 @@ fn say_status<S: Say>(say: &mut S, status: &Status) -> Result<(), EdgeErr>
     }
 }
 
-// Says the line of an ill typed module.
+/// Says the line of an ill typed module.
 fn say_ill<S: Say>(say: &mut S, func: Option<u32>) -> Result<(), EdgeErr>
     ensures said { SaysLines result (ill_line func) (S.text say.old) (S.text say.new) }
     ensures counts { S.faults say.old ≤ S.faults say.new }
@@ -96,7 +97,7 @@ fn say_ill<S: Say>(say: &mut S, func: Option<u32>) -> Result<(), EdgeErr>
     }
 }
 
-// The front of the line with the number of a ledger's reason.
+/// The front of the line with the number of a ledger's reason.
 fn number_of(why: LedgerWhy) -> &'static [u8]
     ensures { result.now ≡ number_of why }
 {
@@ -110,7 +111,7 @@ fn number_of(why: LedgerWhy) -> &'static [u8]
     }
 }
 
-// The end of the line with the name of a reason.
+/// The end of the line with the name of a reason.
 fn name_of(why: Why) -> &'static [u8]
     ensures { result.now ≡ name_of why }
 {
@@ -125,7 +126,7 @@ fn name_of(why: Why) -> &'static [u8]
     }
 }
 
-// Says three parts of a line, one behind another.
+/// Says three parts of a line, one behind another.
 fn say_parts<S: Say>(say: &mut S, before: &[u8], middle: &[u8], after: &[u8]) -> Result<(), EdgeErr>
     ensures said { SaysLines result (before.now ++ middle.now ++ after.now) (S.text say.old) (S.text say.new) }
     ensures counts { S.faults say.old ≤ S.faults say.new }

@@ -1,4 +1,5 @@
-// The files that a command reads: each is read whole and judged.
+//! The files that a command reads: each is read whole and judged.
+
 ghost use Rattle.std.specs.Prelude.{◌≡◌, ◌<◌, ◌+◌, ◌^◌, [], ◌∷◌, IfOk, IfErr, IfSome, IsTrue};
 ghost use Rattle.ledger_spec.specs.LedgerFile.{are_settings, has_next};
 ghost use Rattle.ledger_types.specs.Header.{header_format};
@@ -82,7 +83,7 @@ pub fn read_set<F: Files>(
     set_opened(alloc, base64, name, text.as_slice())
 }
 
-// The set that a file's text spells.
+/// The set that a file's text spells.
 fn set_opened(alloc: Global, base64: bool, name: &Word, text: &[u8]) -> Result<TxSet, Status>
     ensures given { Gives (λ s. s) result (set_opened base64 name.now text.now) }
     ensures fits { IfOk result (set_format today).fits }

@@ -42,6 +42,8 @@ use std::alloc::Global;
 use std::thread::Threads;
 
 /// Does what the words ask for, and says the lines of its status.
+///
+/// The runtime and the gate are for runs on several threads. No run asks them yet.
 pub fn soroban<R: Threads + Sync, F: Files, S: Say, G: Gate + Sync>(
     rt: &R,
     alloc: Global,
@@ -86,7 +88,7 @@ pub fn soroban<R: Threads + Sync, F: Files, S: Say, G: Gate + Sync>(
     finish(alloc, came_to, say)
 }
 
-// Reads, computes and stores. It gives the lines that are to be said, or the status whose line is.
+/// Reads, computes and stores. It gives the lines that are to be said, or the status whose line is.
 fn perform<F: Files>(alloc: Global, words: &[Word], files: &mut F) -> Result<Vec<u8>, Status>
     ensures usage_only { status_of result ≡ Status.Usage → asked_of words.now ≡ None }
     ensures usage { asked_of words.now ≡ None → UnlessFree (status_of result) (status_of result ≡ Status.Usage) }
@@ -103,7 +105,7 @@ fn perform<F: Files>(alloc: Global, words: &[Word], files: &mut F) -> Result<Vec
     run(alloc, &request, files)
 }
 
-// The same of a command.
+/// The same of a command.
 fn run<F: Files>(alloc: Global, request: &Request, files: &mut F) -> Result<Vec<u8>, Status>
     ensures cause { IfErr result (HasCause (files_named (Some request.now)) (F.faults files.old) (F.faults files.new)) }
     ensures given { IfSome (F.contents files.old) (λ m. Gives (λ v. v.items) result (says_of (outcome_of request.now m))) }

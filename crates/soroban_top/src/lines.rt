@@ -1,4 +1,5 @@
-// The lines of a set that was applied.
+//! The lines of a set that was applied.
+
 ghost use Rattle.std.specs.Prelude.{◌≡◌, ◌≤◌, ◌++◌, length, OnOk, IfOk};
 ghost use Rattle.apply_spec.specs.Outputs.{count_line, hash_line, is_success, outputs_with, successes};
 
@@ -55,7 +56,7 @@ fn is_success(outcome: &TransactionOutcome) -> bool
     matches!(outcome, TransactionOutcome::Success(_))
 }
 
-// The SHA-256 of bytes, behind their name.
+/// Appends a name, and the SHA-256 of bytes.
 fn push_hash(
     alloc: Global,
     lines: &mut Vec<u8>,

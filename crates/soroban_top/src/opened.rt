@@ -1,4 +1,5 @@
-// Files that are text in Base64.
+//! Files that are text in Base64.
+
 ghost use Rattle.std.specs.Prelude.{◌≡◌, ℕ, List, true, IfOk, IfErr};
 ghost use Rattle.base64.specs.GeneralPurpose.{IsBytes};
 ghost use Rattle.base64_text.specs.Text.{IsTextOf};

@@ -1,4 +1,5 @@
-// What a set makes of a ledger: the report, the new ledger's file, and the lines.
+//! What a set makes of a ledger: the report, the new ledger's file, and the lines.
+
 ghost use Rattle.std.specs.Prelude.{◌≡◌, IfOk, IsTrue};
 ghost use Rattle.ledger_spec.specs.LedgerFile.{are_settings, has_next};
 ghost use Rattle.ledger_types.specs.Header.{header_format};
@@ -40,7 +41,8 @@ pub fn make_outputs(
     ensures lines { IfOk result (λ o. o.lines.items ≡ (outputs_of (seen ledger) set.now close_time).lines) }
 {
     let applied = apply_set(alloc, ledger, set, close_time)?;
-    let report = write_report(alloc, &applied.results)?.into_vec();
+    let successes = applied.successes.as_slice();
+    let report = write_report(alloc, &applied.results, successes)?.into_vec();
     let ledger = write_ledger(alloc, &applied.ledger)?.into_vec();
     let seq = applied.ledger.header.seq;
     let lines = lines(

@@ -1,4 +1,5 @@
-// What the words ask for.
+//! What the words ask for.
+
 ghost use Rattle.std.specs.Prelude.{◌≡◌, IfOk, IfErr, IfSome};
 ghost use Rattle.command_words.specs.Words.{asked_of};
 ghost use Rattle.soroban_top.specs.Asked.{reads_of, writes_of};

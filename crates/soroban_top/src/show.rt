@@ -1,4 +1,5 @@
-// The command show: what a file spells.
+//! The command show: what a file spells.
+
 ghost use Rattle.std.specs.Prelude.{◌≡◌, [], ◌∷◌, IfOk, IfErr, IfSome, MatchResult};
 ghost use Rattle.command_words.specs.declared.request.Request.TheVariants.{Show as Asked};
 ghost use Rattle.command_words.specs.declared.request.ShowKind.TheVariants as kinds;
@@ -12,6 +13,7 @@ ghost use Rattle.soroban_top.specs.declared.status.Status.TheVariants.{NoMemory}
 
 use crate::drive::read_file;
 use crate::opened::open_text;
+use crate::product::ONLY_FILE;
 use crate::spelled::{envelope_in, ledger_in, set_in, value_in};
 use crate::{FileArg, Product, Status};
 use command_words::{ShowKind, ShowRequest};
@@ -35,7 +37,7 @@ pub fn show<'a, F: Files>(
         (F.steady files.new × SameCounts (F.faults files.old) (F.faults files.new))) }
 {
     let file = FileArg {
-        option: 0,
+        option: ONLY_FILE,
         name: &request.file,
     };
     let text = read_file(alloc, files, &file)?;
@@ -52,7 +54,7 @@ pub fn show<'a, F: Files>(
     })
 }
 
-// The lines of what a file's text spells.
+/// The lines of what a file's text spells.
 fn shown_opened(
     alloc: Global,
     base64: bool,

@@ -1,4 +1,5 @@
-// What a file's bytes spell, of those files that are shown.
+//! What a file's bytes spell, of those files that are shown.
+
 ghost use Rattle.std.specs.Prelude.{IfOk, IfErr};
 ghost use Rattle.tx_xdr.specs.Limits.{whole};
 ghost use Rattle.tx_xdr.specs.Set.{set_format};
@@ -34,6 +35,7 @@ pub fn set_in(alloc: Global, bytes: &[u8]) -> Result<TxSet, Status>
     }
 }
 
+/// The envelope that these bytes spell; otherwise the status is that of their refusal.
 #[tactic(auto, unfolding(crate::specs::Shown::any_envelope_in))]
 pub fn envelope_in(alloc: Global, bytes: &[u8]) -> Result<Envelope, Status>
     ensures given { Gives (λ e. e) result (any_envelope_in bytes.now) }
@@ -65,6 +67,7 @@ pub fn ledger_in(alloc: Global, bytes: &[u8]) -> Result<Ledger, Status>
     }
 }
 
+/// The value that these bytes spell; otherwise the status is that of their refusal.
 #[tactic(auto, unfolding(crate::specs::Shown::value_in))]
 pub fn value_in(alloc: Global, bytes: &[u8]) -> Result<ScVal, Status>
     ensures given { Gives (λ v. v) result (value_in bytes.now) }

@@ -1,4 +1,5 @@
-// How a command ends.
+//! How a command ends.
+
 ghost use Rattle.std.specs.Prelude.{◌≡◌};
 ghost use Rattle.soroban_top.specs.declared.status.Status.TheVariants.{NoMemory as OutOfMemory};
 

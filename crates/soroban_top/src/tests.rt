@@ -1,5 +1,6 @@
-// Commands over files in memory: their stores and lines, their refusals, and each call that fails. Hashes are those of the
-// bytes of the formats, as another program computes them.
+//! Commands over files in memory: their stores and lines, their refusals, and each call that fails. Hashes are those of the
+//! bytes of the formats, as another program computes them.
+
 mod failed;
 mod told;
 
@@ -30,7 +31,7 @@ const NETWORK: &str = "070707070707070707070707070707070707070707070707070707070
 
 const ZEROS: &str = "0000000000000000000000000000000000000000000000000000000000000000";
 
-// Lives, memory, and the terms of the eleven kinds of work.
+/// Lives, memory, and the terms of the eleven kinds of work.
 const SETTINGS: &str = concat!(
     "0000001000001000002f76000000000002800000",
     "00000001000000000000000000000000",
@@ -46,14 +47,14 @@ const SETTINGS: &str = concat!(
     "00000064000000000000000000000000",
 );
 
-// The key of a contract's persistent data `ab`.
+/// The key of a contract's persistent data `ab`.
 const KEY: &str = concat!(
     "0000000600000001",
     "0000000000000000000000000000000000000000000000000000000000000005",
     "0000000f000000026162000000000001",
 );
 
-// The entry of that key up to its value, and its record from the SHA-256 of the key on.
+/// The entry of that key up to its value, and its record from the SHA-256 of the key on.
 const ENTRY: &str = concat!(
     "00000032000000060000000000000001",
     "0000000000000000000000000000000000000000000000000000000000000005",
@@ -62,10 +63,10 @@ const ENTRY: &str = concat!(
 
 const KEY_HASH: &str = "0af171fdfff9cf383eb6e8c1559f7cc71747f3ee54c5b8b7e66cf976aa6df1b4";
 
-// 41 as U32, and the end of the entry.
+/// 41 as U32, and the end of the entry.
 const VALUE: &str = "000000030000002900000000";
 
-// A set of one cluster with one operation. Its body stands at 128.
+/// A set of one cluster with one operation. Its body stands at 128.
 const SET: [&str; 8] = [
     "00000001",
     ZEROS,
@@ -85,7 +86,7 @@ const SOURCE: &str = concat!(
 
 const EXTEND_BY_500: &str = "0000001900000000000001f4";
 
-// A set whose operation is a payment, up to its body.
+/// A set whose operation is a payment, up to its body.
 const PAYMENT: [&str; 5] = [
     "00000001",
     ZEROS,
@@ -96,7 +97,7 @@ const PAYMENT: [&str; 5] = [
 
 const NO_PHASES: [&str; 3] = ["00000001", ZEROS, "00000000"];
 
-// Ledgers 100 and 101 up to their count of records, and one record that lives until 200 or until 601.
+/// Ledgers 100 and 101 up to their count of records, and one record that lives until 200 or until 601.
 const LEDGER: [&str; 9] = [
     "00000001",
     NETWORK,
@@ -133,7 +134,7 @@ const MINUS_ONE: [&str; 9] = [
     "000000c8",
 ];
 
-// Two records of one key.
+/// Two records of one key.
 const TWICE: [&str; 13] = [
     "00000001",
     NETWORK,
@@ -163,7 +164,7 @@ const EXTENDED: &str = concat!(
     "ledger 97eec9cea4115635260fe752ec738190fbf0b131118f7c4b0529ece351390095\n",
 );
 
-// What is said of a set without phases, over the ledgers with 41, with -1 and with 99 vecs.
+/// What is said of a set without phases, over the ledgers with 41, with -1 and with 99 vecs.
 const UNCHANGED: &str = concat!(
     "ledger 101: 0 transactions, 0 succeeded, 0 failed\n",
     "report df3f619804a92fdb4057192dc43dd748ea778adc52bc498ce80524c014b81119\n",
@@ -182,7 +183,7 @@ const UNCHANGED_DEEPEST: &str = concat!(
     "ledger 24a1692dd570f51d4e5f11cc6d2a061be8eca4bba0754e68b1981476f7b6e8d5\n",
 );
 
-// A command with one other word, over these files. A file without parts is missing.
+/// A command with one other word, over these files. A file without parts is missing.
 #[derive(Clone, Copy)]
 struct Case<'a> {
     place: usize,
@@ -200,7 +201,7 @@ const EXTENSION: Case<'static> = Case {
     verdicts: &NO_VERDICTS,
 };
 
-// What a case came to.
+/// What a case came to.
 #[derive(Drop)]
 struct Ran {
     status: Status,
@@ -208,7 +209,7 @@ struct Ran {
     say: MemSay,
 }
 
-// The bytes of hex digits, part after part.
+/// The bytes of hex digits, part after part.
 fn bytes(alloc: Global, parts: &[&str]) -> Result<Vec<u8>, Fail> {
     let mut all = Vec::new(alloc);
     for part in parts {
@@ -236,7 +237,7 @@ fn words(alloc: Global, place: usize, other: &str) -> Result<Vec<Word>, AllocErr
     Ok(words)
 }
 
-// What a case comes to, where the calls of these numbers fail.
+/// What a case comes to, where the calls of these numbers fail.
 fn run(
     rt: &(impl Threads + Sync),
     alloc: Global,
@@ -254,13 +255,13 @@ fn run(
     Ok(Ran { status, files, say })
 }
 
-// Whether a file has the bytes of these parts.
+/// Whether a file has the bytes of these parts.
 fn has(alloc: Global, files: &MemFiles, name: &str, parts: &[&str]) -> Result<bool, Fail> {
     let wanted = bytes(alloc, parts)?;
     Ok(files.bytes(&word(alloc, name)?) == Some(wanted.as_slice()))
 }
 
-// How many bytes a file has, 0 where it is missing.
+/// How many bytes a file has, 0 where it is missing.
 fn length(alloc: Global, files: &MemFiles, name: &str) -> Result<usize, Fail> {
     let name = word(alloc, name)?;
     match files.bytes(&name) {
@@ -269,7 +270,7 @@ fn length(alloc: Global, files: &MemFiles, name: &str) -> Result<usize, Fail> {
     }
 }
 
-// A failure of the call after the last one, of each kind, is never met.
+/// A failure of the call after the last one, of each kind, is never met.
 #[test]
 fn extends(rt: HostRuntime) -> Result<(), Fail> {
     let alloc = rt.alloc();
@@ -287,7 +288,7 @@ fn extends(rt: HostRuntime) -> Result<(), Fail> {
     Ok(())
 }
 
-// VOID in a hundred vecs but one, or in a hundred, in the place of the value.
+/// VOID in a hundred vecs but one, or in a hundred, in the place of the value.
 fn deep(alloc: Global, count: usize) -> Result<Vec<&'static str>, AllocError> {
     let mut parts = Vec::from_slice(alloc, &LEDGER[..6])?;
     for _ in 0..count {
@@ -345,7 +346,7 @@ const IDLE: Case<'static> = Case {
     verdicts: &NO_VERDICTS,
 };
 
-// Sets without phases, and refusals: the code, the lines and the case.
+/// Sets without phases, and refusals: the code, the lines and the case.
 const ROWS: [(u8, &str, Case<'static>); 12] = [
     (0, UNCHANGED, IDLE),
     (
@@ -464,6 +465,8 @@ fn calls_fail(rt: HostRuntime) -> Result<(), Fail> {
         assert_eq!(rt; ran.status.code(), 4);
         assert_eq!(rt; length(alloc, &ran.files, "report")?, report);
         assert_eq!(rt; length(alloc, &ran.files, "next")?, next);
+        // The report was stored whole before the store of the ledger failed.
+        assert!(rt; report < 72 || has(alloc, &ran.files, "report", &[REPORT])?);
     }
     Ok(())
 }
@@ -482,7 +485,7 @@ fn lines_fail(rt: HostRuntime) -> Result<(), Fail> {
     Ok(())
 }
 
-// Files of zeros without an end.
+/// Files of zeros without an end.
 #[derive(Drop)]
 struct Endless;
 

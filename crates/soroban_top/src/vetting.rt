@@ -1,4 +1,5 @@
-// The command vet: whether the host takes a WebAssembly module.
+//! The command vet: whether the host takes a WebAssembly module.
+
 ghost use Rattle.std.specs.Prelude.{◌≡◌, [], ◌∷◌, IfOk, IfErr, IfSome};
 ghost use Rattle.command_words.specs.declared.request.Request.TheVariants.{Vet as Asked};
 ghost use Rattle.soroban_top.specs.Asked.{reads_of, writes_of};
@@ -9,6 +10,7 @@ ghost use Rattle.soroban_top.specs.Vetted.{flaw_status, vetted};
 ghost use Rattle.soroban_top.specs.Views.{made_of, targets_of};
 
 use crate::drive::read_file;
+use crate::product::ONLY_FILE;
 use crate::{FileArg, Product, Status};
 use command_words::VetRequest;
 use edge_io::Files;
@@ -30,7 +32,7 @@ pub fn vet<'a, F: Files>(
         (F.steady files.new × SameCounts (F.faults files.old) (F.faults files.new))) }
 {
     let module_file = FileArg {
-        option: 0,
+        option: ONLY_FILE,
         name: &request.module_file,
     };
     let bytes = read_file(alloc, files, &module_file)?;

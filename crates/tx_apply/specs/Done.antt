@@ -1,4 +1,4 @@
--- What the code answers, as what the meaning of a transaction gives.
+-- What the code answers, as what the meaning of a transaction gives (own).
 use Rattle.tx_apply.specs.declared.transaction.TxDone.{TxDone}
 use Rattle.apply_spec.specs.Enforced.{Enforced}
 

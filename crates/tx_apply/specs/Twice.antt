@@ -1,4 +1,4 @@
--- Bytes that stand twice in a list.
+-- Bytes that stand twice in a list (own).
 use Rattle.std.specs.Prelude.{ℕ, Vec, Bool, false, ◌||◌, List, [], ◌∷◌, map}
 use Rattle.std.specs.List.{list_any}
 use Rattle.std.specs.Str.{bytes_eq}

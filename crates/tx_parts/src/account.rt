@@ -17,6 +17,7 @@ pub enum CryptoKeyType {
 }
 
 impl CryptoKeyType {
+    /// The constant of this number, if there is one (RFC 4506, section 4.3).
     pub fn from_number(number: u32) -> Option<CryptoKeyType>
         ensures { result ≡ kind_of number }
     {
@@ -27,6 +28,7 @@ impl CryptoKeyType {
         }
     }
 
+    /// Its number (RFC 4506, section 4.3).
     pub fn number(self) -> u32
         ensures { result ≡ number self }
     {
@@ -83,6 +85,7 @@ impl Clone for MuxedAccount {
 impl Copy for MuxedAccount {}
 
 impl MuxedAccount {
+    /// Which arm it is (RFC 4506, section 4.15).
     pub fn kind(self) -> CryptoKeyType
         ensures { result ≡ kind self }
     {

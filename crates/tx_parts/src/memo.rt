@@ -20,6 +20,7 @@ pub enum MemoType {
 }
 
 impl MemoType {
+    /// The constant of this number, if there is one (RFC 4506, section 4.3).
     pub fn from_number(number: u32) -> Option<MemoType>
         ensures { result ≡ kind_of number }
     {
@@ -33,6 +34,7 @@ impl MemoType {
         }
     }
 
+    /// Its number (RFC 4506, section 4.3).
     pub fn number(self) -> u32
         ensures { result ≡ number self }
     {
@@ -86,6 +88,7 @@ pub enum Memo {
 }
 
 impl Memo {
+    /// Which arm it is (RFC 4506, section 4.15).
     pub fn kind(&self) -> MemoType
         ensures { result ≡ kind self.now }
     {

@@ -77,6 +77,7 @@ pub enum PreconditionType {
 }
 
 impl PreconditionType {
+    /// The constant of this number, if there is one (RFC 4506, section 4.3).
     pub fn from_number(number: u32) -> Option<PreconditionType>
         ensures { result ≡ kind_of number }
     {
@@ -88,6 +89,7 @@ impl PreconditionType {
         }
     }
 
+    /// Its number (RFC 4506, section 4.3).
     pub fn number(self) -> u32
         ensures { result ≡ number self }
     {
@@ -135,6 +137,7 @@ pub enum Preconditions {
 }
 
 impl Preconditions {
+    /// Which arm it is (RFC 4506, section 4.15).
     pub fn kind(&self) -> PreconditionType
         ensures { result ≡ kind self.now }
     {

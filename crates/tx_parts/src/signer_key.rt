@@ -19,6 +19,7 @@ pub enum SignerKeyType {
 }
 
 impl SignerKeyType {
+    /// The constant of this number, if there is one (RFC 4506, section 4.3).
     pub fn from_number(number: u32) -> Option<SignerKeyType>
         ensures { result ≡ kind_of number }
     {
@@ -31,6 +32,7 @@ impl SignerKeyType {
         }
     }
 
+    /// Its number (RFC 4506, section 4.3).
     pub fn number(self) -> u32
         ensures { result ≡ number self }
     {
@@ -81,6 +83,7 @@ pub enum SignerKey {
 }
 
 impl SignerKey {
+    /// Which arm it is (RFC 4506, section 4.15).
     pub fn kind(&self) -> SignerKeyType
         ensures { result ≡ kind self.now }
     {

@@ -1,8 +1,7 @@
--- What becomes of transactions (XDR files Stellar-transaction and Stellar-ledger, `TransactionResultSet` and what it holds), and the report (own).
-use Rattle.std.specs.Prelude.{◌≡◌, ◌<◌, ◌^◌, ◌++◌, ℕ, ℤ, false, List, [], ◌∷◌, Option, Some, None}
-use Rattle.std.specs.List.{flat_map}
+-- What becomes of transactions (XDR files Stellar-transaction and Stellar-ledger, `TransactionResultSet` and what it holds).
+use Rattle.std.specs.Prelude.{◌≡◌, ◌<◌, ◌^◌, ℕ, ℤ, List, [], ◌∷◌, Option, Some, None}
 use Rattle.std.proofs.Common.{refl, ap, arith}
-use Rattle.xdr_spec.specs.Format.{Format, via, pair, list, arm, nothing, union, enumeration, find_kind, signed64, boolean}
+use Rattle.xdr_spec.specs.Format.{Format, via, pair, list, arm, nothing, union, enumeration, find_kind, signed64}
 use Rattle.xdr_spec.specs.Laws.{IsFormat}
 use Rattle.xdr_spec.proofs.Pairs.{pair_lawful, nothing_lawful}
 use Rattle.xdr_spec.proofs.Remade.{via_lawful, arm_lawful, arm_kind}
@@ -179,8 +178,3 @@ result_set_format = via result_set_of pairs_of (list 4294967295 pair_format)
 pub result_set_lawful : IsFormat result_set_format
 unfolding result_set_format
 result_set_lawful = via_lawful result_set_of pairs_of _ (λ pairs. refl) (λ results. refl) (list_lawful _ _ pair_format_lawful)
-
--- ---- the report (own): the result set, and for each transaction whether a success preimage follows, which none does today
-
-abbrev pub report_bytes : ResultSet → List ℕ
-report_bytes results = result_set_format.spell results ++ flat_map (λ _. boolean.spell false) results.pairs

@@ -20,6 +20,7 @@ pub enum InvokeResultCode {
 }
 
 impl InvokeResultCode {
+    /// The constant of this number, if there is one (RFC 4506, section 4.3).
     pub fn from_number(number: u32) -> Option<InvokeResultCode>
         ensures { result ≡ invoke_of_number number }
     {
@@ -33,6 +34,7 @@ impl InvokeResultCode {
         }
     }
 
+    /// Its number (RFC 4506, section 4.3).
     pub fn number(self) -> u32
         ensures { result ≡ invoke_number self }
     {
@@ -56,6 +58,7 @@ pub enum ExtendResult {
 }
 
 impl ExtendResult {
+    /// The constant of this number, if there is one (RFC 4506, section 4.3).
     pub fn from_number(number: u32) -> Option<ExtendResult>
         ensures { result ≡ extend_of_number number }
     {
@@ -66,6 +69,7 @@ impl ExtendResult {
         }
     }
 
+    /// Its number (RFC 4506, section 4.3).
     pub fn number(self) -> u32
         ensures { result ≡ extend_number self }
     {
@@ -86,6 +90,7 @@ pub enum InnerKind {
 }
 
 impl InnerKind {
+    /// The constant of this number, if there is one (RFC 4506, section 4.3).
     pub fn from_number(number: u32) -> Option<InnerKind>
         ensures { result ≡ inner_of_number number }
     {
@@ -96,6 +101,7 @@ impl InnerKind {
         }
     }
 
+    /// Its number (RFC 4506, section 4.3).
     pub fn number(self) -> u32
         ensures { result ≡ inner_number self }
     {
@@ -116,6 +122,7 @@ pub enum OperationResultCode {
 }
 
 impl OperationResultCode {
+    /// The constant of this number, if there is one (RFC 4506, section 4.3).
     pub fn from_number(number: u32) -> Option<OperationResultCode>
         ensures { result ≡ operation_of_number number }
     {
@@ -126,6 +133,7 @@ impl OperationResultCode {
         }
     }
 
+    /// Its number (RFC 4506, section 4.3).
     pub fn number(self) -> u32
         ensures { result ≡ operation_number self }
     {
@@ -156,6 +164,7 @@ pub enum TransactionResultCode {
 }
 
 impl TransactionResultCode {
+    /// The constant of this number, if there is one (RFC 4506, section 4.3).
     pub fn from_number(number: u32) -> Option<TransactionResultCode>
         ensures { result ≡ code_of_number number }
     {
@@ -171,6 +180,7 @@ impl TransactionResultCode {
         }
     }
 
+    /// Its number (RFC 4506, section 4.3).
     pub fn number(self) -> u32
         ensures { result ≡ code_number self }
     {

@@ -18,6 +18,7 @@ pub enum InvokeResult {
 }
 
 impl InvokeResult {
+    /// Which arm it is (RFC 4506, section 4.15).
     pub fn code(&self) -> InvokeResultCode
         ensures { result ≡ invoke_code_of self.now }
     {
@@ -39,6 +40,7 @@ pub enum InnerResult {
 }
 
 impl InnerResult {
+    /// Which arm it is (RFC 4506, section 4.15).
     pub fn kind(&self) -> InnerKind
         ensures { result ≡ inner_kind_of self.now }
     {
@@ -57,6 +59,7 @@ pub enum OperationResult {
 }
 
 impl OperationResult {
+    /// Which arm it is (RFC 4506, section 4.15).
     pub fn code(&self) -> OperationResultCode
         ensures { result ≡ operation_code_of self.now }
     {

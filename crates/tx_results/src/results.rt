@@ -20,6 +20,7 @@ pub enum TransactionOutcome {
 }
 
 impl TransactionOutcome {
+    /// Which arm it is (RFC 4506, section 4.15).
     pub fn code(&self) -> TransactionResultCode
         ensures { result ≡ code_of self.now }
     {

@@ -1,4 +1,7 @@
+//! Results by the XDR files, as words, and the report.
+
 use crate::{ResultSet, write_report, write_results};
+use invoke_types::SuccessPreimage;
 use std::alloc::{AllocError, Global};
 use std::test::Fail;
 use value_xdr::decode;
@@ -43,6 +46,7 @@ fn set_of(alloc: Global, outcome: &[u32]) -> Result<Vec<u8>, AllocError> {
 }
 
 #[test]
+#[tactic(auto, unfolding(xdr_spec::specs::Format::optional))]
 fn reads_and_writes(rt: HostRuntime) -> Result<(), Fail> {
     let alloc = rt.alloc();
     for outcome in OUTCOMES {
@@ -51,9 +55,27 @@ fn reads_and_writes(rt: HostRuntime) -> Result<(), Fail> {
         let written = write_results(alloc, &results)?;
         assert_eq!(rt; written.as_slice(), bytes.as_slice());
         bytes.extend_from_slice(&[0; 4])?;
-        let written = write_report(alloc, &results)?;
+        assert_eq!(rt; results.pairs.as_slice().len(), 1);
+        let written = write_report(alloc, &results, &[None])?;
         assert_eq!(rt; written.as_slice(), bytes.as_slice());
     }
+    Ok(())
+}
+
+#[test]
+#[tactic(auto, unfolding(xdr_spec::specs::Format::optional))]
+fn reports_a_success(rt: HostRuntime) -> Result<(), Fail> {
+    let alloc = rt.alloc();
+    let mut bytes = set_of(alloc, &[0, 1, 0, 24, 0, 1, 2, 3, 4, 5, 6, 7, 8])?;
+    let results = decode::<ResultSet>(alloc, &bytes)?;
+    assert_eq!(rt; results.pairs.as_slice().len(), 1);
+    // the value 9, and no events
+    let preimage = [0, 0, 0, 3, 0, 0, 0, 9, 0, 0, 0, 0];
+    let success = decode::<SuccessPreimage>(alloc, &preimage)?;
+    let written = write_report(alloc, &results, &[Some(success)])?;
+    bytes.extend_from_slice(&[0, 0, 0, 1])?;
+    bytes.extend_from_slice(&preimage)?;
+    assert_eq!(rt; written.as_slice(), bytes.as_slice());
     Ok(())
 }
 

@@ -1,10 +1,14 @@
 //! Results written as bytes.
 
-ghost use Rattle.std.specs.Prelude.{IfOk, ◌≡◌};
+ghost use Rattle.std.specs.Prelude.{All, IfOk, length, ◌≡◌};
+ghost use Rattle.xdr_spec.specs.Format.{optional};
 ghost use Rattle.xdr_spec.specs.Refusal.{Spells};
-ghost use Rattle.tx_results.specs.Results.{result_set_format, report_bytes};
+ghost use Rattle.invoke_types.specs.Success.{success_format};
+ghost use Rattle.tx_results.specs.Results.{result_set_format};
+ghost use Rattle.tx_results.specs.Report.{report_bytes};
 
 use crate::results::ResultSet;
+use invoke_types::SuccessPreimage;
 use std::alloc::Global;
 use value_types::Blob;
 use value_xdr::Xdr;
@@ -20,16 +24,22 @@ pub fn write_results(alloc: Global, results: &ResultSet) -> Result<Blob, NoMemor
     Ok(Blob::from_vec(out.into_vec()))
 }
 
-/// The report (own): the results, and for each transaction whether a success preimage follows, which none does today.
-#[tactic(auto, unfolding(xdr_spec::specs::Format::boolean))]
-pub fn write_report(alloc: Global, results: &ResultSet) -> Result<Blob, NoMemory>
-    requires { result_set_format.fits results.now }
-    ensures { IfOk result (λ bytes. bytes ≡ report_bytes results.now) }
+/// The report (own): the results, and for each what the call of a contract gave, where the transaction made one and it
+/// ended well.
+pub fn write_report(
+    alloc: Global,
+    results: &ResultSet,
+    successes: &[Option<SuccessPreimage>],
+) -> Result<Blob, NoMemory>
+    requires results { result_set_format.fits results.now }
+    requires successes { All (λ success. (optional success_format).fits success) successes.now }
+    requires each { length successes.now ≡ length results.now.pairs }
+    ensures { IfOk result (λ bytes. bytes ≡ report_bytes results.now successes.now) }
 {
     let mut out = Out::new(alloc);
     results.write(&mut out)?;
-    for _pair in results.pairs.as_slice() {
-        out.put_boolean(false)?;
+    for success in successes {
+        success.write(&mut out)?;
     }
     Ok(Blob::from_vec(out.into_vec()))
 }

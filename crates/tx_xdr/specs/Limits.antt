@@ -1,4 +1,4 @@
--- How wide the grammar of sets is. The grammar is one, and this is its parameter.
+-- How wide the grammar of sets is (own). The grammar is one, and this is its parameter.
 use Rattle.std.specs.Prelude.{Bool, true, false}
 use Rattle.tx_xdr.specs.declared.limits.Limits.{Limits}
 use Rattle.tx_xdr.specs.declared.transaction.OperationType.{OperationType}

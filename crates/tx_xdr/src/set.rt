@@ -9,6 +9,7 @@ use value_types::{Hash, Items};
 /// Transactions that run one after the other, in a phase of such (`TxSetComponent`, of type 0).
 #[derive(Drop)]
 pub struct Component {
+    /// What each operation pays, in stroops, where it is less than was offered.
     pub base_fee: Option<i64>,
     pub envelopes: Items<Envelope, 4294967295>,
 }
@@ -33,6 +34,7 @@ pub enum PhaseType {
 }
 
 impl PhaseType {
+    /// The constant of this number, if there is one (RFC 4506, section 4.3).
     pub fn from_number(number: u32) -> Option<PhaseType>
         ensures { result ≡ phase_type_of number }
     {
@@ -43,6 +45,7 @@ impl PhaseType {
         }
     }
 
+    /// Its number (RFC 4506, section 4.3).
     pub fn number(self) -> u32
         ensures { result ≡ phase_number self }
     {
@@ -66,6 +69,7 @@ pub enum Phase {
 }
 
 impl Phase {
+    /// Which arm it is (RFC 4506, section 4.15).
     pub fn phase_type(&self) -> PhaseType
         ensures { result ≡ phase_type self.now }
     {

@@ -3,11 +3,14 @@ ghost use Rattle.tx_xdr.specs.Limits.{whole, today};
 ghost use Rattle.tx_xdr.specs.Transaction.{transaction_format};
 ghost use Rattle.tx_xdr.specs.Set.{set_format};
 
-use crate::{Transaction, TxSet, read_envelope, read_set, read_set_today, tx_hash};
+use crate::{
+    Cluster, Component, Envelope, Operation, OperationBody, Phase, Stage, Transaction, TxSet,
+    read_envelope, read_set, read_set_today, tx_hash,
+};
 use std::alloc::{AllocError, Global};
 use std::test::Fail;
 use value_types::Hash;
-use value_xdr::{Xdr, encode};
+use value_xdr::{Xdr, decode, encode};
 use xdr_core::{ReadXdr, Why, XdrErr};
 
 /// A set of one transaction that extends the life of one data entry by 500 ledgers, as words.
@@ -181,6 +184,34 @@ fn reads_envelopes(rt: HostRuntime) -> Result<(), Fail> {
     assert_eq!(rt; again.as_slice(), bytes.as_slice());
     let empty = read_envelope(alloc, &[]);
     assert_eq!(rt; empty.err(), bad(0, Why::End));
+    Ok(())
+}
+
+/// Whether the words, joined, are the spelling of a value, which is as long as its size says.
+fn spell<T: Xdr + Drop>(alloc: Global, parts: &[&[u32]]) -> Result<bool, Fail> {
+    let mut bytes = Vec::new(alloc);
+    for words in parts {
+        bytes.extend_from_slice(&bytes_of(alloc, words)?)?;
+    }
+    let value = decode::<T>(alloc, &bytes)?;
+    let again = encode(alloc, &value)?;
+    Ok(again.as_slice() == bytes.as_slice() && value.size() == bytes.len() as u64)
+}
+
+#[test]
+fn reads_each_part(rt: HostRuntime) -> Result<(), Fail> {
+    let alloc = rt.alloc();
+    assert!(rt; spell::<OperationBody>(alloc, &[&INVOCATION])?);
+    assert!(rt; spell::<OperationBody>(alloc, &[&SET[32..35]])?);
+    assert!(rt; spell::<Operation>(alloc, &[&SET[31..35]])?);
+    assert!(rt; spell::<Transaction>(alloc, &[&SET[16..58]])?);
+    assert!(rt; spell::<Envelope>(alloc, &[&RESTORATION])?);
+    assert!(rt; spell::<Cluster>(alloc, &[&SET[14..]])?);
+    assert!(rt; spell::<Stage>(alloc, &[&SET[13..]])?);
+    assert!(rt; spell::<Component>(alloc, &[&[0, 1, 0, 100, 1], &RESTORATION])?);
+    assert!(rt; spell::<Phase>(alloc, &[&[0, 1, 0, 1, 0, 100, 1], &RESTORATION])?);
+    assert!(rt; spell::<Phase>(alloc, &[&SET[10..]])?);
+    assert!(rt; spell::<TxSet>(alloc, &[&SET])?);
     Ok(())
 }
 

@@ -19,6 +19,7 @@ pub enum OperationType {
 }
 
 impl OperationType {
+    /// The constant of this number, if there is one (RFC 4506, section 4.3).
     pub fn from_number(number: u32) -> Option<OperationType>
         ensures { result ≡ operations.type_of number }
     {
@@ -30,6 +31,7 @@ impl OperationType {
         }
     }
 
+    /// Its number (RFC 4506, section 4.3).
     pub fn number(self) -> u32
         ensures { result ≡ operations.number self }
     {
@@ -59,6 +61,7 @@ pub enum OperationBody {
 }
 
 impl OperationBody {
+    /// Which arm it is (RFC 4506, section 4.15).
     pub fn kind(&self) -> OperationType
         ensures { result ≡ operations.kind self.now }
     {
@@ -95,6 +98,7 @@ pub struct SorobanData {
     pub disk_read_bytes: u32,
     /// The most bytes of entries that it may write.
     pub write_bytes: u32,
+    /// What it offers for resources, in stroops.
     pub resource_fee: i64,
 }
 
@@ -106,6 +110,7 @@ pub enum TransactionExtType {
 }
 
 impl TransactionExtType {
+    /// The constant of this number, if there is one (RFC 4506, section 4.3).
     pub fn from_number(number: u32) -> Option<TransactionExtType>
         ensures { result ≡ exts.type_of number }
     {
@@ -116,6 +121,7 @@ impl TransactionExtType {
         }
     }
 
+    /// Its number (RFC 4506, section 4.3).
     pub fn number(self) -> u32
         ensures { result ≡ exts.number self }
     {
@@ -136,6 +142,7 @@ pub enum TransactionExt {
 }
 
 impl TransactionExt {
+    /// Which arm it is (RFC 4506, section 4.15).
     pub fn kind(&self) -> TransactionExtType
         ensures { result ≡ exts.kind self.now }
     {
@@ -150,7 +157,9 @@ impl TransactionExt {
 #[derive(Drop)]
 pub struct Transaction {
     pub source: MuxedAccount,
+    /// The most that it offers, in stroops.
     pub fee: u32,
+    /// The sequence number that its source has afterwards.
     pub seq_num: i64,
     pub preconditions: Preconditions,
     pub memo: Memo,

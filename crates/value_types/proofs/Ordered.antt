@@ -8,7 +8,7 @@ use Rattle.std.proofs.lemmas.Bool.Decides.{nat_tests}
 use Rattle.value_types.specs.Datum.{Datum, items_of, members_of}
 use Rattle.value_types.specs.Rows.{executable_row, type_number, items_row, members_row, row}
 use Rattle.value_types.specs.RowLaws.{row-front, executable-front}
-use Rattle.value_types.specs.Views.{datum, datums, datum_pair, datum_pairs, instance_of}
+use Rattle.value_types.specs.Views.{datum, datums, datum_pairs, instance_of}
 use Rattle.value_types.specs.Lawful.{scval-datum}
 use Rattle.value_types.specs.Error.{number as error_number, kind as error_kind, code}
 use Rattle.value_types.specs.Kinds.{number}

@@ -1,4 +1,4 @@
--- What a value is, without where it lies in memory. `size` counts the values that a value is made of.
+-- What a value is, without where it lies in memory (own). `size` counts the values that a value is made of.
 use Rattle.std.specs.Prelude.{ℕ, suc, ◌+◌, Bool, ℤ, List, [], ◌∷◌, Option, Some, None}
 use Rattle.value_types.specs.declared.error.ScError.{ScError}
 use Rattle.value_types.specs.declared.address.ScAddress.{ScAddress}

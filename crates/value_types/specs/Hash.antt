@@ -1,4 +1,4 @@
--- Thirty-two bytes, as they are.
+-- Thirty-two bytes, as they are (`Hash` of Stellar-types.x; RFC 4506 section 4.9).
 use Rattle.std.specs.Prelude.{List, ℕ, refl}
 use Rattle.xdr_spec.specs.Format.{Format, via, fixed_opaque}
 use Rattle.xdr_spec.specs.Laws.{IsFormat}

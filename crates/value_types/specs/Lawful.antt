@@ -1,4 +1,4 @@
--- The formats of values are formats.
+-- The formats of values are formats (own).
 use Rattle.std.proofs.Common.{◌≡◌, ℕ, zero, suc, Bool, ℤ, List, [], ◌∷◌, Option, Some, None, refl, ap}
 use Rattle.xdr_spec.specs.declared.Why.TheVariants.{Depth}
 use Rattle.xdr_spec.specs.Format.{Format, pair, optional, opaque, boolean, number32, number64, signed32, signed64, empty_list, counted}

@@ -1,4 +1,4 @@
--- A value is told from every other one by the row in which it is written out, whatever follows.
+-- A value is told from every other one by the row in which it is written out, whatever follows (own).
 use Rattle.std.specs.Prelude.{◌≡◌, ◌==◌, ℕ, ℤ, pos, Bool, true, false, List, [], ◌∷◌, ◌++◌, Some}
 use Rattle.std.proofs.Common.{refl, ap, ap₂, sym, ◌∙◌, append_assoc}
 use Rattle.std.proofs.lemmas.Bool.{eq-eqb}

@@ -1,4 +1,4 @@
--- The values of the program as plain data.
+-- The values of the program as plain data (own).
 use Rattle.std.specs.Prelude.{List, map, Option, Some, None}
 use Rattle.value_types.specs.Datum.{Datum, boolean, void, error, u32, i32, u64, i64, timepoint, duration, u128, i128, u256, i256, bytes, string, symbol, no_vec, vec, no_map, map as map_of, address, bare_instance, instance, ledger_key_contract_instance, ledger_key_nonce, items_of, members_of, list_of_items, list_of_members}
 use Rattle.value_types.specs.declared.executable.Executable.{Executable}

@@ -15,6 +15,7 @@ pub enum ScAddressType {
 }
 
 impl ScAddressType {
+    /// The constant of this number, if there is one (RFC 4506, section 4.3).
     pub fn from_number(number: u32) -> Option<ScAddressType>
         ensures { result ≡ kind_of number }
     {
@@ -25,6 +26,7 @@ impl ScAddressType {
         }
     }
 
+    /// Its number (RFC 4506, section 4.3).
     pub fn number(self) -> u32
         ensures { result ≡ number self }
     {
@@ -57,6 +59,7 @@ impl Clone for ScAddress {
 impl Copy for ScAddress {}
 
 impl ScAddress {
+    /// Which arm it is (RFC 4506, section 4.15).
     pub fn kind(self) -> ScAddressType
         ensures { result ≡ kind self }
     {

@@ -22,18 +22,21 @@ impl Model for Blob {
 }
 
 impl Blob {
+    /// These bytes. It takes no memory.
     pub fn from_vec(bytes: Vec<u8>) -> Blob
         ensures { result ≡ bytes.items }
     {
         Blob { bytes }
     }
 
+    /// The bytes, lent.
     pub fn as_slice(&self) -> &[u8]
         ensures { result.now ≡ self.now }
     {
         &self.bytes
     }
 
+    /// The bytes as a `Vec`. It takes no memory.
     pub fn into_vec(self) -> Vec<u8>
         ensures { result.items ≡ self }
     {
@@ -41,6 +44,7 @@ impl Blob {
         bytes
     }
 
+    /// Where its memory comes from.
     pub fn allocator(&self) -> Global {
         *self.bytes.allocator()
     }

@@ -23,12 +23,14 @@ impl<const MAX: u32> Model for Bytes<MAX> {
 }
 
 impl<const MAX: u32> Bytes<MAX> {
+    /// These bytes. It takes no memory.
     pub fn from_blob(bytes: Blob) -> Bytes<MAX>
         ensures { result ≡ bytes }
     {
         Bytes { bytes }
     }
 
+    /// The bytes, lent.
     pub fn as_blob(&self) -> &Blob
         ensures { result.now ≡ self.now }
     {

@@ -21,6 +21,7 @@ pub enum ScErrorType {
 }
 
 impl ScErrorType {
+    /// The constant of this number, if there is one (RFC 4506, section 4.3).
     pub fn from_number(number: u32) -> Option<ScErrorType>
         ensures { result ≡ type_of number }
     {
@@ -39,6 +40,7 @@ impl ScErrorType {
         }
     }
 
+    /// Its number (RFC 4506, section 4.3).
     pub fn number(self) -> u32
         ensures { result ≡ number self }
     {
@@ -73,6 +75,7 @@ pub enum ScErrorCode {
 }
 
 impl ScErrorCode {
+    /// The constant of this number, if there is one (RFC 4506, section 4.3).
     pub fn from_number(number: u32) -> Option<ScErrorCode>
         ensures { result ≡ code_of number }
     {
@@ -91,6 +94,7 @@ impl ScErrorCode {
         }
     }
 
+    /// Its number (RFC 4506, section 4.3).
     pub fn number(self) -> u32
         ensures { result ≡ code_number self }
     {
@@ -137,6 +141,7 @@ impl Clone for ScError {
 impl Copy for ScError {}
 
 impl ScError {
+    /// Which arm it is (RFC 4506, section 4.15).
     pub fn kind(self) -> ScErrorType
         ensures { result ≡ kind self }
     {

@@ -14,6 +14,7 @@ pub enum ExecutableType {
 }
 
 impl ExecutableType {
+    /// The constant of this number, if there is one (RFC 4506, section 4.3).
     pub fn from_number(number: u32) -> Option<ExecutableType>
         ensures { result ≡ kind_of number }
     {
@@ -24,6 +25,7 @@ impl ExecutableType {
         }
     }
 
+    /// Its number (RFC 4506, section 4.3).
     pub fn number(self) -> u32
         ensures { result ≡ number self }
     {
@@ -56,6 +58,7 @@ impl Clone for Executable {
 impl Copy for Executable {}
 
 impl Executable {
+    /// Which arm it is (RFC 4506, section 4.15).
     pub fn kind(self) -> ExecutableType
         ensures { result ≡ kind self }
     {

@@ -22,22 +22,26 @@ impl<T, const MAX: u32> Model for Items<T, MAX> {
 }
 
 impl<T, const MAX: u32> Items<T, MAX> {
+    /// The list of these items. It takes no memory.
     pub fn from_vec(items: Vec<T>) -> Items<T, MAX>
         ensures { result ≡ items.items }
     {
         Items { items }
     }
 
+    /// The items, lent.
     pub fn as_slice(&self) -> &[T]
         ensures { result.now ≡ self.now }
     {
         &self.items
     }
 
+    /// Where its memory comes from.
     pub fn allocator(&self) -> Global {
         *self.items.allocator()
     }
 
+    /// The items as a `Vec`. It takes no memory.
     pub fn into_vec(self) -> Vec<T>
         ensures { result.items ≡ self }
     {

@@ -31,6 +31,7 @@ pub enum ScValType {
 }
 
 impl ScValType {
+    /// The constant of this number, if there is one (RFC 4506, section 4.3).
     pub fn from_number(number: u32) -> Option<ScValType>
         ensures { result ≡ kind_of number }
     {
@@ -61,6 +62,7 @@ impl ScValType {
         }
     }
 
+    /// Its number (RFC 4506, section 4.3).
     pub fn number(self) -> u32
         ensures { result ≡ number self }
     {

@@ -21,12 +21,12 @@ fn bytes_and_lists(rt: HostRuntime) -> Result<(), Fail> {
     Ok(())
 }
 
-// [void, 9]
+/// [void, 9]
 fn void_and_nine(alloc: Global) -> Result<ScVals, Fail> {
     Ok(ScVals::from_vec(vec![in alloc; ScVal::Void, ScVal::U32(9)]?))
 }
 
-// {9: [void, 9]}
+/// {9: [void, 9]}
 fn map_of_one(alloc: Global) -> Result<ScVal, Fail> {
     let entry = Entry {
         key: ScVal::U32(9),

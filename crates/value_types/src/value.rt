@@ -122,22 +122,26 @@ impl Model for Entries {
 impl ScVals {
     ghost use Rattle.value_types.specs.Views.{datums};
 
+    /// The list of these items. It takes no memory.
     pub fn from_vec(items: Vec<ScVal>) -> ScVals
         ensures { result ≡ datums items.items }
     {
         ScVals { items }
     }
 
+    /// The items, lent.
     pub fn as_slice(&self) -> &[ScVal]
         ensures { datums result.now ≡ self.now }
     {
         &self.items
     }
 
+    /// Where its memory comes from.
     pub fn allocator(&self) -> Global {
         *self.items.allocator()
     }
 
+    /// The items as a `Vec`. It takes no memory.
     pub fn into_vec(self) -> Vec<ScVal>
         ensures { datums result.items ≡ self }
     {
@@ -149,22 +153,26 @@ impl ScVals {
 impl Entries {
     ghost use Rattle.value_types.specs.Views.{datum_pairs};
 
+    /// The list of these items. It takes no memory.
     pub fn from_vec(items: Vec<Entry>) -> Entries
         ensures { result ≡ datum_pairs items.items }
     {
         Entries { items }
     }
 
+    /// The items, lent.
     pub fn as_slice(&self) -> &[Entry]
         ensures { datum_pairs result.now ≡ self.now }
     {
         &self.items
     }
 
+    /// Where its memory comes from.
     pub fn allocator(&self) -> Global {
         *self.items.allocator()
     }
 
+    /// The items as a `Vec`. It takes no memory.
     pub fn into_vec(self) -> Vec<Entry>
         ensures { datum_pairs result.items ≡ self }
     {
@@ -176,6 +184,7 @@ impl Entries {
 impl ScVal {
     ghost use Rattle.value_types.specs.Formats.{kind as kind_of_value};
 
+    /// Which arm it is (RFC 4506, section 4.15).
     pub fn kind(&self) -> ScValType
         ensures { result ≡ kind_of_value self.now }
     {

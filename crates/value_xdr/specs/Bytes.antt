@@ -1,4 +1,4 @@
--- The bytes of a value, at any depth: the number of its type, and what the type wants. At each level that is its spelling there.
+-- The bytes of a value, at any depth: the number of its type, and what the type wants (RFC 4506). At each level that is its spelling there.
 use Rattle.std.specs.Prelude.{ℕ, ◌<◌, ◌^◌, List, [], ◌++◌, length}
 use Rattle.std.specs.Int.{w32, to_be_bytes}
 use Rattle.xdr_spec.specs.Format.{boolean, number32, number64, signed32, signed64, opaque}

@@ -1,4 +1,4 @@
--- The bytes of a value of the program, at any depth.
+-- The bytes of a value of the program, at any depth (RFC 4506).
 use Rattle.std.specs.Prelude.{ℕ, ◌<◌, ◌^◌, List, [], ◌++◌, length, Option, Some, None}
 use Rattle.std.specs.List.{flat_map, AllByRecursion}
 use Rattle.xdr_spec.specs.Format.{boolean, number32, number64, signed32, signed64, opaque}

@@ -6,7 +6,8 @@ ghost use Rattle.value_types.specs.Headed.{headed};
 
 use xdr_core::{Cursor, ReadXdr, Why, XdrErr};
 
-/// Reads a word that has to be `number`; another one is refused at its place as `Why::Tag`.
+/// Reads a word that has to be `number`; another one is refused at its place as `Why::Tag`. After an error the cursor may
+/// stand anywhere.
 pub fn read_head(input: &mut Cursor<'_>, number: u32) -> Result<(), ReadXdr>
     ensures { Reads (headed number (nothing tt)).read input.old input.new result }
 {

@@ -1,7 +1,7 @@
-use crate::Xdr;
 use crate::scval::{val_size, value_from_bytes, value_to_bytes};
+use crate::{Xdr, decode, encode};
 use std::test::Fail;
-use value_types::{Int128Parts, ScVal, cmp_val, depth};
+use value_types::{Int128Parts, ScVal, ScValType, cmp_val, depth};
 use xdr_core::{Cursor, ReadXdr, Why, XdrErr};
 
 /// A spelling of each arm, by the layouts of RFC 4506 and of the XDR file Stellar-contract.
@@ -97,6 +97,21 @@ fn each_arm(rt: HostRuntime) -> Result<(), Fail> {
     for bytes in SPELLINGS {
         let same = round_trip(&rt, bytes)?;
         assert!(rt; same, "{bytes:?}");
+    }
+    Ok(())
+}
+
+#[test]
+fn kinds(rt: HostRuntime) -> Result<(), Fail> {
+    let rows = [
+        (ScValType::Bool, [0, 0, 0, 0]),
+        (ScValType::Address, [0, 0, 0, 18]),
+        (ScValType::LedgerKeyNonce, [0, 0, 0, 21]),
+    ];
+    for (kind, bytes) in rows {
+        let written = encode(rt.alloc(), &kind)?;
+        assert_eq!(rt; written.as_slice(), bytes.as_slice());
+        assert_eq!(rt; decode::<ScValType>(rt.alloc(), &bytes)?, kind);
     }
     Ok(())
 }

@@ -13,6 +13,7 @@ use crate::xdr::Xdr;
 use value_types::{Entries, Entry, Instance, ScVal, ScVals};
 use xdr_core::{NoMemory, Out, add_sizes};
 
+/// Writes the spelling of a value. After an error bytes of unknown content may follow what was there.
 #[cycle(write)]
 pub fn write_value(value: &ScVal, out: &mut Out) -> Result<(), NoMemory>
     requires { IsValueBounded value.now }

@@ -25,7 +25,7 @@ fn main(rt: HostRuntime) -> ExitCode {
     }
 }
 
-// The result of the export, and how many instructions were executed.
+/// The result of the export, and how many instructions were executed.
 fn run<R: Runtime + AllocGlobal>(rt: &R) -> Option<(u64, u64)> {
     let alloc = rt.alloc();
     let mut words = std::env::args(rt).ok()?.skip(1);
@@ -66,7 +66,7 @@ fn terms(constant: u32) -> KindTerms
     }
 }
 
-// A budget that never ends, in which an instruction costs one and all else nothing.
+/// A budget that never ends, in which an instruction costs one and all else nothing.
 fn ample() -> Budget {
     let nothing = terms(0);
     let all = Terms {

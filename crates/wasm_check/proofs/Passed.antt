@@ -1,6 +1,6 @@
 -- Tests of lists, as facts.
-use Rattle.std.proofs.Common.{◌≡◌, Bool, true, false, List, [], ◌∷◌, refl, ap₂}
-use Rattle.std.specs.Prelude.{◌&&◌}
+use Rattle.std.proofs.Common.{◌≡◌, Bool, true, false, List, [], ◌∷◌, Result, Ok, Err, refl, ap₂}
+use Rattle.std.specs.Prelude.{◌&&◌, IfOk}
 use Rattle.std.specs.List.{list_all, AllByRecursion}
 use Rattle.std.specs.Bool.{OnTrue, OnFalse}
 
@@ -31,3 +31,7 @@ on_false false P h = h refl
 
 pub never : {P : Type 0} (b : Bool) → b ≡ false → b ≡ true → P
 never b e f = cc
+
+pub on_ok : {A E : Type 0} (r : Result A E) (P Q : A → Type 0) → ((x : A) → P x → Q x) → IfOk r P → IfOk r Q
+on_ok (Ok x) P Q each h = each x h
+on_ok (Err e) P Q each h = tt

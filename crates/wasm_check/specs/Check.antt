@@ -1,4 +1,4 @@
--- The check of code, as a function: it knows of the operands what the code before has left, and after a branch that there may be any below.
+-- The check of code, as a function: it knows of the operands what the code before has left, and after a branch that there may be any below (core section 3.3).
 use Rattle.std.specs.Prelude.{ℕ, nat_lt, Bool, true, false, List, [], ◌∷◌, length, reverse, Option, Some, None, slice_get, if◌then◌else◌}
 use Rattle.std.specs.List.{list_all}
 use Rattle.wasm_spec.specs.declared.types.ValueType.{ValueType}

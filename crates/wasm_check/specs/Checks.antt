@@ -1,4 +1,4 @@
--- What the code's check says, against the check as a function.
+-- What the code's check says, against the check as a function (own).
 use Rattle.std.specs.Prelude.{◌≡◌, Option, Some, None, Result, Ok, Err}
 use Rattle.wasm_check.specs.Check.{Shape}
 use Rattle.wasm_check.specs.declared.error.Fault.{Fault}

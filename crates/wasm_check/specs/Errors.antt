@@ -1,4 +1,4 @@
--- What the errors say.
+-- What the errors say (own).
 use Rattle.std.specs.Prelude.{Some, None, Result, Ok, Err}
 use Rattle.wasm_spec.specs.declared.module.Module.{Module}
 use Rattle.wasm_spec.specs.Typing.{IsIll, IsFirstIll}

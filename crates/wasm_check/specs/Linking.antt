@@ -1,4 +1,4 @@
--- Which imports the host has.
+-- Which imports the host has (own).
 use Rattle.std.specs.Prelude.{◌≡◌, ℕ, ◌⊎◌, ◌==◌, ◌&&◌, Bool, false, List, [], ◌∷◌, length, map, take, replicate, Option, Some, None, slice_get}
 use Rattle.std.specs.List.{list_all, list_any, AllByRecursion}
 use Rattle.std.specs.Str.{bytes_eq}

@@ -1,4 +1,4 @@
--- The rules outside bodies, as tests.
+-- The rules outside bodies, as tests (core sections 3.2 and 3.4).
 use Rattle.std.specs.Prelude.{ℕ, ◌^◌, ◌+◌, ◌&&◌, not, nat_le, nat_lt, Bool, true, false, List, [], ◌∷◌, length, Option, Some, None}
 use Rattle.std.specs.List.{list_all}
 use Rattle.wasm_spec.specs.declared.types.ValueType.{ValueType}

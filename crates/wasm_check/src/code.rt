@@ -9,14 +9,15 @@ ghost use Rattle.wasm_check.specs.Check.{check_plain, check_control, check_call,
 ghost use Rattle.wasm_check.specs.Checks.{Checks, ChecksOn, IsChecked};
 ghost use Rattle.wasm_check.specs.Contexts.{context_in};
 
-use crate::context::{Labels, Scope, function_type};
+use crate::context::{Labels, Scope};
 use crate::error::Fault;
 use crate::operands::{Stack, same_type};
 use crate::signature::signature_of;
 use std::alloc::Global;
+use wasm_code::function_type;
 use wasm_spec::{Control, FuncType, Instr, Module, Plain, ValueType};
 
-// An instruction of sections 3.3.1 to 3.3.4.
+/// An instruction of sections 3.3.1 to 3.3.4.
 fn check_plain(module: &Module, scope: &Scope, plain: Plain, stack: &mut Stack) -> Result<(), Fault>
     ensures { Checks (check_plain (context_in module.now scope.now) plain stack.old) result stack.new }
 {
@@ -30,7 +31,7 @@ fn check_plain(module: &Module, scope: &Scope, plain: Plain, stack: &mut Stack) 
     }
 }
 
-// An instruction with a signature.
+/// An instruction with a signature.
 fn check_signature(
     module: &Module,
     scope: &Scope,
@@ -43,19 +44,19 @@ fn check_signature(
     stack.apply(signature)
 }
 
-// The types of a call's arguments, the last one first.
+/// The types of a call's arguments, the last one first.
 fn pop_arguments(types: &[ValueType], stack: &mut Stack) -> Result<(), Fault>
     ensures { Checks (pops (reverse types.now) stack.old) result stack.new }
 {
-    let mut i = types.len();
-    while i > 0 {
-        i -= 1;
-        stack.pop(types[i])?;
+    let mut left = types.len();
+    while left > 0 {
+        left -= 1;
+        stack.pop(types[left])?;
     }
     Ok(())
 }
 
-// A call of a function of this type.
+/// A call of a function of this type.
 fn check_call(called: &FuncType, stack: &mut Stack) -> Result<(), Fault>
     ensures { Checks (check_call called.now stack.old) result stack.new }
 {
@@ -63,7 +64,7 @@ fn check_call(called: &FuncType, stack: &mut Stack) -> Result<(), Fault>
     stack.push_result(called.results.as_slice().first().copied())
 }
 
-// Whether a label takes this.
+/// Whether a label takes this.
 fn is_same_label(taken: Option<ValueType>, label: Option<Option<ValueType>>) -> bool
     ensures { result ≡ same_label taken label }
 {
@@ -77,7 +78,7 @@ fn is_same_label(taken: Option<ValueType>, label: Option<Option<ValueType>>) -> 
     }
 }
 
-// Whether each of these labels takes this.
+/// Whether each of these labels takes this.
 fn are_same_labels(labels: &Labels, indices: &[u32], taken: Option<ValueType>) -> bool
     ensures { result ≡ list_all (λ k. same_label taken (slice_get labels.now k)) indices.now }
 {
@@ -86,7 +87,7 @@ fn are_same_labels(labels: &Labels, indices: &[u32], taken: Option<ValueType>) -
         .all(|index| is_same_label(taken, labels.at(*index as usize)))
 }
 
-// A branch to one of several labels, all of which take this.
+/// A branch to one of several labels, all of which take this.
 fn check_table(
     labels: &Labels,
     indices: &[u32],
@@ -105,7 +106,7 @@ fn check_table(
     }
 }
 
-// A control instruction without instructions inside.
+/// A control instruction without instructions inside.
 fn check_control(
     module: &Module,
     scope: &Scope,
@@ -148,7 +149,7 @@ fn check_control(
     }
 }
 
-// A call of a function of the table.
+/// A call of a function of the table.
 fn check_indirect(module: &Module, type_index: u32, stack: &mut Stack) -> Result<(), Fault>
     ensures { Checks (check_indirect module.now type_index stack.old) result stack.new }
 {
@@ -164,20 +165,20 @@ fn check_indirect(module: &Module, type_index: u32, stack: &mut Stack) -> Result
     check_call(called, stack)
 }
 
-// An instruction.
+/// An instruction.
 #[cycle(check)]
 fn check_one(
     alloc: Global,
     module: &Module,
     scope: &mut Scope,
-    i: &Instr,
+    instruction: &Instr,
     stack: &mut Stack,
 ) -> Result<(), Fault>
     ensures scope { OnOk result (context_in module.now scope.new ≡ context_in module.now scope.old) }
-    ensures checks { (rest : Code) → ChecksOn (check_code (context_in module.now scope.old) (before i.now rest) stack.old) result
+    ensures checks { (rest : Code) → ChecksOn (check_code (context_in module.now scope.old) (before instruction.now rest) stack.old) result
         (check_code (context_in module.now scope.old) rest stack.new) }
 {
-    match i {
+    match instruction {
         Instr::Plain(plain) => check_plain(module, scope, *plain, stack),
         Instr::Control(control) => check_control(module, scope, control, stack),
         Instr::Block(result_type, body) => {
@@ -238,20 +239,20 @@ pub fn check_body(
     stack.end(result_type)
 }
 
-// Instructions one after another.
+/// Instructions one after another.
 #[cycle(check)]
 fn check_all(
     alloc: Global,
     module: &Module,
     scope: &mut Scope,
-    is: &[Instr],
+    instructions: &[Instr],
     stack: &mut Stack,
 ) -> Result<(), Fault>
     ensures scope { OnOk result (context_in module.now scope.new ≡ context_in module.now scope.old) }
-    ensures checks { Checks (check_code (context_in module.now scope.old) (code_of is.now) stack.old) result stack.new }
+    ensures checks { Checks (check_code (context_in module.now scope.old) (code_of instructions.now) stack.old) result stack.new }
 {
-    for i in is {
-        check_one(alloc, module, scope, i, stack)?;
+    for instruction in instructions {
+        check_one(alloc, module, scope, instruction, stack)?;
     }
     Ok(())
 }

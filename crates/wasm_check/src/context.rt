@@ -1,11 +1,10 @@
 //! What the code that is checked stands in.
 
-ghost use Rattle.std.specs.Prelude.{◌≡◌, ◌++◌, [], ◌∷◌, slice_get, OnOk, option_copied, length, map};
-ghost use Rattle.wasm_spec.specs.Typing.{function_indices, function_type};
+ghost use Rattle.std.specs.Prelude.{◌≡◌, [], ◌∷◌, slice_get, OnOk};
 
 use std::alloc::{AllocError, Global};
 use std::marker::Model;
-use wasm_spec::{FuncType, Module, ValueType};
+use wasm_spec::ValueType;
 
 /// What each label around takes, the innermost first.
 #[derive(Drop)]
@@ -23,6 +22,7 @@ impl Model for Labels {
 }
 
 impl Labels {
+    /// No label is open.
     pub fn new(alloc: Global) -> Self
         ensures { result ≡ [] }
     {
@@ -31,6 +31,7 @@ impl Labels {
         }
     }
 
+    /// Opens a label whose branches carry such a result.
     pub fn push(&mut self, result_type: Option<ValueType>) -> Result<(), AllocError>
         ensures { OnOk result (self.new ≡ result_type ∷ self.old) }
     {
@@ -38,6 +39,7 @@ impl Labels {
         Ok(())
     }
 
+    /// Closes the innermost label.
     pub fn pop(&mut self)
         ensures { (k : _) (ks : _) → self.old ≡ k ∷ ks → self.new ≡ ks }
     {
@@ -62,32 +64,4 @@ pub struct Scope {
     pub locals: Vec<ValueType>,
     pub labels: Labels,
     pub result: Option<ValueType>,
-}
-
-// The function type of the import or function of this index.
-fn type_index_at(module: &Module, index: usize) -> Option<u32>
-    ensures { result ≡ slice_get (function_indices module.now) index }
-{
-    let imports = module.imports.as_slice();
-    if index < imports.len() {
-        Some(imports[index].type_index)
-    } else {
-        let function = module.functions.as_slice().get(index - imports.len())?;
-        Some(function.type_index)
-    }
-}
-
-/// The function type of this index.
-pub fn type_at(module: &Module, index: u32) -> Option<&FuncType>
-    ensures { option_copied result ≡ slice_get module.now.types index }
-{
-    module.types.as_slice().get(index as usize)
-}
-
-/// The type of the import or function of this index.
-pub fn function_type(module: &Module, index: u32) -> Option<&FuncType>
-    ensures { option_copied result ≡ function_type module.now index }
-{
-    let type_index = type_index_at(module, index as usize)?;
-    type_at(module, type_index)
 }

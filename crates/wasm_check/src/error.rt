@@ -11,6 +11,17 @@ pub enum CheckErr {
     NoMemory,
 }
 
+impl From<AllocError> for CheckErr {
+    ghost use Rattle.wasm_check.specs.declared.error.CheckErr.TheVariants.{NoMemory};
+    ghost use Rattle.std.specs.Prelude.{◌≡◌};
+
+    ghost from_gives = { λ _ e. e ≡ NoMemory };
+
+    fn from(_error: AllocError) -> Self {
+        CheckErr::NoMemory
+    }
+}
+
 /// The first import that the host does not have with its type.
 #[derive(Clone, Copy, Debug, PartialEq, Eq)]
 pub struct Unlinked {

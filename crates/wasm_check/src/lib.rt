@@ -18,3 +18,4 @@ pub use error::{CheckErr, Unlinked};
 pub use host::{HOST_FUNCTIONS, HostFunction};
 pub use linking::link;
 pub use module::{ValidModule, check};
+pub use names::same_name;

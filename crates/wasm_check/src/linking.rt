@@ -6,15 +6,15 @@ ghost use Rattle.wasm_spec.specs.declared.types.ValueType.TheVariants.{I64};
 ghost use Rattle.wasm_check.specs.Check.{same_type as same};
 ghost use Rattle.wasm_check.specs.Linking.{Linked, IsFirstUnlinked, one_i64, type_matches, matches, functions_of, host_functions, import_ok};
 
-use crate::context::type_at;
 use crate::error::Unlinked;
 use crate::host::{HOST_FUNCTIONS, HostFunction};
 use crate::module::ValidModule;
 use crate::names::same_name;
 use crate::operands::same_type;
+use wasm_code::type_at;
 use wasm_spec::{FuncType, Import, Module, ValueType};
 
-// Whether these are one type of 64 bits.
+/// Whether these are one type of 64 bits.
 fn one_i64(types: &[ValueType]) -> bool
     ensures { result ≡ one_i64 types.now }
 {
@@ -24,41 +24,33 @@ fn one_i64(types: &[ValueType]) -> bool
     }
 }
 
-// Whether these are all of 64 bits.
+/// Whether these are all of 64 bits.
 fn all_i64(types: &[ValueType]) -> bool
     ensures { result ≡ list_all (λ p. same p I64) types.now }
 {
-    types.iter().all(|t| same_type(*t, ValueType::I64))
+    types
+        .iter()
+        .all(|value_type| same_type(*value_type, ValueType::I64))
 }
 
-// Whether a function takes so many values of 64 bits and gives one.
+/// Whether a function takes so many values of 64 bits and gives one.
 fn type_matches(arity: usize, func_type: &FuncType) -> bool
     ensures { result ≡ type_matches arity func_type.now }
 {
     let params = func_type.params.as_slice();
-    if params.len() != arity {
-        return false;
-    }
-    if !all_i64(params) {
-        return false;
-    }
-    one_i64(func_type.results.as_slice())
+    params.len() == arity && all_i64(params) && one_i64(func_type.results.as_slice())
 }
 
-// Whether an import of this type is this function of the host.
+/// Whether an import of this type is this function of the host.
 fn matches(import: &Import, func_type: &FuncType, function: &HostFunction) -> bool
     ensures { result ≡ matches «import».now func_type.now (function.now.0.now, function.now.1.now, function.now.2) }
 {
-    if !same_name(import.module.as_slice(), function.0.as_bytes()) {
-        return false;
-    }
-    if !same_name(import.name.as_slice(), function.1.as_bytes()) {
-        return false;
-    }
-    type_matches(function.2, func_type)
+    same_name(import.module.as_slice(), function.0.as_bytes())
+        && same_name(import.name.as_slice(), function.1.as_bytes())
+        && type_matches(function.2, func_type)
 }
 
-// Whether an import of this type is one of these functions.
+/// Whether an import of this type is one of these functions.
 fn host_has(host: &[HostFunction], import: &Import, func_type: &FuncType) -> bool
     ensures { result ≡ list_any (λ f. matches «import».now func_type.now (f.0.now, f.1.now, f.2)) host.now }
 {
@@ -66,7 +58,7 @@ fn host_has(host: &[HostFunction], import: &Import, func_type: &FuncType) -> boo
         .any(|function| matches(import, func_type, function))
 }
 
-// Whether an import is one of these functions.
+/// Whether an import is one of these functions.
 fn import_ok(host: &[HostFunction], module: &Module, import: &Import) -> bool
     ensures { result ≡ import_ok (functions_of host.now) module.now «import».now }
 {
@@ -76,15 +68,17 @@ fn import_ok(host: &[HostFunction], module: &Module, import: &Import) -> bool
     }
 }
 
-// Whether a host of these functions has each import with its type.
+/// Whether a host of these functions has each import with its type.
 fn link_with(host: &[HostFunction], module: &Module) -> Result<(), Unlinked>
     requires { length module.now.imports < 2 ^ 32 }
     ensures linked { OnOk result (Linked (functions_of host.now) module.now) }
     ensures unlinked { IfErr result (λ e. IsFirstUnlinked (functions_of host.now) module.now e.import) }
 {
-    for (i, import) in module.imports.as_slice().iter().enumerate() {
+    for (index, import) in module.imports.as_slice().iter().enumerate() {
         if !import_ok(host, module, import) {
-            return Err(Unlinked { import: i as u32 });
+            return Err(Unlinked {
+                import: index as u32,
+            });
         }
     }
     Ok(())

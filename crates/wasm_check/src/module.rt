@@ -11,13 +11,13 @@ ghost use Rattle.std.specs.List.{AllByRecursion};
 ghost use Rattle.std.specs.Bool.{OnTrue, OnFalse};
 
 use crate::code::check_body;
-use crate::context::{Labels, Scope, type_at};
+use crate::context::{Labels, Scope};
 use crate::error::{CheckErr, Fault};
 use crate::names::names_differ;
 use crate::outside::rules_hold;
 use std::alloc::{AllocError, Global};
 use std::marker::Model;
-use wasm_code::{FlatCode, compile};
+use wasm_code::{FlatCode, compile, type_at};
 use wasm_spec::{FuncType, Function, Locals, Module, ValueType};
 
 /// The most locals of a function, parameters counted.
@@ -63,7 +63,7 @@ impl ValidModule {
     }
 }
 
-// Whether a function with so many parameters has few enough locals.
+/// Whether a function with so many parameters has few enough locals.
 fn are_few(params: &[ValueType], groups: &[Locals]) -> bool
     ensures { result ≡ nat_le (length params.now + locals_count groups.now) MOST_LOCALS }
 {
@@ -80,7 +80,7 @@ fn are_few(params: &[ValueType], groups: &[Locals]) -> bool
     true
 }
 
-// Adds so many locals of a type.
+/// Adds so many locals of a type.
 fn push_locals(types: &mut Vec<ValueType>, group: Locals) -> Result<(), AllocError>
     ensures { OnOk result (types.new.items ≡ types.old.items ++ replicate group.count group.value_type) }
 {
@@ -90,7 +90,7 @@ fn push_locals(types: &mut Vec<ValueType>, group: Locals) -> Result<(), AllocErr
     Ok(())
 }
 
-// The types of parameters and locals.
+/// The types of parameters and locals.
 fn all_locals(
     alloc: Global,
     params: &[ValueType],
@@ -106,7 +106,7 @@ fn all_locals(
     Ok(types)
 }
 
-// A function.
+/// A function.
 fn check_function(alloc: Global, module: &Module, function: &Function) -> Result<(), Fault>
     ensures { Judges (FunctionTyped module.now function.now) result }
 {
@@ -118,7 +118,7 @@ fn check_function(alloc: Global, module: &Module, function: &Function) -> Result
     }
 }
 
-// The body of a function of this type.
+/// The body of a function of this type.
 fn check_function_body(
     alloc: Global,
     module: &Module,
@@ -148,18 +148,18 @@ fn check_function_body(
     )
 }
 
-// The bodies of the functions, in their order.
+/// The bodies of the functions, in their order.
 fn check_bodies(alloc: Global, module: &Module) -> Result<(), CheckErr>
     requires { length module.now.imports + length module.now.functions < 2 ^ 32 }
     ensures typed { OnOk result (AllByRecursion (FunctionTyped module.now) module.now.functions) }
     ensures ill { IfErr result (ReportsFunction module.now) }
 {
     let imports = module.imports.as_slice().len();
-    for (i, function) in module.functions.as_slice().iter().enumerate() {
+    for (index, function) in module.functions.as_slice().iter().enumerate() {
         match check_function(alloc, module, function) {
             Ok(()) => {}
             Err(Fault::Ill) => {
-                let func = Some((imports + i) as u32);
+                let func = Some((imports + index) as u32);
                 return Err(CheckErr::Ill { func });
             }
             Err(Fault::NoMemory) => return Err(CheckErr::NoMemory),
@@ -168,15 +168,15 @@ fn check_bodies(alloc: Global, module: &Module) -> Result<(), CheckErr>
     Ok(())
 }
 
-// Whether the rules outside bodies hold.
-fn is_valid_outside(module: &Module) -> bool
-    ensures holds { OnTrue result (OutsideValid module.now) }
-    ensures broken { OnFalse result (OutsideValid module.now → ⊥) }
+/// Whether the rules outside bodies hold.
+fn is_valid_outside(alloc: Global, module: &Module) -> Result<bool, AllocError>
+    ensures holds { IfOk result (λ b. OnTrue b (OutsideValid module.now)) }
+    ensures broken { IfOk result (λ b. OnFalse b (OutsideValid module.now → ⊥)) }
 {
     if !rules_hold(module) {
-        return false;
+        return Ok(false);
     }
-    names_differ(module.exports.as_slice())
+    names_differ(alloc, module.exports.as_slice())
 }
 
 /// The module, if it is valid (core section 3).
@@ -188,12 +188,10 @@ pub fn check(alloc: Global, module: Module) -> Result<ValidModule, CheckErr>
     // What is not accepted is ill, as the error says.
     ensures ill { IfErr result (ReportsIll «module») }
 {
-    if !is_valid_outside(&module) {
+    if !is_valid_outside(alloc, &module)? {
         return Err(CheckErr::Ill { func: None });
     }
     check_bodies(alloc, &module)?;
-    match compile(alloc, &module) {
-        Ok(code) => Ok(ValidModule { module, code }),
-        Err(_) => Err(CheckErr::NoMemory),
-    }
+    let code = compile(alloc, &module)?;
+    Ok(ValidModule { module, code })
 }

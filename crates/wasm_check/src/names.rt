@@ -1,35 +1,29 @@
 //! Names of exports, no two of which may be equal (core section 3.4.10).
 
-ghost use Rattle.std.specs.Prelude.{◌≡◌};
+ghost use Rattle.std.specs.Prelude.{◌≡◌, IfOk};
 ghost use Rattle.std.specs.Str.{bytes_eq};
-ghost use Rattle.wasm_check.specs.Outside.{is_new, exports_differ};
+ghost use Rattle.wasm_check.specs.Outside.{exports_differ};
 
+use std::alloc::{AllocError, Global};
+use std::collections::BTreeSet;
 use wasm_spec::Export;
 
 /// Whether two names are equal.
-pub fn same_name(a: &[u8], b: &[u8]) -> bool
-    ensures { result ≡ bytes_eq a.now b.now }
+pub fn same_name(left: &[u8], right: &[u8]) -> bool
+    ensures { result ≡ bytes_eq left.now right.now }
 {
-    a == b
+    left == right
 }
 
-// Whether none of these exports has the name.
-fn is_new(name: &[u8], exports: &[Export]) -> bool
-    ensures { result ≡ is_new name.now exports.now }
+/// Whether no two exports have one name. The time grows with n log n of their number.
+pub fn names_differ(alloc: Global, exports: &[Export]) -> Result<bool, AllocError>
+    ensures { IfOk result (λ b. b ≡ exports_differ exports.now) }
 {
-    exports
-        .iter()
-        .all(|export| !same_name(name, export.name.as_slice()))
-}
-
-/// Whether no two exports have one name.
-pub fn names_differ(exports: &[Export]) -> bool
-    ensures { result ≡ exports_differ exports.now }
-{
-    for (i, export) in exports.iter().enumerate() {
-        if !is_new(export.name.as_slice(), &exports[i + 1..]) {
-            return false;
+    let mut seen = BTreeSet::new(alloc);
+    for export in exports {
+        if !seen.insert(export.name.as_slice())? {
+            return Ok(false);
         }
     }
-    true
+    Ok(true)
 }

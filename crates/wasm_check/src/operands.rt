@@ -28,17 +28,13 @@ impl Model for Stack {
 }
 
 /// Whether two types are the same.
-pub fn same_type(a: ValueType, b: ValueType) -> bool
-    ensures { result ≡ same a b }
+pub fn same_type(left: ValueType, right: ValueType) -> bool
+    ensures { result ≡ same left right }
 {
-    match (a, b) {
-        (ValueType::I32, ValueType::I32) => true,
-        (ValueType::I64, ValueType::I64) => true,
-        _ => false,
-    }
+    left == right
 }
 
-// Whether an operand may have this type.
+/// Whether an operand may have this type.
 fn may_be(known: Option<ValueType>, value_type: ValueType) -> bool
     ensures { result ≡ may_be known value_type }
 {
@@ -48,26 +44,19 @@ fn may_be(known: Option<ValueType>, value_type: ValueType) -> bool
     }
 }
 
-// What is known of an operand that is one of two.
-fn either(a: Option<ValueType>, b: Option<ValueType>) -> Option<Option<ValueType>>
-    ensures { result ≡ either a b }
+/// What is known of an operand that is one of two.
+fn either(first: Option<ValueType>, second: Option<ValueType>) -> Option<Option<ValueType>>
+    ensures { result ≡ either first second }
 {
-    match a {
-        None => Some(b),
-        Some(first) => match b {
-            None => Some(Some(first)),
-            Some(second) => {
-                if same_type(first, second) {
-                    Some(Some(first))
-                } else {
-                    None
-                }
-            }
-        },
+    match (first, second) {
+        (None, known) => Some(known),
+        (known, None) => Some(known),
+        (Some(one), Some(other)) => same_type(one, other).then_some(first),
     }
 }
 
 impl Stack {
+    /// No operands.
     pub fn new(alloc: Global) -> Self
         ensures { result ≡ nothing }
     {
@@ -94,6 +83,7 @@ impl Stack {
         }
     }
 
+    /// Takes an operand of this type; `Ill` where the last one has another, or there is none.
     pub fn pop(&mut self, value_type: ValueType) -> Result<(), Fault>
         ensures { Checks (pop value_type self.old) result self.new }
     {
@@ -113,6 +103,7 @@ impl Stack {
         self.any = true;
     }
 
+    /// Adds an operand of this type, if there is one.
     pub fn push_result(&mut self, result_type: Option<ValueType>) -> Result<(), Fault>
         ensures { Checks (Some (push_result result_type self.old)) result self.new }
     {
@@ -122,6 +113,7 @@ impl Stack {
         }
     }
 
+    /// Takes an operand of this type, if there is one.
     pub fn pop_result(&mut self, result_type: Option<ValueType>) -> Result<(), Fault>
         ensures { Checks (pop_result result_type self.old) result self.new }
     {

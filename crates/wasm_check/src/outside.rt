@@ -19,7 +19,7 @@ const MOST_PAGES: u32 = 64;
 /// The most elements of a table at the start.
 const MOST_ELEMENTS: u32 = 65_536;
 
-// The type of a global that is never set.
+/// The type of a global that is never set.
 fn constant_global(global: &Global) -> Option<ValueType>
     ensures { result ≡ constant_global global.now }
 {
@@ -29,7 +29,7 @@ fn constant_global(global: &Global) -> Option<ValueType>
     }
 }
 
-// The type of a constant, or of what such a global holds.
+/// The type of a constant, or of what such a global holds.
 fn constant_of(globals: &[Global], plain: Plain) -> Option<ValueType>
     ensures { result ≡ constant_of globals.now plain }
 {
@@ -41,7 +41,7 @@ fn constant_of(globals: &[Global], plain: Plain) -> Option<ValueType>
     }
 }
 
-// The type of a constant expression.
+/// The type of a constant expression.
 fn constant_type(globals: &[Global], body: &Body) -> Option<ValueType>
     ensures { result ≡ constant_type globals.now body.now }
 {
@@ -98,7 +98,7 @@ fn global_ok(global: &Global) -> bool
     is_type(constant_type(&[], &global.init), global.value_type)
 }
 
-// How many functions there are, imports counted.
+/// How many functions there are, imports counted.
 fn function_count(module: &Module) -> usize
     ensures { result ≡ length module.now.imports + length module.now.functions }
 {
@@ -149,7 +149,11 @@ fn export_ok(module: &Module, export: &Export) -> bool
 fn all_types(module: &Module) -> bool
     ensures { result ≡ list_all type_ok module.now.types }
 {
-    module.types.as_slice().iter().all(|t| type_ok(t))
+    module
+        .types
+        .as_slice()
+        .iter()
+        .all(|func_type| type_ok(func_type))
 }
 
 fn all_imports(module: &Module) -> bool
@@ -157,7 +161,9 @@ fn all_imports(module: &Module) -> bool
 {
     let count = module.types.as_slice().len();
     let imports = module.imports.as_slice();
-    imports.iter().all(|i| (i.type_index as usize) < count)
+    imports
+        .iter()
+        .all(|import| (import.type_index as usize) < count)
 }
 
 fn all_functions(module: &Module) -> bool
@@ -165,7 +171,9 @@ fn all_functions(module: &Module) -> bool
 {
     let count = module.types.as_slice().len();
     let functions = module.functions.as_slice();
-    functions.iter().all(|f| (f.type_index as usize) < count)
+    functions
+        .iter()
+        .all(|function| (function.type_index as usize) < count)
 }
 
 fn all_tables(module: &Module) -> bool
@@ -215,63 +223,34 @@ fn all_exports(module: &Module) -> bool
     exports.iter().all(|export| export_ok(module, export))
 }
 
-// Types, and that each function has one.
+/// Types, and that each function has one.
 fn types_ok(module: &Module) -> bool
     ensures { result ≡ types_ok module.now }
 {
-    if !all_types(module) {
-        return false;
-    }
-    if !all_imports(module) {
-        return false;
-    }
-    all_functions(module)
+    all_types(module) && all_imports(module) && all_functions(module)
 }
 
-// Numbers and sizes.
+/// Numbers and sizes.
 fn sizes_ok(module: &Module) -> bool
     ensures { result ≡ sizes_ok module.now }
 {
-    if function_count(module) >= 1 << 32 {
-        return false;
-    }
-    if module.tables.as_slice().len() > 1 {
-        return false;
-    }
-    if !all_tables(module) {
-        return false;
-    }
-    if module.memories.as_slice().len() > 1 {
-        return false;
-    }
-    all_memories(module)
+    function_count(module) < 1 << 32
+        && module.tables.as_slice().len() <= 1
+        && all_tables(module)
+        && module.memories.as_slice().len() <= 1
+        && all_memories(module)
 }
 
-// First values, segments and exports, but for the exports' names.
+/// First values, segments and exports, but for the exports' names.
 fn values_ok(module: &Module) -> bool
     ensures { result ≡ values_ok module.now }
 {
-    if !all_globals(module) {
-        return false;
-    }
-    if !all_elements(module) {
-        return false;
-    }
-    if !all_data(module) {
-        return false;
-    }
-    all_exports(module)
+    all_globals(module) && all_elements(module) && all_data(module) && all_exports(module)
 }
 
 /// Whether the rules outside bodies hold, but for the exports' names.
 pub fn rules_hold(module: &Module) -> bool
     ensures { result ≡ rules_ok module.now }
 {
-    if !types_ok(module) {
-        return false;
-    }
-    if !sizes_ok(module) {
-        return false;
-    }
-    values_ok(module)
+    types_ok(module) && sizes_ok(module) && values_ok(module)
 }

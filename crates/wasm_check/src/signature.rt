@@ -1,41 +1,12 @@
 //! What single instructions take and give (core sections 3.3.1 to 3.3.4).
 
 ghost use Rattle.std.specs.Prelude.{◌≡◌, slice_get};
-ghost use Rattle.wasm_spec.specs.Typing.{converted_from, converted_to, numeric_signature, load_type, load_exponent, store_type, store_exponent, set_signature, signature_of, when};
+ghost use Rattle.wasm_spec.specs.Typing.{numeric_signature, load_exponent, store_exponent, set_signature, signature_of, when};
 ghost use Rattle.wasm_check.specs.Contexts.{context_in};
 
 use crate::context::Scope;
-use wasm_spec::{
-    Conversion, Load, Module, Mutability, Numeric, Plain, Signature, Store, Taken, ValueType,
-};
-
-fn converted_from(conversion: Conversion) -> ValueType
-    ensures { result ≡ converted_from conversion }
-{
-    match conversion {
-        Conversion::I32Wrap => ValueType::I64,
-        Conversion::I64Extend(_) => ValueType::I32,
-        Conversion::I32Extend8 => ValueType::I32,
-        Conversion::I32Extend16 => ValueType::I32,
-        Conversion::I64Extend8 => ValueType::I64,
-        Conversion::I64Extend16 => ValueType::I64,
-        Conversion::I64Extend32 => ValueType::I64,
-    }
-}
-
-fn converted_to(conversion: Conversion) -> ValueType
-    ensures { result ≡ converted_to conversion }
-{
-    match conversion {
-        Conversion::I32Wrap => ValueType::I32,
-        Conversion::I64Extend(_) => ValueType::I64,
-        Conversion::I32Extend8 => ValueType::I32,
-        Conversion::I32Extend16 => ValueType::I32,
-        Conversion::I64Extend8 => ValueType::I64,
-        Conversion::I64Extend16 => ValueType::I64,
-        Conversion::I64Extend32 => ValueType::I64,
-    }
-}
+use wasm_code::{converted_from, converted_to, load_type, store_type};
+use wasm_spec::{Load, Module, Mutability, Numeric, Plain, Signature, Store, Taken, ValueType};
 
 fn numeric_signature(numeric: Numeric) -> Signature
     ensures { result ≡ numeric_signature numeric }
@@ -64,21 +35,7 @@ fn numeric_signature(numeric: Numeric) -> Signature
     }
 }
 
-fn load_type(load: Load) -> ValueType
-    ensures { result ≡ load_type load }
-{
-    match load {
-        Load::I32 => ValueType::I32,
-        Load::I64 => ValueType::I64,
-        Load::I32From8(_) => ValueType::I32,
-        Load::I32From16(_) => ValueType::I32,
-        Load::I64From8(_) => ValueType::I64,
-        Load::I64From16(_) => ValueType::I64,
-        Load::I64From32(_) => ValueType::I64,
-    }
-}
-
-// The exponent of a load's natural alignment.
+/// The exponent of a load's natural alignment.
 fn load_exponent(load: Load) -> u32
     ensures { result ≡ load_exponent load }
 {
@@ -93,21 +50,7 @@ fn load_exponent(load: Load) -> u32
     }
 }
 
-fn store_type(store: Store) -> ValueType
-    ensures { result ≡ store_type store }
-{
-    match store {
-        Store::I32 => ValueType::I32,
-        Store::I64 => ValueType::I64,
-        Store::I32To8 => ValueType::I32,
-        Store::I32To16 => ValueType::I32,
-        Store::I64To8 => ValueType::I64,
-        Store::I64To16 => ValueType::I64,
-        Store::I64To32 => ValueType::I64,
-    }
-}
-
-// The exponent of a store's natural alignment.
+/// The exponent of a store's natural alignment.
 fn store_exponent(store: Store) -> u32
     ensures { result ≡ store_exponent store }
 {
@@ -122,7 +65,7 @@ fn store_exponent(store: Store) -> u32
     }
 }
 
-// The signature, if the test holds.
+/// The signature, if the test holds.
 fn when(holds: bool, takes: Taken, gives: Option<ValueType>) -> Option<Signature>
     ensures { result ≡ when holds (record { takes = takes; gives = gives }) }
 {
@@ -133,7 +76,7 @@ fn when(holds: bool, takes: Taken, gives: Option<ValueType>) -> Option<Signature
     }
 }
 
-// What `global.set` takes.
+/// What `global.set` takes.
 fn set_signature(mutability: Mutability, value_type: ValueType) -> Option<Signature>
     ensures { result ≡ set_signature mutability value_type }
 {

@@ -21,7 +21,7 @@ pub enum Verdict {
     NotAModule,
 }
 
-// A module that reads a number, adds 1 to it and writes it again.
+/// A module that reads a number, adds 1 to it and writes it again.
 const BUMP: [u8; 124] = [
     0x00, 0x61, 0x73, 0x6D, 0x01, 0x00, 0x00, 0x00, 0x01, 0x12, 0x03, 0x60, 0x02, 0x7E, 0x7E, 0x01,
     0x7E, 0x60, 0x03, 0x7E, 0x7E, 0x7E, 0x01, 0x7E, 0x60, 0x00, 0x01, 0x7E, 0x02, 0x2D, 0x02, 0x01,
@@ -33,14 +33,14 @@ const BUMP: [u8; 124] = [
     0x00, 0x42, 0x8E, 0xCE, 0x26, 0x20, 0x00, 0x42, 0x01, 0x10, 0x01, 0x0B,
 ];
 
-// A function `f` without parameters that gives 2.
+/// A function `f` without parameters that gives 2.
 const SMALL: [u8; 34] = [
     0x00, 0x61, 0x73, 0x6D, 0x01, 0x00, 0x00, 0x00, 0x01, 0x05, 0x01, 0x60, 0x00, 0x01, 0x7E, 0x03,
     0x02, 0x01, 0x00, 0x07, 0x05, 0x01, 0x01, 0x66, 0x00, 0x00, 0x0A, 0x06, 0x01, 0x04, 0x00, 0x42,
     0x02, 0x0B,
 ];
 
-// The module that some bytes spell, with ample memory.
+/// The module that some bytes spell, with ample memory.
 fn checked(
     rt: &(impl Abort + AllocGlobal),
     bytes: &[u8],
@@ -64,7 +64,7 @@ fn judged(rt: &(impl Abort + AllocGlobal), bytes: &[u8]) -> Verdict {
     }
 }
 
-// The function that is ill typed, where one is.
+/// The function that is ill typed, where one is.
 fn ill_function(rt: &(impl Abort + AllocGlobal), bytes: &[u8]) -> Option<Option<u32>> {
     match checked(rt, bytes) {
         Ok(Err(CheckErr::Ill { func })) => Some(func),
@@ -72,7 +72,7 @@ fn ill_function(rt: &(impl Abort + AllocGlobal), bytes: &[u8]) -> Option<Option<
     }
 }
 
-// What a digit of base 16 stands for.
+/// What a digit of base 16 stands for.
 fn digit(character: u8) -> u8
     ensures { result < 16 }
 {
@@ -83,7 +83,7 @@ fn digit(character: u8) -> u8
     }
 }
 
-// The bytes that are written in base 16.
+/// The bytes that are written in base 16.
 fn bytes_of(alloc: Global, text: &str) -> Result<Vec<u8>, AllocError> {
     let mut bytes = Vec::new(alloc);
     let mut high = None;
@@ -100,7 +100,7 @@ fn bytes_of(alloc: Global, text: &str) -> Result<Vec<u8>, AllocError> {
     Ok(bytes)
 }
 
-// The verdict that a line of the table begins with.
+/// The verdict that a line of the table begins with.
 fn expected(word: &str) -> Option<Verdict> {
     match word {
         "valid" => Some(Verdict::Valid),
@@ -164,7 +164,7 @@ fn worked_modules(rt: HostRuntime) -> Result<(), Fail> {
     Ok(())
 }
 
-// What linking says of some bytes, if they are a valid module.
+/// What linking says of some bytes, if they are a valid module.
 fn linked(rt: &(impl Abort + AllocGlobal), bytes: &[u8]) -> Option<Result<(), Unlinked>> {
     match checked(rt, bytes) {
         Ok(Ok(module)) => Some(link(&module)),
@@ -202,7 +202,7 @@ fn imports_are_linked(rt: HostRuntime) -> Result<(), Fail> {
     Ok(())
 }
 
-// A number of three bytes.
+/// A number of three bytes.
 fn push_number(bytes: &mut Vec<u8>, number: usize) -> Result<(), AllocError> {
     bytes.push((number % 128) as u8 + 128)?;
     bytes.push((number / 128 % 128) as u8 + 128)?;
@@ -210,7 +210,7 @@ fn push_number(bytes: &mut Vec<u8>, number: usize) -> Result<(), AllocError> {
     Ok(())
 }
 
-// A module with one function, without parameters and results: its locals and its body.
+/// A module with one function, without parameters and results: its locals and its body.
 fn with_function(alloc: Global, function: &[u8]) -> Result<Vec<u8>, AllocError> {
     let mut bytes = Vec::from_slice(alloc, &SMALL[..8])?;
     bytes.extend_from_slice(&[
@@ -223,7 +223,7 @@ fn with_function(alloc: Global, function: &[u8]) -> Result<Vec<u8>, AllocError> 
     Ok(bytes)
 }
 
-// A function of so many nested blocks.
+/// A function of so many nested blocks.
 fn nested(alloc: Global, depth: u32) -> Result<Vec<u8>, AllocError> {
     let mut function = vec![in alloc; 0x00]?;
     for _ in 0..depth {

@@ -1,4 +1,4 @@
--- Code that names only labels, functions and types that are there.
+-- Code that names only labels, functions and types that are there (own).
 use Rattle.std.specs.Prelude.{◌≡◌, ℕ, suc, ◌<◌, Some, slice_get}
 use Rattle.std.specs.List.{AllByRecursion}
 use Rattle.wasm_spec.specs.declared.types.FuncType.{FuncType}

@@ -1,4 +1,4 @@
--- What was compiled, whatever comes after it.
+-- What was compiled, whatever comes after it (own).
 use Rattle.std.specs.Prelude.{◌≡◌, ℕ, ◌+◌, ◌*◌, ◌<◌, ◌≤◌, List, [], ◌∷◌, ◌++◌, length, Some, Bool, true, false, slice_get, slice_set}
 use Rattle.wasm_spec.specs.declared.module.Function.{Function}
 use Rattle.wasm_spec.specs.declared.module.Module.{Module}

@@ -1,4 +1,4 @@
--- Where the instructions of a tree stand in flat code.
+-- Where the instructions of a tree stand in flat code (own).
 use Rattle.std.specs.Prelude.{◌≡◌, ℕ, zero, suc, ◌+◌, ◌-◌, ◌*◌, ◌<◌, List, [], ◌∷◌, length, Option, Some, None, slice_get}
 use Rattle.wasm_spec.specs.declared.types.FuncType.{FuncType}
 use Rattle.wasm_spec.specs.declared.instructions.Plain.{Plain}

@@ -1,16 +1,17 @@
 //! From trees to flat code.
 
-ghost use Rattle.std.specs.Prelude.{◌≡◌, ◌<◌, ◌≤◌, ◌+◌, ◌-◌, ◌^◌, [], length, slice_get, Some, Bool, IfOk, OnOk, option_copied};
+ghost use Rattle.std.specs.Prelude.{◌≡◌, ◌<◌, ◌≤◌, ◌+◌, ◌-◌, ◌^◌, [], length, Some, Bool, IfOk, OnOk, option_copied};
 ghost use Rattle.std.specs.List.{AllByRecursion};
 ghost use Rattle.wasm_spec.specs.Code.{Code, control, end};
 ghost use Rattle.wasm_spec.specs.Views.{before, code_of};
-ghost use Rattle.wasm_spec.specs.Typing.{Typed, function_indices, function_type, result_of};
+ghost use Rattle.wasm_spec.specs.Typing.{Typed, result_of};
 ghost use Rattle.wasm_code.specs.Closed.{Closed, ControlClosed, FunctionClosed};
 ghost use Rattle.wasm_code.specs.Placed.{arity, counts_of, height_after_call, IsCompiled};
 ghost use Rattle.wasm_code.specs.Emitted.{Emitted, EmittedAll, RowEmitted, Puts, Opens, Closes, Forgets, Patches, FunctionEmitted, ImportsEmitted, jump_step};
 
 use crate::labels::{Labels, Open};
 use crate::step::{FlatCode, Step, Target};
+use crate::types::{function_type, type_at};
 use std::alloc::{AllocError, Global};
 use wasm_spec::{Control, FuncType, Function, Instr, Items, Module, Numeric, Plain, ValueType};
 
@@ -23,42 +24,14 @@ pub struct Emitter {
     pub home: Open,
 }
 
-// The function type of the import or function of this index.
-fn type_index_at(module: &Module, index: usize) -> Option<u32>
-    ensures { result ≡ slice_get (function_indices «module».now) index }
-{
-    let imports = module.imports.as_slice();
-    if index < imports.len() {
-        Some(imports[index].type_index)
-    } else {
-        let function = module.functions.as_slice().get(index - imports.len())?;
-        Some(function.type_index)
-    }
-}
-
-// The function type of this index.
-fn type_at(module: &Module, index: u32) -> Option<&FuncType>
-    ensures { option_copied result ≡ slice_get «module».now.types index }
-{
-    module.types.as_slice().get(index as usize)
-}
-
-// The type of the import or function of this index.
-fn type_of_function(module: &Module, index: u32) -> Option<&FuncType>
-    ensures { option_copied result ≡ function_type «module».now index }
-{
-    let type_index = type_index_at(module, index as usize)?;
-    type_at(module, type_index)
-}
-
-// What a function of this type gives.
+/// What a function of this type gives.
 fn result_of(function_type: &FuncType) -> Option<ValueType>
     ensures { result ≡ result_of function_type.now }
 {
     function_type.results.as_slice().first().copied()
 }
 
-// How many values a result is.
+/// How many values a result is.
 fn arity(carried: Option<ValueType>) -> usize
     ensures value { result ≡ arity carried }
     ensures bound { result ≤ 1 }
@@ -69,7 +42,7 @@ fn arity(carried: Option<ValueType>) -> usize
     }
 }
 
-// How many operands the instruction takes.
+/// How many operands the instruction takes.
 fn taken(plain: Plain) -> usize
     ensures { result ≡ (counts_of plain).takes }
 {
@@ -93,7 +66,7 @@ fn taken(plain: Plain) -> usize
     }
 }
 
-// How many operands the instruction gives.
+/// How many operands the instruction gives.
 fn given(plain: Plain) -> usize
     ensures value { result ≡ (counts_of plain).gives }
     ensures bound { result ≤ 1 }
@@ -114,7 +87,7 @@ fn given(plain: Plain) -> usize
     }
 }
 
-// One more step.
+/// One more step.
 fn put(out: &mut Emitter, step: Step) -> Result<(), AllocError>
     ensures { OnOk result (Puts out.old out.new step) }
 {
@@ -122,7 +95,7 @@ fn put(out: &mut Emitter, step: Step) -> Result<(), AllocError>
     Ok(())
 }
 
-// So many operands more. There are never more of them than steps.
+/// So many operands more. There are never more of them than steps.
 fn higher(out: &Emitter, height: usize, more: usize) -> usize
     requires height { height < length out.now.steps.items }
     requires more { more ≤ 1 }
@@ -132,7 +105,7 @@ fn higher(out: &Emitter, height: usize, more: usize) -> usize
     height + more
 }
 
-// A branch to a label, from so many operands.
+/// A branch to a label, from so many operands.
 fn jump(out: &mut Emitter, label: Open, height: usize, conditional: bool) -> Result<(), AllocError>
     ensures { OnOk result (Puts out.old out.new (jump_step conditional label.target (height - label.height - arity label.result))) }
 {
@@ -146,14 +119,14 @@ fn jump(out: &mut Emitter, label: Open, height: usize, conditional: bool) -> Res
     }
 }
 
-// A new label, whose target is at this place for now.
+/// A new label, whose target is at this place for now.
 fn open_label(
     out: &mut Emitter,
     place: usize,
     carried: Option<ValueType>,
     height: usize,
 ) -> Result<usize, AllocError>
-    ensures { IfOk result (λ id. Opens out.old out.new place carried height id) }
+    ensures { IfOk result (λ target. Opens out.old out.new place carried height target) }
 {
     let target = out.targets.len();
     out.targets.push(Target {
@@ -168,7 +141,7 @@ fn open_label(
     Ok(target)
 }
 
-// The end of the innermost label's block, to which branches to it lead.
+/// The end of the innermost label's block, to which branches to it lead.
 fn close_label(out: &mut Emitter, target: usize, carried: Option<ValueType>)
     requires { target < length out.old.targets.items }
     ensures { Closes out.old out.new target carried }
@@ -180,14 +153,14 @@ fn close_label(out: &mut Emitter, target: usize, carried: Option<ValueType>)
     out.labels.pop();
 }
 
-// The end of a loop, to whose beginning branches lead.
+/// The end of a loop, to whose beginning branches lead.
 fn forget_label(out: &mut Emitter)
     ensures { Forgets out.old out.new }
 {
     out.labels.pop();
 }
 
-// Where the halves of a choice begin and end.
+/// Where the halves of a choice begin and end.
 fn patch(out: &mut Emitter, test: usize, skip: usize)
     requires test { test < length out.old.steps.items }
     requires skip { skip < length out.old.steps.items }
@@ -198,7 +171,7 @@ fn patch(out: &mut Emitter, test: usize, skip: usize)
     out.steps[skip] = Step::Skip(end);
 }
 
-// The jumps of a table, to these labels and to one more.
+/// The jumps of a table, to these labels and to one more.
 fn emit_row(out: &mut Emitter, depths: &[u32], other: u32, height: usize) -> Result<(), AllocError>
     requires depths { AllByRecursion (λ k. k < length out.old.labels) depths.now }
     requires other { other < length out.old.labels }
@@ -212,19 +185,19 @@ fn emit_row(out: &mut Emitter, depths: &[u32], other: u32, height: usize) -> Res
     jump(out, label, height, false)
 }
 
-// A control instruction without instructions inside.
+/// A control instruction without instructions inside.
 fn emit_control(
     out: &mut Emitter,
     module: &Module,
-    i: &Control,
+    instruction: &Control,
     height: usize,
 ) -> Result<usize, AllocError>
-    requires closed { ControlClosed «module».now (length out.old.labels) i.now }
+    requires closed { ControlClosed «module».now (length out.old.labels) instruction.now }
     requires bound { height ≤ length out.old.steps.items }
-    ensures placed { IfOk result (λ h. Emitted «module».now out.old out.new height h (control i.now)) }
-    ensures bound { IfOk result (λ h. h ≤ length out.new.steps.items) }
+    ensures placed { IfOk result (λ after. Emitted «module».now out.old out.new height after (control instruction.now)) }
+    ensures bound { IfOk result (λ after. after ≤ length out.new.steps.items) }
 {
-    match i {
+    match instruction {
         Control::Unreachable => {
             put(out, Step::Unreachable)?;
             Ok(height)
@@ -252,7 +225,7 @@ fn emit_control(
         }
         Control::Call(function) => {
             put(out, Step::Call(*function))?;
-            let called = type_of_function(module, *function);
+            let called = function_type(module, *function);
             Ok(after_call(out, called, height))
         }
         Control::CallIndirect(type_index) => {
@@ -263,7 +236,7 @@ fn emit_control(
     }
 }
 
-// How many operands there are after the call of a function of this type.
+/// How many operands there are after the call of a function of this type.
 fn after_call(out: &Emitter, called: Option<&FuncType>, height: usize) -> usize
     requires { height < length out.now.steps.items }
     ensures value { result ≡ height_after_call (option_copied called.entry) height }
@@ -278,20 +251,20 @@ fn after_call(out: &Emitter, called: Option<&FuncType>, height: usize) -> usize
     }
 }
 
-// An instruction.
+/// An instruction.
 #[cycle(emit)]
 fn emit_one(
     out: &mut Emitter,
     module: &Module,
-    i: &Instr,
+    instruction: &Instr,
     height: usize,
 ) -> Result<usize, AllocError>
-    requires closed { Closed «module».now (length out.old.labels) (before i.now end) }
+    requires closed { Closed «module».now (length out.old.labels) (before instruction.now end) }
     requires bound { height ≤ length out.old.steps.items }
-    ensures placed { IfOk result (λ h. Emitted «module».now out.old out.new height h (before i.now)) }
-    ensures bound { IfOk result (λ h. h ≤ length out.new.steps.items) }
+    ensures placed { IfOk result (λ after. Emitted «module».now out.old out.new height after (before instruction.now)) }
+    ensures bound { IfOk result (λ after. after ≤ length out.new.steps.items) }
 {
-    match i {
+    match instruction {
         Instr::Plain(plain) => {
             put(out, Step::Plain(*plain))?;
             let below = height.saturating_sub(taken(*plain));
@@ -329,26 +302,26 @@ fn emit_one(
     }
 }
 
-// Instructions one after another.
+/// Instructions one after another.
 #[cycle(emit)]
 fn emit_all(
     out: &mut Emitter,
     module: &Module,
-    is: &[Instr],
+    instructions: &[Instr],
     height: usize,
 ) -> Result<(), AllocError>
-    requires closed { Closed «module».now (length out.old.labels) (code_of is.now) }
+    requires closed { Closed «module».now (length out.old.labels) (code_of instructions.now) }
     requires bound { height ≤ length out.old.steps.items }
-    ensures { OnOk result (EmittedAll «module».now out.old out.new height (code_of is.now)) }
+    ensures { OnOk result (EmittedAll «module».now out.old out.new height (code_of instructions.now)) }
 {
-    let mut h = height;
-    for i in is {
-        h = emit_one(out, module, i, h)?;
+    let mut current_height = height;
+    for instruction in instructions {
+        current_height = emit_one(out, module, instruction, current_height)?;
     }
     Ok(())
 }
 
-// A function, up to its end. Gives the place where it begins.
+/// A function, up to its end. Gives the place where it begins.
 fn emit_function(
     out: &mut Emitter,
     module: &Module,
@@ -375,7 +348,7 @@ fn emit_function(
     Ok(place)
 }
 
-// The calls of the imports, before all functions.
+/// The calls of the imports, before all functions.
 fn emit_imports(out: &mut Emitter, module: &Module) -> Result<(), AllocError>
     requires steps { out.old.steps.items ≡ [] }
     requires labels { out.old.labels ≡ [] }

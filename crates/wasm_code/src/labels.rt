@@ -31,6 +31,7 @@ impl Model for Labels {
 }
 
 impl Labels {
+    /// No label is open.
     pub fn new(alloc: Global) -> Self
         ensures { result ≡ [] }
     {
@@ -39,6 +40,7 @@ impl Labels {
         }
     }
 
+    /// Opens a label.
     pub fn push(&mut self, label: Open) -> Result<(), AllocError>
         ensures { OnOk result (self.new ≡ label ∷ self.old) }
     {
@@ -46,6 +48,7 @@ impl Labels {
         Ok(())
     }
 
+    /// Closes the innermost label.
     pub fn pop(&mut self)
         ensures { (o : _) (os : _) → self.old ≡ o ∷ os → self.new ≡ os }
     {

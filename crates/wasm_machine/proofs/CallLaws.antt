@@ -1,7 +1,9 @@
 -- Calls that do not fail: what they find, and what they come to.
-use Rattle.std.proofs.Common.{◌≡◌, ◌≢◌, ℕ, zero, suc, ◌+◌, ◌-◌, ◌<◌, ◌≤◌, Bool, true, false, List, [], ◌∷◌, ◌++◌, length, map, take, drop, replicate, Option, Some, None, refl, ap, ◌∙◌, arith}
+use Rattle.std.proofs.Common.{◌≡◌, ◌≢◌, ℕ, zero, suc, ◌+◌, ◌-◌, ◌<◌, ◌≤◌, Bool, true, false, List, [], ◌∷◌, ◌++◌, length, map, take, replicate, Option, Some, None, refl, ap, ap₂, ◌∙◌, arith}
 use Rattle.std.specs.Prelude.{slice_get, IsSome, ◌&&◌}
+use Rattle.std.specs.Cmp.Lexicographic.{pointwise}
 use Rattle.wasm_spec.specs.declared.types.ValueType.{ValueType}
+use Rattle.wasm_spec.specs.declared.types.ValueType.TheVariants.{I32, I64}
 use Rattle.wasm_spec.specs.declared.types.FuncType.{FuncType}
 use Rattle.wasm_spec.specs.declared.values.Value.{Value}
 use Rattle.wasm_spec.specs.declared.values.TrapKind.TheVariants.{CallDepth}
@@ -12,33 +14,25 @@ use Rattle.wasm_spec.specs.Typing.{result_of, local_types}
 use Rattle.wasm_spec.specs.Stores.{number_of, zero_of}
 use Rattle.wasm_spec.specs.Runs.{State}
 use Rattle.wasm_spec.specs.Meaning.{same_type, same_types, arguments, start_locals, MOST_CALLS}
-use Rattle.wasm_spec.proofs.Sound.{same_types_are}
 use Rattle.wasm_code.specs.declared.step.FlatCode.{FlatCode}
 use Rattle.wasm_machine.specs.Numbers.{first_locals}
 use Rattle.wasm_machine.specs.Machine.{Frame, Machine, Moved, Goes, Traps, Fails, Asks, on_with, room_of, taking, enters, calls_own, asks, calls}
 
 -- types
 
-pub same_types-drop : (xs ys : List ValueType) (i : ℕ) (x y : ValueType) → slice_get xs i ≡ Some x → slice_get ys i ≡ Some y → same_types (drop i xs) (drop i ys) ≡ (same_type x y && same_types (drop (suc i) xs) (drop (suc i) ys))
-same_types-drop [] ys i x y e f = cc
-same_types-drop (a ∷ xs) [] i x y e f = cc
-same_types-drop (a ∷ xs) (b ∷ ys) zero x y e f = let p : a ≡ x = cc in let q : b ≡ y = cc in ap (λ v. same_type v b && same_types xs ys) p ∙ ap (λ v. same_type x v && same_types xs ys) q
-same_types-drop (a ∷ xs) (b ∷ ys) (suc i) x y e f = same_types-drop xs ys i x y e f
+-- what a test of two types says, where it knows each of them
+same_type-by : (E : ValueType → ValueType → Bool) → E I32 I32 ≡ true → E I32 I64 ≡ false → E I64 I32 ≡ false → E I64 I64 ≡ true → (t u : ValueType) → E t u ≡ same_type t u
+same_type-by E nn nw wn ww I32 I32 = nn
+same_type-by E nn nw wn ww I32 I64 = nw
+same_type-by E nn nw wn ww I64 I32 = wn
+same_type-by E nn nw wn ww I64 I64 = ww
 
-pub same_types-all : (xs ys : List ValueType) (i : ℕ) → length xs ≡ length ys → length xs ≤ i → same_types (drop i xs) (drop i ys) ≡ true
-same_types-all [] [] zero e le = refl
-same_types-all [] [] (suc i) e le = refl
-same_types-all [] (y ∷ ys) i e le = absurd (omega arith)
-same_types-all (x ∷ xs) [] i e le = absurd (omega arith)
-same_types-all (x ∷ xs) (y ∷ ys) zero e le = absurd (omega arith)
-same_types-all (x ∷ xs) (y ∷ ys) (suc i) e le = same_types-all xs ys i (omega arith) (omega arith)
-
-differ_if : (b : Bool) (xs ys : List ValueType) → same_types xs ys ≡ b → length xs ≢ length ys → b ≡ false
-differ_if true xs ys e ne = absurd (ne (ap length (same_types_are xs ys e)))
-differ_if false xs ys e ne = refl
-
-pub same_types-differ : (xs ys : List ValueType) → length xs ≢ length ys → same_types xs ys ≡ false
-same_types-differ xs ys ne = differ_if (same_types xs ys) xs ys refl ne
+-- and what it says of two lists of them
+pub same_types-by : (E : ValueType → ValueType → Bool) → E I32 I32 ≡ true → E I32 I64 ≡ false → E I64 I32 ≡ false → E I64 I64 ≡ true → (ts us : List ValueType) → pointwise E ts us ≡ same_types ts us
+same_types-by E nn nw wn ww [] [] = refl
+same_types-by E nn nw wn ww [] (u ∷ us) = refl
+same_types-by E nn nw wn ww (t ∷ ts) [] = refl
+same_types-by E nn nw wn ww (t ∷ ts) (u ∷ us) = ap₂ (λ x y. x && y) (same_type-by E nn nw wn ww t u) (same_types-by E nn nw wn ww ts us)
 
 -- locals
 

@@ -1,4 +1,4 @@
--- The machine does what a run says.
+-- The machine does what a run says (own).
 use Rattle.std.specs.Prelude.{◌≡◌, ℕ, List}
 use Rattle.budget_meter.specs.Meter.{Meter}
 use Rattle.wasm_spec.specs.declared.module.Module.{Module}

@@ -1,4 +1,4 @@
--- Calls that wait, as clauses see them.
+-- Calls that wait, as clauses see them (own).
 use Rattle.wasm_machine.specs.declared.frames.Waiting.{Waiting}
 use Rattle.wasm_machine.specs.Machine.{Frame}
 

@@ -1,4 +1,4 @@
--- What is left where the memory was written to.
+-- What is left where the memory was written to (own).
 use Rattle.std.specs.Prelude.{ℕ, List, length}
 use Rattle.std.specs.List.{refill}
 use Rattle.std.specs.Borrow.{Lends, MutBor, Fml, Array, u8}

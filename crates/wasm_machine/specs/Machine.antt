@@ -1,4 +1,4 @@
--- What the machine does with flat code.
+-- What the machine does with flat code (own).
 use Rattle.std.specs.Prelude.{ℕ, zero, suc, ◌+◌, ◌-◌, nat_lt, min, List, [], ◌∷◌, ◌++◌, length, map, Option, Some, None, slice_get, Bool, true, false}
 use Rattle.budget_meter.specs.declared.kind.Kind.TheVariants.{MemAlloc}
 use Rattle.budget_meter.specs.Meter.{Meter}

@@ -1,4 +1,4 @@
--- Operands of the two types, and locals.
+-- Operands of the two types, and locals (own).
 use Rattle.std.specs.Prelude.{◌≡◌, List, [], ◌∷◌, replicate}
 use Rattle.std.specs.List.{flat_map}
 use Rattle.wasm_spec.specs.declared.module.Locals.{Locals}

@@ -1,4 +1,4 @@
--- The machine of the code, as the machine of the definitions.
+-- The machine of the code, as the machine of the definitions (own).
 use Rattle.std.specs.Prelude.{◌≡◌, ◌≢◌, ℕ, suc, List, Option, Some, None, true, false, ◌⊎◌}
 use Rattle.budget_meter.specs.declared.kind.Kind.TheVariants.{WasmInsnExec}
 use Rattle.budget_meter.specs.Meter.{Meter, used_after}

@@ -1,4 +1,4 @@
--- Budgets as a run goes on.
+-- Budgets as a run goes on (own).
 use Rattle.std.specs.Prelude.{◌≡◌, ◌≤◌}
 use Rattle.budget_meter.specs.Meter.{Meter}
 

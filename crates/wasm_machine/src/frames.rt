@@ -32,6 +32,7 @@ impl Model for Frames {
 }
 
 impl Frames {
+    /// No call waits.
     pub fn new(alloc: Global) -> Self
         ensures { result ≡ [] }
     {
@@ -47,6 +48,7 @@ impl Frames {
         self.calls.len()
     }
 
+    /// A call waits for the one that it made.
     pub fn push(&mut self, call: Waiting) -> Result<(), AllocError>
         ensures ok { OnOk result (self.new ≡ frame_of call ∷ self.old) }
         ensures err { OnErr result (self.new ≡ self.old) }
@@ -55,6 +57,7 @@ impl Frames {
         Ok(())
     }
 
+    /// The call that waited last, if one waits.
     pub fn pop(&mut self) -> Option<Waiting>
         ensures some { IfSome result (λ call. self.old ≡ frame_of call ∷ self.new) }
         ensures none { IfNone result ((self.old ≡ []) × (self.new ≡ [])) }

@@ -8,24 +8,24 @@ use crate::machine::{Outcome, Running};
 use wasm_code::FlatCode;
 
 /// A branch to the target, which takes so many operands away.
-pub fn jump(code: &FlatCode, m: &mut Running, id: usize, n: usize)
-    requires { CanMove (jumps (slice_get code.now.targets id) n) m.old }
-    ensures { Moves (jumps (slice_get code.now.targets id) n) m.old Outcome.Goes m.new }
+pub fn jump(code: &FlatCode, machine: &mut Running, target_index: usize, dropped: usize)
+    requires { CanMove (jumps (slice_get code.now.targets target_index) dropped) machine.old }
+    ensures { Moves (jumps (slice_get code.now.targets target_index) dropped) machine.old Outcome.Goes machine.new }
 {
-    let target = code.targets.as_slice()[id];
-    m.operands.cut(target.result, n);
-    m.place = target.place;
+    let target = code.targets.as_slice()[target_index];
+    machine.operands.cut(target.result, dropped);
+    machine.place = target.place;
 }
 
 /// The end of a function.
-pub fn leave(m: &mut Running) -> Outcome
-    ensures { Moves (λ x. returns x.frames x) m.old result m.new }
+pub fn leave(machine: &mut Running) -> Outcome
+    ensures { Moves (λ x. returns x.frames x) machine.old result machine.new }
 {
-    match m.frames.pop() {
+    match machine.frames.pop() {
         None => Outcome::Ends,
         Some(waiting) => {
-            m.place = waiting.place;
-            m.locals = waiting.locals;
+            machine.place = waiting.place;
+            machine.locals = waiting.locals;
             Outcome::Goes
         }
     }

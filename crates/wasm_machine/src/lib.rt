@@ -12,9 +12,7 @@ mod run;
 mod step;
 mod store;
 
-pub use calls::{
-    add_locals, call, call_import, call_indirect, function_type, is_import, same_types, type_at,
-};
+pub use calls::{add_locals, call, call_import, call_indirect, is_import, same_types};
 pub use frames::{Frames, Waiting};
 pub use jumps::{jump, leave};
 pub use machine::{Outcome, Running};

@@ -33,12 +33,13 @@ pub fn put_numbers(values: &mut [Value], numbers: &[u64])
     requires { length numbers.now ≤ length values.old }
     ensures { values.new ≡ map value.I64 numbers.now ++ drop (length numbers.now) values.old }
 {
-    for (i, number) in numbers.iter().enumerate() {
-        values[i] = Value::I64(*number);
+    for (index, number) in numbers.iter().enumerate() {
+        values[index] = Value::I64(*number);
     }
 }
 
 impl Operands {
+    /// No operands.
     pub fn new(alloc: Global) -> Self
         ensures { result ≡ [] }
     {
@@ -54,6 +55,7 @@ impl Operands {
         Operands { values }
     }
 
+    /// Adds an operand.
     pub fn push(&mut self, value: Value) -> Result<(), AllocError>
         ensures ok { OnOk result (self.new ≡ value ∷ self.old) }
         ensures err { OnErr result (self.new ≡ self.old) }
@@ -62,6 +64,7 @@ impl Operands {
         Ok(())
     }
 
+    /// Takes the last operand; there is one.
     pub fn pop(&mut self) -> Value
         requires { 0 < length self.old }
         ensures { self.old ≡ result ∷ self.new }
@@ -118,35 +121,35 @@ impl Operands {
         }
     }
 
-    /// Takes the n topmost away.
-    pub fn remove(&mut self, n: usize)
-        requires { IsSome (removed n self.old) }
-        ensures { removed n self.old ≡ Some self.new }
+    /// Takes so many of the topmost away.
+    pub fn remove(&mut self, count: usize)
+        requires { IsSome (removed count self.old) }
+        ensures { removed count self.old ≡ Some self.new }
     {
-        self.values.truncate(self.values.len() - n);
+        self.values.truncate(self.values.len() - count);
     }
 
-    /// Takes n away from under the value that is carried.
-    pub fn cut(&mut self, carried: Option<ValueType>, n: usize)
-        requires { IsSome (cut carried n self.old) }
-        ensures { cut carried n self.old ≡ Some self.new }
+    /// Takes so many away from under the value that is carried.
+    pub fn cut(&mut self, carried: Option<ValueType>, count: usize)
+        requires { IsSome (cut carried count self.old) }
+        ensures { cut carried count self.old ≡ Some self.new }
     {
         match carried {
-            None => self.remove(n),
+            None => self.remove(count),
             Some(_) => {
                 let top = self.values.len() - 1;
-                self.values[top - n] = self.values[top];
-                self.values.truncate(top + 1 - n);
+                self.values[top - count] = self.values[top];
+                self.values.truncate(top + 1 - count);
             }
         }
     }
 
-    /// Takes the n topmost away, the first pushed first.
-    pub fn take_arguments(&mut self, n: usize) -> Result<Vec<Value>, AllocError>
-        requires { IsSome (arguments n [] self.old) }
-        ensures { IfOk result (λ args. arguments n [] self.old ≡ Some (args.items, self.new)) }
+    /// Takes so many of the topmost away, the first pushed first.
+    pub fn take_arguments(&mut self, count: usize) -> Result<Vec<Value>, AllocError>
+        requires { IsSome (arguments count [] self.old) }
+        ensures { IfOk result (λ args. arguments count [] self.old ≡ Some (args.items, self.new)) }
     {
-        let rest = self.values.len() - n;
+        let rest = self.values.len() - count;
         self.values.split_off(rest)
     }
 }

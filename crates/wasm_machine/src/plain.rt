@@ -2,7 +2,7 @@
 
 ghost use Rattle.std.specs.Prelude.{◌≡◌, ◌≢◌, ◌<◌, ◌^◌, ◌∷◌, List, slice_get, IfOk, OnOk, IfSome, Some, None};
 ghost use Rattle.wasm_spec.specs.Integers.{width};
-ghost use Rattle.wasm_spec.specs.Typing.{numeric_signature, load_type, store_type, converted_from, converted_to};
+ghost use Rattle.wasm_spec.specs.Typing.{numeric_signature, store_type};
 ghost use Rattle.wasm_spec.specs.Stores.{value_of};
 ghost use Rattle.wasm_spec.specs.declared.types.Taken.TheVariants as taken;
 ghost use Rattle.wasm_spec.specs.declared.types.ValueType.TheVariants.{I32 as Narrow};
@@ -17,10 +17,11 @@ ghost use Rattle.wasm_machine.specs.Running.{CanApply, IsEffect};
 use crate::operands::Operands;
 use crate::store::Store;
 use std::alloc::AllocError;
+use wasm_code::{converted_from, converted_to, load_type, store_type};
 use wasm_num::{load, numeric};
-use wasm_spec::{Conversion, Load, MemArg, Numeric, Plain, TrapKind, Value, ValueType};
+use wasm_spec::{Load, MemArg, Numeric, Plain, TrapKind, Value, ValueType};
 
-// The value of a number of this type.
+/// The value of a number of this type.
 fn value_of(value_type: ValueType, number: u64) -> Value
     requires { number < 2 ^ width value_type }
     ensures { result ≡ value_of value_type number }
@@ -31,7 +32,7 @@ fn value_of(value_type: ValueType, number: u64) -> Value
     }
 }
 
-// Takes the topmost operand, which has the type.
+/// Takes the topmost operand, which has the type.
 fn pop_number(operands: &mut Operands, value_type: ValueType) -> u64
     requires { HasTop value_type operands.old }
     ensures number { operands.old ≡ value_of value_type result ∷ operands.new }
@@ -43,52 +44,7 @@ fn pop_number(operands: &mut Operands, value_type: ValueType) -> u64
     }
 }
 
-// The type of what a load gives.
-fn load_type(kind: Load) -> ValueType
-    ensures { result ≡ load_type kind }
-{
-    match kind {
-        Load::I32 => ValueType::I32,
-        Load::I64 => ValueType::I64,
-        Load::I32From8(_) => ValueType::I32,
-        Load::I32From16(_) => ValueType::I32,
-        Load::I64From8(_) => ValueType::I64,
-        Load::I64From16(_) => ValueType::I64,
-        Load::I64From32(_) => ValueType::I64,
-    }
-}
-
-// The type of what a store takes.
-fn store_type(kind: wasm_spec::Store) -> ValueType
-    ensures { result ≡ store_type kind }
-{
-    match kind {
-        wasm_spec::Store::I32 => ValueType::I32,
-        wasm_spec::Store::I64 => ValueType::I64,
-        wasm_spec::Store::I32To8 => ValueType::I32,
-        wasm_spec::Store::I32To16 => ValueType::I32,
-        wasm_spec::Store::I64To8 => ValueType::I64,
-        wasm_spec::Store::I64To16 => ValueType::I64,
-        wasm_spec::Store::I64To32 => ValueType::I64,
-    }
-}
-
-// The type of what a conversion gives.
-fn converted_to(conversion: Conversion) -> ValueType
-    ensures { result ≡ converted_to conversion }
-{
-    match conversion {
-        Conversion::I32Wrap => ValueType::I32,
-        Conversion::I64Extend(_) => ValueType::I64,
-        Conversion::I32Extend8 => ValueType::I32,
-        Conversion::I32Extend16 => ValueType::I32,
-        Conversion::I64Extend8 => ValueType::I64,
-        Conversion::I64Extend16 => ValueType::I64,
-        Conversion::I64Extend32 => ValueType::I64,
-    }
-}
-
-// The type of what a numeric instruction gives.
+/// The type of what a numeric instruction gives.
 fn given_type(operation: Numeric) -> ValueType
     ensures { (numeric_signature operation).gives ≡ Some result }
 {
@@ -101,7 +57,7 @@ fn given_type(operation: Numeric) -> ValueType
     }
 }
 
-// Gives what a numeric instruction came to.
+/// Gives what a numeric instruction came to.
 fn give(
     operation: Numeric,
     number: Option<u64>,
@@ -119,7 +75,7 @@ fn give(
     }
 }
 
-// A numeric instruction with one operand.
+/// A numeric instruction with one operand.
 fn apply_one(
     operation: Numeric,
     operand: ValueType,
@@ -133,7 +89,7 @@ fn apply_one(
     give(operation, numeric(operation, number, 0), operands)
 }
 
-// A load.
+/// A load.
 fn apply_load(
     kind: Load,
     argument: MemArg,
@@ -153,7 +109,7 @@ fn apply_load(
     }
 }
 
-// A numeric instruction with two operands of one type.
+/// A numeric instruction with two operands of one type.
 fn apply_two(
     operation: Numeric,
     operand: ValueType,
@@ -168,7 +124,7 @@ fn apply_two(
     give(operation, numeric(operation, first, second), operands)
 }
 
-// A store.
+/// A store.
 fn apply_store(
     kind: wasm_spec::Store,
     argument: MemArg,
@@ -186,7 +142,7 @@ fn apply_store(
     }
 }
 
-// A numeric instruction.
+/// A numeric instruction.
 fn apply_numeric(
     operation: Numeric,
     operands: &mut Operands,
@@ -205,22 +161,7 @@ fn apply_numeric(
     }
 }
 
-// The type of what a conversion takes.
-fn converted_from(conversion: Conversion) -> ValueType
-    ensures { result ≡ converted_from conversion }
-{
-    match conversion {
-        Conversion::I32Wrap => ValueType::I64,
-        Conversion::I64Extend(_) => ValueType::I32,
-        Conversion::I32Extend8 => ValueType::I32,
-        Conversion::I32Extend16 => ValueType::I32,
-        Conversion::I64Extend8 => ValueType::I64,
-        Conversion::I64Extend16 => ValueType::I64,
-        Conversion::I64Extend32 => ValueType::I64,
-    }
-}
-
-// Chooses between the two values under a number.
+/// Chooses between the two values under a number.
 fn apply_select(operands: &mut Operands) -> Result<(), AllocError>
     requires { (locals : List Operand) × (store : Contents) × CanApply (effect_of op.Select operands.old locals store) }
     ensures { OnOk result ((locals : List Operand) (store : Contents) → IsEffect (effect_of op.Select operands.old locals store) None operands.new locals store) }
@@ -235,7 +176,7 @@ fn apply_select(operands: &mut Operands) -> Result<(), AllocError>
     }
 }
 
-// The local of this index.
+/// The local of this index.
 fn local_at(locals: &[Value], index: u32) -> Option<Value>
     ensures { result ≡ slice_get locals.now index }
 {
@@ -260,23 +201,23 @@ pub fn apply(
             let _ = operands.pop();
         }
         Plain::Select => apply_select(operands)?,
-        Plain::LocalGet(i) => match local_at(locals, i) {
+        Plain::LocalGet(index) => match local_at(locals, index) {
             Some(value) => operands.push(value)?,
             None => unreachable!(),
         },
-        Plain::LocalSet(i) => locals[i as usize] = operands.pop(),
-        Plain::LocalTee(i) => {
+        Plain::LocalSet(index) => locals[index as usize] = operands.pop(),
+        Plain::LocalTee(index) => {
             let value = operands.pop();
-            locals[i as usize] = value;
+            locals[index as usize] = value;
             operands.push(value)?;
         }
-        Plain::GlobalGet(i) => match store.global(i) {
+        Plain::GlobalGet(index) => match store.global(index) {
             Some(value) => operands.push(value)?,
             None => unreachable!(),
         },
-        Plain::GlobalSet(i) => {
+        Plain::GlobalSet(index) => {
             let value = operands.pop();
-            store.set_global(i, value);
+            store.set_global(index, value);
         }
         Plain::Load(kind, argument) => return apply_load(kind, argument, operands, store),
         Plain::Store(kind, argument) => return Ok(apply_store(kind, argument, operands, store)),

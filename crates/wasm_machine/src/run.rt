@@ -29,22 +29,26 @@ pub enum Paused {
 pub fn run(
     source: &Module,
     code: &FlatCode,
-    m: &mut Running,
+    machine: &mut Running,
     budget: &mut Budget,
 ) -> Result<Paused, AllocError>
-    requires { (r : Run) × Behaves source.now code.now (machine_of m.old budget.old) r }
-    ensures says { IfOk result (λ p. (r : Run) → Behaves source.now code.now (machine_of m.old budget.old) r
-        → Says source.now code.now r p (machine_of m.new budget.new)) }
+    requires { (r : Run) × Behaves source.now code.now (machine_of machine.old budget.old) r }
+    ensures says { IfOk result (λ p. (r : Run) → Behaves source.now code.now (machine_of machine.old budget.old) r
+        → Says source.now code.now r p (machine_of machine.new budget.new)) }
     ensures spends { IfOk result (λ _. IsLater budget.old budget.new) }
-    ensures less { IfOk result (λ p. IsLess code.now p (machine_of m.old budget.old) (machine_of m.new budget.new)) }
+    ensures less { IfOk result (λ p. IsLess code.now p (machine_of machine.old budget.old) (machine_of machine.new budget.new)) }
 {
     loop {
-        match step(source, code, m, budget)? {
+        match step(source, code, machine, budget)? {
             Outcome::Goes => {}
-            Outcome::Ends => return Ok(Paused::Done(m.operands.top())),
+            Outcome::Ends => return Ok(Paused::Done(machine.operands.top())),
             Outcome::Traps(kind) => return Ok(Paused::Trap(kind)),
             Outcome::RunsOut => return Ok(Paused::Spent),
-            Outcome::Asks(f, args, result) => return Ok(Paused::HostCall(f, args, result)),
+            Outcome::Asks(function_index, args, result) => return Ok(Paused::HostCall(
+                function_index,
+                args,
+                result,
+            )),
         }
     }
 }

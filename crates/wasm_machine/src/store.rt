@@ -56,6 +56,7 @@ impl Store {
         }
     }
 
+    /// The bytes of the memory, lent.
     pub fn memory(&self) -> &[u8]
         ensures { result.now ≡ self.now.memory.bytes }
     {
@@ -101,12 +102,14 @@ impl Store {
         wasm_num::store(kind, &mut self.memory, address, offset, number)
     }
 
+    /// The value of a global, if there is one of this index.
     pub fn global(&self, index: u32) -> Option<Value>
         ensures { result ≡ slice_get self.now.globals index }
     {
         self.globals.get(index as usize).copied()
     }
 
+    /// Writes the value of a global.
     pub fn set_global(&mut self, index: u32, value: Value)
         requires { index < length self.old.globals }
         ensures { self.new ≡ record self.old { globals = slice_set self.old.globals index value } }

@@ -34,7 +34,7 @@ pub fn load(kind: Load, memory: &[u8], address: u32, offset: u32) -> Option<u64>
     }
 }
 
-// The sum is not wrapped.
+/// The sum is not wrapped.
 #[inline]
 fn effective_address(address: u32, offset: u32) -> usize
     ensures { result ≡ address + offset }

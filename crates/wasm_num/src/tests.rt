@@ -15,12 +15,12 @@ use wasm_spec::{
     ARITHMETIC, COMPARISONS, Conversion, Load, Numeric, SIGN_EXTENSIONS, Sign, Store, ValueType,
 };
 
-// What the memory begins with.
+/// What the memory begins with.
 const MEMORY: [u8; 12] = [
     0x7C, 0xA1, 0xC6, 0xEB, 0x10, 0x35, 0x5A, 0x7F, 0xA4, 0xC9, 0xEE, 0x13,
 ];
 
-// The next integer of a row, or none for a dash.
+/// The next integer of a row, or none for a dash.
 fn integer(fields: &mut SplitWhitespace) -> Option<u64> {
     u64::from_str_radix(fields.next()?, 16).ok()
 }
@@ -141,7 +141,7 @@ fn loads(rt: HostRuntime) -> Result<(), Fail> {
     Ok(())
 }
 
-// Whether the memory is what the row says: unchanged for a dash.
+/// Whether the memory is what the row says: unchanged for a dash.
 fn holds(rt: &(impl Abort + AllocGlobal), memory: &[u8], wanted: &str) -> Result<bool, Fail> {
     if wanted == "-" {
         return Ok(memory == MEMORY.as_slice());

@@ -1,4 +1,4 @@
--- What the reader's functions give.
+-- What the reader's functions give (own).
 use Rattle.std.specs.Prelude.{◌≡◌, ℕ, List, [], ◌∷◌, Option, Some, None, Result, Ok, Err}
 use Rattle.wasm_read.specs.declared.error.ReadModErr.{ReadModErr}
 use Rattle.wasm_read.specs.declared.error.ReadModErr.TheVariants.{NotAModule, NoMemory}

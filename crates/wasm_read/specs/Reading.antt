@@ -1,4 +1,4 @@
--- Reading, as functions on lists of bytes: a value and the bytes after it, or none.
+-- Reading, as functions on lists of bytes: a value and the bytes after it, or none (own, after core section 5.1).
 use Rattle.std.specs.Prelude.{ℕ, zero, suc, ◌+◌, ◌-◌, ◌*◌, ◌^◌, Bool, false, ◌==◌, nat_lt, nat_le, List, [], ◌∷◌, length, take, drop, Option, Some, None, if◌then◌else◌}
 use Rattle.std.specs.Str.{is_utf8}
 use Rattle.wasm_spec.specs.declared.types.ValueType.{ValueType}

@@ -1,4 +1,4 @@
--- What the reader of code gives, however long the code may be.
+-- What the reader of code gives, however long the code may be (own).
 use Rattle.std.specs.Prelude.{◌≡◌, ◌≢◌, ℕ, ◌<◌, ◌≤◌, List, [], ◌∷◌, length, Option, Some, None, Result, Ok, Err}
 use Rattle.wasm_spec.specs.declared.instructions.Instr.{Instr}
 use Rattle.wasm_spec.specs.Views.{before}

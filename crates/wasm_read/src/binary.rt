@@ -21,7 +21,7 @@ pub trait Binary {
         ensures { Gives read_at input.old input.new result };
 }
 
-// As many values as are counted. Memory is taken for what is read alone.
+/// As many values as are counted. Memory is taken for what is read alone.
 fn row<T: Binary + Drop>(
     alloc: Global,
     input: &mut Input<'_>,

@@ -26,14 +26,14 @@ pub fn expression(alloc: Global, input: &mut Input<'_>) -> Result<Body, ReadModE
     Ok(body)
 }
 
-// The instructions of an expression.
+/// The instructions of an expression.
 fn instructions(alloc: Global, input: &mut Input<'_>) -> Result<Body, ReadModErr>
     ensures { Gives instructions_at input.old input.new result }
 {
     code(alloc, input, MOST_NESTED)
 }
 
-// The next opcode. There is none where the next byte ends the instructions; it stays.
+/// The next opcode. There is none where the next byte ends the instructions; it stays.
 fn next_opcode(input: &mut Input<'_>) -> Result<Option<u8>, ReadModErr>
     ensures { ReadsOpcode input.old input.new result }
 {
@@ -47,7 +47,7 @@ fn next_opcode(input: &mut Input<'_>) -> Result<Option<u8>, ReadModErr>
     }
 }
 
-// Instructions up to the byte that ends them. At most `depth` blocks are nested in them.
+/// Instructions up to the byte that ends them. At most `depth` blocks are nested in them.
 #[cycle(code)]
 fn code(alloc: Global, input: &mut Input<'_>, depth: u32) -> Result<Body, ReadModErr>
     ensures { ReadsWith (λ n. code_at n depth) input.old input.new result }
@@ -59,7 +59,7 @@ fn code(alloc: Global, input: &mut Input<'_>, depth: u32) -> Result<Body, ReadMo
     Ok(Body::from_vec(items))
 }
 
-// What stands behind an opcode.
+/// What stands behind an opcode.
 #[cycle(code)]
 fn instruction(
     alloc: Global,
@@ -89,7 +89,7 @@ fn instruction(
     }
 }
 
-// What a block leaves.
+/// What a block leaves.
 fn block_type(input: &mut Input<'_>) -> Result<Option<ValueType>, ReadModErr>
     ensures { Gives block_type_at input.old input.new result }
 {
@@ -97,7 +97,7 @@ fn block_type(input: &mut Input<'_>) -> Result<Option<ValueType>, ReadModErr>
     block_type_of(byte).ok_or(ReadModErr::NotAModule)
 }
 
-// The result and the body of a block.
+/// The result and the body of a block.
 #[cycle(code)]
 fn block(
     alloc: Global,
@@ -112,7 +112,7 @@ fn block(
     Ok((result, body))
 }
 
-// The result and the two bodies of an `if`.
+/// The result and the two bodies of an `if`.
 #[cycle(code)]
 fn conditional(
     alloc: Global,
@@ -127,7 +127,7 @@ fn conditional(
     Ok((result, (taken, other)))
 }
 
-// The second body of an `if`, which may be left out.
+/// The second body of an `if`, which may be left out.
 #[cycle(code)]
 fn otherwise(alloc: Global, input: &mut Input<'_>, depth: u32) -> Result<Body, ReadModErr>
     ensures { ReadsWith (λ n. else_at (code_at n) depth) input.old input.new result }
@@ -144,7 +144,7 @@ fn otherwise(alloc: Global, input: &mut Input<'_>, depth: u32) -> Result<Body, R
     }
 }
 
-// Instructions, one block deeper.
+/// Instructions, one block deeper.
 #[cycle(code)]
 fn inner(alloc: Global, input: &mut Input<'_>, depth: u32) -> Result<Body, ReadModErr>
     ensures { ReadsWith (λ n. inner_at (code_at n) depth) input.old input.new result }

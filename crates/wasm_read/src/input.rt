@@ -25,6 +25,7 @@ impl<'a> Model for Input<'a> {
 }
 
 impl<'a> Input<'a> {
+    /// All of these bytes are left to read.
     pub fn new(bytes: &'a [u8]) -> Self
         ensures { result ≡ bytes.now }
     {
@@ -38,6 +39,7 @@ impl<'a> Input<'a> {
         self.rest.first().copied()
     }
 
+    /// The next byte (core section 5.2.1); `NotAModule` where none is left.
     pub fn byte(&mut self) -> Result<u8, ReadModErr>
         ensures { Gives byte_at self.old self.new result }
     {
@@ -143,7 +145,7 @@ impl<'a> Input<'a> {
     }
 }
 
-// A copy of these bytes.
+/// A copy of these bytes.
 fn owned(alloc: Global, bytes: &[u8]) -> Result<Bytes, ReadModErr>
     ensures { IsUnlessMemory bytes.now result }
 {

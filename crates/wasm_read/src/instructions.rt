@@ -37,7 +37,7 @@ pub fn block_type_of(byte: u8) -> Option<Option<ValueType>>
     }
 }
 
-// The load of an opcode.
+/// The load of an opcode.
 fn load_of(opcode: u8) -> Option<Load>
     ensures { result ≡ load_of opcode }
 {
@@ -58,7 +58,7 @@ fn load_of(opcode: u8) -> Option<Load>
     }
 }
 
-// The store of an opcode.
+/// The store of an opcode.
 fn store_of(opcode: u8) -> Option<Store>
     ensures { result ≡ store_of opcode }
 {
@@ -74,14 +74,14 @@ fn store_of(opcode: u8) -> Option<Store>
     }
 }
 
-// What stands at a place of a row of opcodes.
+/// What stands at a place of a row of opcodes.
 fn row_item(row: &[Numeric], place: usize) -> Option<Numeric>
     ensures { result ≡ slice_get row.now place }
 {
     row.get(place).copied()
 }
 
-// The numeric instruction of an opcode.
+/// The numeric instruction of an opcode.
 fn numeric_of(opcode: u8) -> Option<Numeric>
     ensures { result ≡ numeric_of opcode }
 {
@@ -102,7 +102,7 @@ fn numeric_of(opcode: u8) -> Option<Numeric>
     }
 }
 
-// The sign extension of an opcode.
+/// The sign extension of an opcode.
 fn sign_extension_of(opcode: u8) -> Option<Numeric>
     ensures { result ≡ sign_extension_of opcode }
 {
@@ -112,7 +112,7 @@ fn sign_extension_of(opcode: u8) -> Option<Numeric>
     row_item(&SIGN_EXTENSIONS, opcode as usize - 0xC0)
 }
 
-// Alignment and offset.
+/// Alignment and offset.
 #[tactic(auto, unfolding(crate::specs::Reading::mem_arg_at))]
 fn mem_arg(input: &mut Input<'_>) -> Result<MemArg, ReadModErr>
     ensures { Gives mem_arg_at input.old input.new result }

@@ -43,7 +43,7 @@ pub fn read_module(alloc: Global, bytes: &[u8]) -> Result<Module, ReadModErr>
     whole_module(alloc, bytes)
 }
 
-// The same, by the function that reads.
+/// The same, by the function that reads.
 #[tactic(auto, unfolding(crate::specs::Reading::module_at))]
 fn whole_module(alloc: Global, bytes: &[u8]) -> Result<Module, ReadModErr>
     ensures { Is (module_at bytes.now) result }
@@ -63,7 +63,7 @@ fn whole_module(alloc: Global, bytes: &[u8]) -> Result<Module, ReadModErr>
     })
 }
 
-// The sections, behind the preamble.
+/// The sections, behind the preamble.
 fn all_sections(alloc: Global, bytes: &[u8]) -> Result<Sections, ReadModErr>
     ensures { IsAs sections_view (all_sections_at bytes.now) result }
 {
@@ -75,7 +75,7 @@ fn all_sections(alloc: Global, bytes: &[u8]) -> Result<Sections, ReadModErr>
     Ok(sections)
 }
 
-// "\0asm", and version 1.
+/// "\0asm", and version 1.
 fn preamble(input: &mut Input<'_>) -> Result<(), ReadModErr>
     ensures { Skips (expect_all MAGIC) input.old input.new result }
 {
@@ -89,7 +89,7 @@ fn preamble(input: &mut Input<'_>) -> Result<(), ReadModErr>
     input.expect(0x00)
 }
 
-// Passes over custom sections.
+/// Passes over custom sections.
 fn customs(input: &mut Input<'_>) -> Result<(), ReadModErr>
     ensures { Skips customs_at input.old input.new result }
 {
@@ -100,7 +100,7 @@ fn customs(input: &mut Input<'_>) -> Result<(), ReadModErr>
     Ok(())
 }
 
-// Whether a custom section follows.
+/// Whether a custom section follows.
 fn at_custom(input: &Input<'_>) -> bool
     ensures { result ≡ at_custom input.now }
 {
@@ -110,7 +110,7 @@ fn at_custom(input: &Input<'_>) -> bool
     }
 }
 
-// The name of a custom section, behind its number.
+/// The name of a custom section, behind its number.
 #[tactic(auto, unfolding(crate::specs::Reading::sized_at, crate::specs::Reading::custom_at))]
 fn custom<'a>(input: &mut Input<'a>) -> Result<&'a [u8], ReadModErr>
     ensures { GivesAs (λ s. s.now) (sized_at custom_at) input.old input.new result }
@@ -119,7 +119,7 @@ fn custom<'a>(input: &mut Input<'a>) -> Result<&'a [u8], ReadModErr>
     Input::new(content).name()
 }
 
-// The section of this number, or no items where another one or none follows.
+/// The section of this number, or no items where another one or none follows.
 #[tactic(auto, unfolding(crate::specs::Reading::section_at))]
 fn section<T: Binary + Drop>(
     alloc: Global,
@@ -137,7 +137,7 @@ fn section<T: Binary + Drop>(
     }
 }
 
-// What stands behind the number of a section, and the custom sections behind it.
+/// What stands behind the number of a section, and the custom sections behind it.
 fn section_content<T: Binary + Drop>(
     alloc: Global,
     input: &mut Input<'_>,
@@ -149,7 +149,7 @@ fn section_content<T: Binary + Drop>(
     Ok(items)
 }
 
-// A vector behind its size.
+/// A vector behind its size.
 #[tactic(auto, unfolding(crate::specs::Reading::sized_at))]
 fn sized_vector<T: Binary + Drop>(
     alloc: Global,
@@ -163,7 +163,7 @@ fn sized_vector<T: Binary + Drop>(
     Ok(items)
 }
 
-// The functions of these types.
+/// The functions of these types.
 fn functions(
     alloc: Global,
     type_indices: Items<u32>,
@@ -188,7 +188,7 @@ fn functions(
     Ok(Items::from_vec(functions))
 }
 
-// The sections in their order, each at most once.
+/// The sections in their order, each at most once.
 #[tactic(auto, unfolding(crate::specs::Reading::sections_at))]
 fn read_sections(alloc: Global, input: &mut Input<'_>) -> Result<Sections, ReadModErr>
     ensures { GivesAs sections_view sections_at input.old input.new result }

@@ -40,7 +40,7 @@ pub fn signed(bytes: &[u8], bits: u32) -> Option<(u64, &[u8])>
     }
 }
 
-// The last byte of an unsigned number, whose unused bits are 0.
+/// The last byte of an unsigned number, whose unused bits are 0.
 fn unsigned_last(byte: u64, bits: u32) -> Option<u64>
     requires byte { byte < 128 }
     requires bits { bits ≤ 64 }
@@ -53,7 +53,7 @@ fn unsigned_last(byte: u64, bits: u32) -> Option<u64>
     if byte < 1 << bits { Some(byte) } else { None }
 }
 
-// The last byte of a signed number, whose unused bits are equal to its sign, bit 6.
+/// The last byte of a signed number, whose unused bits are equal to its sign, bit 6.
 fn signed_last(byte: u64, bits: u32) -> Option<u64>
     requires byte { byte < 128 }
     requires least { 0 < bits }

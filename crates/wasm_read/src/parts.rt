@@ -46,7 +46,7 @@ impl Binary for FuncType {
     }
 }
 
-// Limits behind the byte that says whether there is a most.
+/// Limits behind the byte that says whether there is a most.
 fn limits(input: &mut Input<'_>, kind: u8) -> Result<Limits, ReadModErr>
     ensures { Gives (limits_behind kind) input.old input.new result }
 {
@@ -105,7 +105,7 @@ impl Binary for Import {
     }
 }
 
-// Whether a global may be set, by its byte.
+/// Whether a global may be set, by its byte.
 fn mutability_of(byte: u8) -> Option<Mutability>
     ensures { result ≡ mutability_of byte }
 {
@@ -133,7 +133,7 @@ impl Binary for wasm_spec::Global {
     }
 }
 
-// What is exported, by its byte.
+/// What is exported, by its byte.
 fn export_kind_of(byte: u8) -> Option<ExportKind>
     ensures { result ≡ export_kind_of byte }
 {
@@ -202,7 +202,7 @@ impl Binary for Locals {
     }
 }
 
-// Whether there are fewer than 2^32 locals.
+/// Whether there are fewer than 2^32 locals.
 fn are_few(groups: &[Locals]) -> bool
     ensures { result ≡ nat_lt (locals_count groups.now) (2 ^ 32) }
 {
@@ -216,7 +216,7 @@ fn are_few(groups: &[Locals]) -> bool
     true
 }
 
-// The locals and the body of a function.
+/// The locals and the body of a function.
 #[tactic(auto, unfolding(crate::specs::Reading::func_at))]
 fn func(alloc: Global, input: &mut Input<'_>) -> Result<(Items<Locals>, Body), ReadModErr>
     ensures { Gives func_at input.old input.new result }

@@ -4,7 +4,7 @@ use crate::{ReadModErr, read_module};
 use std::process::Abort;
 use std::test::Fail;
 
-// Whether the bytes spell a module, with ample memory.
+/// Whether the bytes spell a module, with ample memory.
 fn is_module(rt: &(impl Abort + AllocGlobal), bytes: &[u8]) -> bool {
     match read_module(rt.alloc(), bytes) {
         Ok(_) => true,

@@ -1,4 +1,4 @@
--- What an instance is able to do.
+-- What an instance is able to do (own).
 use Rattle.std.specs.Prelude.{◌≡◌, ℕ, ◌-◌, ◌*◌, ◌^◌, ◌<◌, Bool, List, [], length, map, reverse, replicate, true, false, Some, slice_get}
 use Rattle.budget_meter.specs.Meter.{Meter}
 use Rattle.wasm_spec.specs.declared.values.Value.{Value}

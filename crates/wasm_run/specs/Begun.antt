@@ -1,4 +1,4 @@
--- What the call of an export begins with.
+-- What the call of an export begins with (own).
 use Rattle.std.specs.Prelude.{◌≡◌, true, false, Result, Ok, Err}
 use Rattle.wasm_spec.specs.declared.module.Module.{Module}
 use Rattle.wasm_spec.specs.Stores.{Store}

@@ -1,4 +1,4 @@
--- Laws of runs.
+-- Laws of runs (own).
 use Rattle.std.specs.Prelude.{◌≡◌, ◌≢◌, ℕ, ◌+◌, ◌-◌, ◌≤◌, List, [], ◌∷◌, length}
 use Rattle.budget_meter.specs.declared.kind.Kind.TheVariants.{WasmInsnExec}
 use Rattle.budget_meter.specs.Meter.{Meter}

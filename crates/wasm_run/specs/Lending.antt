@@ -1,4 +1,4 @@
--- What is left where the memory of an instance was written to.
+-- What is left where the memory of an instance was written to (own).
 use Rattle.std.specs.Prelude.{ℕ, List, []}
 use Rattle.std.specs.Borrow.{Lends, MutBor, Fml, Array, u8}
 use mir.Syntax.{named}

@@ -1,4 +1,4 @@
--- What an instance stands at, and what it does from there.
+-- What an instance stands at, and what it does from there (own).
 use Rattle.std.specs.Prelude.{◌≡◌, ℕ, ◌+◌, ◌-◌, ◌*◌, ◌<◌, List, [], ◌∷◌, length, drop, Result, Ok, Err}
 use Rattle.budget_meter.specs.Meter.{Meter}
 use Rattle.wasm_spec.specs.declared.values.Value.{Value}

@@ -1,4 +1,4 @@
--- Instances stored as numbers, which give them back.
+-- Instances stored as numbers, which give them back (own).
 use Rattle.std.specs.Prelude.{ℕ, List, refl}
 use Rattle.std.specs.Coded.{Coded, code_by, coded×, coded_ℕ, coded_list}
 use Rattle.wasm_spec.specs.declared.values.Value.{Value}

@@ -6,7 +6,7 @@ ghost use Rattle.wasm_spec.specs.Instances.{constant_plain, constant_value, offs
 use std::alloc::{AllocError, Global};
 use wasm_spec::{Body, Instr, Plain, Value};
 
-// The value of a constant instruction.
+/// The value of a constant instruction.
 fn constant_plain(globals: &[Value], plain: Plain) -> Option<Value>
     ensures { result ≡ constant_plain globals.now plain }
 {
@@ -18,7 +18,7 @@ fn constant_plain(globals: &[Value], plain: Plain) -> Option<Value>
     }
 }
 
-// The value of a constant expression.
+/// The value of a constant expression.
 fn constant_value(globals: &[Value], body: &Body) -> Option<Value>
     ensures { result ≡ constant_value globals.now body.now }
 {
@@ -43,7 +43,7 @@ pub fn offset_of(globals: &[Value], body: &Body) -> Option<u32>
     }
 }
 
-// Adds what a global begins with.
+/// Adds what a global begins with.
 fn push_first(values: &mut Vec<Value>, global: &wasm_spec::Global) -> Result<(), AllocError>
     ensures { OnOk result (values.new.items ≡ values.old.items ++ option_to_list (constant_value [] global.now.init)) }
 {

@@ -1,20 +1,14 @@
 //! The export that is called.
 
 ghost use Rattle.std.specs.Prelude.{◌≡◌, replicate, Some};
-ghost use Rattle.std.specs.Str.{bytes_eq};
 ghost use Rattle.wasm_spec.specs.declared.types.ValueType.TheVariants.{I64};
 ghost use Rattle.wasm_spec.specs.Meaning.{same_type, same_types};
 ghost use Rattle.wasm_spec.specs.Instances.{function_exported, function_named, has_arity};
 
+use wasm_check::same_name;
 use wasm_spec::{Export, ExportKind, FuncType, ValueType};
 
-fn same_name(a: &[u8], b: &[u8]) -> bool
-    ensures { result ≡ bytes_eq a.now b.now }
-{
-    a == b
-}
-
-// The function that an export names, if it names one.
+/// The function that an export names, if it names one.
 fn function_exported(export: &Export) -> Option<u32>
     ensures { result ≡ function_exported export.now.kind export.now.index }
 {
@@ -41,13 +35,10 @@ pub fn function_named(name: &[u8], exports: &[Export]) -> Option<u32>
 fn is_word(value_type: ValueType) -> bool
     ensures { result ≡ same_type value_type I64 }
 {
-    match value_type {
-        ValueType::I32 => false,
-        ValueType::I64 => true,
-    }
+    value_type == ValueType::I64
 }
 
-// Whether these are so many types of 64 bits.
+/// Whether these are so many types of 64 bits.
 fn are_words(count: usize, types: &[ValueType]) -> bool
     ensures { result ≡ same_types types.now (replicate count I64) }
 {

@@ -72,7 +72,7 @@ impl<'a> Model for Instance<'a> {
     ghost invariant = { λ i. IsAble (suspended i.source.now i.code.now i.phase i.running) };
 }
 
-// The number of a result, which has 64 bits.
+/// The number of a result, which has 64 bits.
 fn word(result_value: Option<Value>) -> u64
     requires { (n : ℕ) × (result_value ≡ Some (value.I64 n)) }
     ensures { result_value ≡ Some (value.I64 result) }
@@ -83,7 +83,7 @@ fn word(result_value: Option<Value>) -> u64
     }
 }
 
-// Puts the answer of a call into the place that is held for it.
+/// Puts the answer of a call into the place that is held for it.
 fn put_answer(operands: &mut Operands, result_type: Option<ValueType>, answer: u64)
     requires { 0 < length operands.old }
     ensures { operands.new ≡ answered result_type answer ++ drop 1 operands.old }
@@ -176,6 +176,7 @@ impl<'a> Instance<'a> {
         self.phase = Phase::Ready;
     }
 
+    /// The bytes of the memory, lent.
     pub fn memory(&self) -> &[u8]
         ensures { result.now ≡ self.now.store.memory.bytes }
     {

@@ -25,7 +25,7 @@ fn entry_at(code: &FlatCode, index: usize) -> Option<usize>
     code.entries.as_slice().get(index).copied()
 }
 
-// In a function of the module's own, with these values as its arguments.
+/// In a function of the module's own, with these values as its arguments.
 fn placed_in(
     source: &Module,
     code: &FlatCode,
@@ -56,7 +56,7 @@ fn placed_in(
     })
 }
 
-// So many numbers of 64 bits, which are all 0.
+/// So many numbers of 64 bits, which are all 0.
 fn zeros(alloc: Global, count: usize) -> Result<Vec<Value>, AllocError>
     ensures { IfOk result (λ v. v.items ≡ replicate count (value.I64 0)) }
 {

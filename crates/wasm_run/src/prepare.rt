@@ -10,7 +10,8 @@ use crate::error::StartErr;
 use crate::export::{function_named, has_arity};
 use crate::segments::{data_fit, elements_fit, put_data, put_elements};
 use std::alloc::{AllocError, Global};
-use wasm_machine::{PAGE_BYTES, Store, function_type};
+use wasm_code::function_type;
+use wasm_machine::{PAGE_BYTES, Store};
 use wasm_spec::{Limits, Module, TableType, Value};
 
 /// The most pages that any memory may have.
@@ -23,7 +24,7 @@ pub struct Beginning {
     pub store: Store,
 }
 
-// A table whose elements were never set.
+/// A table whose elements were never set.
 fn first_table(alloc: Global, table_type: Option<TableType>) -> Result<Vec<Option<u32>>, AllocError>
     ensures { IfOk result (λ v. v.items ≡ table_of table_type) }
 {
@@ -34,7 +35,7 @@ fn first_table(alloc: Global, table_type: Option<TableType>) -> Result<Vec<Optio
     Ok(table)
 }
 
-// A memory of zeros.
+/// A memory of zeros.
 fn first_memory(alloc: Global, limits: Option<Limits>) -> Result<Vec<u8>, AllocError>
     ensures { IfOk result (λ v. v.items ≡ (memory_of limits).bytes) }
 {
@@ -45,7 +46,7 @@ fn first_memory(alloc: Global, limits: Option<Limits>) -> Result<Vec<u8>, AllocE
     Ok(memory)
 }
 
-// How many pages the memory may have.
+/// How many pages the memory may have.
 fn most_pages(limits: Option<Limits>) -> u32
     ensures value { result ≡ (memory_of limits).most_pages }
     ensures few { result ≤ 64 }
@@ -56,7 +57,7 @@ fn most_pages(limits: Option<Limits>) -> u32
     }
 }
 
-// Whether all segments fit.
+/// Whether all segments fit.
 fn segments_fit(source: &Module, globals: &[Value], table: &[Option<u32>], memory: &[u8]) -> bool
     ensures { result ≡ segments_fit source.now (record { memory = record { bytes = memory.now; most_pages = 0 }; globals = globals.now; table = table.now }) }
 {
@@ -64,7 +65,7 @@ fn segments_fit(source: &Module, globals: &[Value], table: &[Option<u32>], memor
         && data_fit(globals, memory, source.data.as_slice())
 }
 
-// The store with all segments put into it.
+/// The store with all segments put into it.
 fn first_store(alloc: Global, source: &Module) -> Result<Store, StartErr>
     requires { Typed source.now }
     ensures { IsFirstStore source.now result }
@@ -81,7 +82,7 @@ fn first_store(alloc: Global, source: &Module) -> Result<Store, StartErr>
     Ok(Store::new(memory, most_pages(limits), globals, table))
 }
 
-// The function, which has the arity, with the store.
+/// The function, which has the arity, with the store.
 fn begin_filled(alloc: Global, source: &Module, function: u32) -> Result<Beginning, StartErr>
     requires { Typed source.now }
     ensures { IsStart (start_filled source.now function (empty_store source.now)) result }
@@ -90,7 +91,7 @@ fn begin_filled(alloc: Global, source: &Module, function: u32) -> Result<Beginni
     Ok(Beginning { function, store })
 }
 
-// The function, if it has the arity, with the store.
+/// The function, if it has the arity, with the store.
 fn begin_function(
     alloc: Global,
     source: &Module,

@@ -11,7 +11,7 @@ use crate::constants::offset_of;
 use std::alloc::{AllocError, Global};
 use wasm_spec::{Data, Element, Value};
 
-// Writes these items over others, from a place on.
+/// Writes these items over others, from a place on.
 fn overwrite<T: Copy + Drop>(items: &mut [T], place: usize, news: &[T])
     requires { place + length news.now ≤ length items.old }
     ensures { items.new ≡ overwritten items.old place news.now }
@@ -57,14 +57,17 @@ pub fn data_fit(globals: &[Value], memory: &[u8], segments: &[Data]) -> bool
         .all(|segment| data_fit_one(globals, memory, segment))
 }
 
-// Elements that are set.
+/// Elements that are set.
 fn set_elements(alloc: Global, functions: &[u32]) -> Result<Vec<Option<u32>>, AllocError>
     ensures { IfOk result (λ v. v.items ≡ map Some functions.now) }
 {
-    functions.iter().map(|f| Some(*f)).collect(alloc)
+    functions
+        .iter()
+        .map(|function| Some(*function))
+        .collect(alloc)
 }
 
-// Puts an element segment, which fits, into the table.
+/// Puts an element segment, which fits, into the table.
 fn put_element(
     alloc: Global,
     globals: &[Value],
@@ -100,7 +103,7 @@ pub fn put_elements(
     Ok(())
 }
 
-// Puts a data segment, which fits, into memory.
+/// Puts a data segment, which fits, into memory.
 fn put_segment(globals: &[Value], memory: &mut [u8], segment: &Data)
     requires { fits memory.old (offset_of globals.now segment.now.offset) (length segment.now.bytes) ≡ true }
     ensures { memory.new ≡ put memory.old (offset_of globals.now segment.now.offset) segment.now.bytes }

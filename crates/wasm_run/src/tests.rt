@@ -27,7 +27,7 @@ fn terms(constant: u32, linear: u32, memory_constant: u32, memory_linear: u32) -
     }
 }
 
-// A budget of so many instructions, at the terms of the worked calls.
+/// A budget of so many instructions, at the terms of the worked calls.
 fn budget_of(instructions: u64) -> Budget {
     let other = terms(10, 128, 0, 0);
     let all = Terms {
@@ -50,7 +50,7 @@ fn budget_of(instructions: u64) -> Budget {
     Budget::new(limits, all)
 }
 
-// What a digit of base 16 stands for.
+/// What a digit of base 16 stands for.
 fn digit(character: u8) -> u8
     ensures { result < 16 }
 {
@@ -61,7 +61,7 @@ fn digit(character: u8) -> u8
     }
 }
 
-// The bytes that are written in base 16.
+/// The bytes that are written in base 16.
 fn bytes_of(alloc: Global, text: &str) -> Result<Vec<u8>, AllocError> {
     let mut bytes = Vec::new(alloc);
     let mut high = None;
@@ -78,7 +78,7 @@ fn bytes_of(alloc: Global, text: &str) -> Result<Vec<u8>, AllocError> {
     Ok(bytes)
 }
 
-// The number that is written in base 16.
+/// The number that is written in base 16.
 fn number_of(text: &str) -> u64 {
     let mut number = 0u64;
     for character in text.bytes() {
@@ -93,7 +93,7 @@ fn module_of(alloc: Global, text: &str) -> Result<ValidModule, Fail> {
     Ok(check(alloc, module)?)
 }
 
-// What the call of an export comes to first, and what it spends.
+/// What the call of an export comes to first, and what it spends.
 fn called(
     alloc: Global,
     module: &ValidModule,
@@ -108,7 +108,7 @@ fn called(
     Ok((event, budget.spent()))
 }
 
-// Whether the event is what the word says: a result in base 16, or a trap.
+/// Whether the event is what the word says: a result in base 16, or a trap.
 fn is_event(event: &Event, word: &str) -> bool {
     match event {
         Event::Done(result_value) => *result_value == number_of(word) && !is_trap(word),
@@ -134,7 +134,7 @@ fn trap_of(word: &str) -> Option<TrapKind> {
     }
 }
 
-// Whether the run of the line comes to what the line says.
+/// Whether the run of the line comes to what the line says.
 fn is_as_told(alloc: Global, module: &ValidModule, line: &str) -> Result<bool, Fail> {
     let (export, rest) = line.split_once(' ').ok_or("a name")?;
     let (first, rest) = rest.split_once(' ').ok_or("a number")?;
@@ -158,7 +158,7 @@ fn runs_are_as_elsewhere(rt: HostRuntime) -> Result<(), Fail> {
     Ok(())
 }
 
-// An export, a limit of instructions, what comes of the call, and the two sums.
+/// An export, a limit of instructions, what comes of the call, and the two sums.
 const SUMS: &str = "\
 two 100 2 1 0
 two 0 spent 0 0
@@ -171,7 +171,7 @@ least 100 arithmetic 3 0
 zero 100 arithmetic 3 0
 ";
 
-// Whether the call of the line comes to what the line says, with its sums.
+/// Whether the call of the line comes to what the line says, with its sums.
 fn has_sums(alloc: Global, module: &ValidModule, line: &str) -> Result<bool, Fail> {
     let (export, rest) = line.split_once(' ').ok_or("a name")?;
     let (limit, rest) = rest.split_once(' ').ok_or("a limit")?;
@@ -197,7 +197,7 @@ fn sums_are_exact(rt: HostRuntime) -> Result<(), Fail> {
     Ok(())
 }
 
-// An export, how many words it is given, and why the call does not begin.
+/// An export, how many words it is given, and why the call does not begin.
 const REFUSALS: &str = "\
 two 0 -
 two 1 arity
@@ -216,7 +216,7 @@ fn refusal(error: &StartErr) -> &'static str {
     }
 }
 
-// Why a call does not begin.
+/// Why a call does not begin.
 fn refused(alloc: Global, module: &ValidModule, export: &[u8], arity: usize) -> &'static str {
     match Instance::new(alloc, module, export, arity) {
         Ok(_) => "-",
@@ -224,7 +224,7 @@ fn refused(alloc: Global, module: &ValidModule, export: &[u8], arity: usize) -> 
     }
 }
 
-// Whether the call of the line begins, or does not, as the line says.
+/// Whether the call of the line begins, or does not, as the line says.
 fn is_refused(alloc: Global, module: &ValidModule, line: &str) -> Result<bool, Fail> {
     let (export, rest) = line.split_once(' ').ok_or("a name")?;
     let (arity, word) = rest.split_once(' ').ok_or("a number")?;
@@ -232,7 +232,7 @@ fn is_refused(alloc: Global, module: &ValidModule, line: &str) -> Result<bool, F
     Ok(refused(alloc, module, export.as_bytes(), arity) == word)
 }
 
-// Whether the segments of the line's module fit, or not, as the line says; a wrong arity is told first.
+/// Whether the segments of the line's module fit, or not, as the line says; a wrong arity is told first.
 fn fits_as_told(alloc: Global, line: &str) -> Result<bool, Fail> {
     let (word, text) = line.split_once(' ').ok_or("a word")?;
     let module = module_of(alloc, text)?;
@@ -251,7 +251,7 @@ fn calls_are_refused(rt: HostRuntime) -> Result<(), Fail> {
     Ok(())
 }
 
-// A call that asked an import once.
+/// A call that asked an import once.
 #[derive(Drop)]
 struct Asked {
     import: u32,
@@ -261,8 +261,8 @@ struct Asked {
     after: Used,
 }
 
-// A call whose import writes a byte to memory and gives the answer. Before and after it there is a budget of three
-// instructions.
+/// A call whose import writes a byte to memory and gives the answer. Before and after it there is a budget of three
+/// instructions.
 fn answered_once(
     alloc: Global,
     module: &ValidModule,

@@ -1,4 +1,4 @@
--- The code inside a block is smaller than the code that the block stands in.
+-- The code inside a block is smaller than the code that the block stands in (own).
 use Rattle.std.specs.Prelude.{◌≤◌, List, [], ◌∷◌}
 use Rattle.std.proofs.Common.{arith}
 use denote.Param.Weighed.{most}

@@ -56,7 +56,7 @@ abbrev pub table_of : Option TableType → List (Option ℕ)
 table_of None = []
 table_of (Some t) = replicate t.limits.min None
 
--- A memory has at most as many pages as it is declared to have, and never more than this profile allows.
+-- A memory has at most as many pages as it is declared to have, and never more than this host allows.
 abbrev pub memory_of : Option Limits → Memory
 memory_of None = record { bytes = []; most_pages = 0 }
 memory_of (Some l) = record { bytes = replicate (l.min * PAGE) 0; most_pages = min (unwrap_or l.max MOST_PAGES) MOST_PAGES }

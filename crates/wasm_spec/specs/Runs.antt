@@ -1,4 +1,4 @@
--- Runs, and what a budget allows of them (core section 4.4, with charges of this profile's own).
+-- Runs, and what a budget allows of them (core section 4.4, with charges of this host's own).
 use Rattle.std.specs.Prelude.{ℕ, zero, suc, ◌&&◌, nat_le, List, [], ◌∷◌, ◌++◌, Bool, true, false, Option, Some, None}
 use Rattle.budget_meter.specs.declared.kind.Kind.{Kind}
 use Rattle.budget_meter.specs.declared.kind.Kind.TheVariants.{WasmInsnExec, MemAlloc}

@@ -1,4 +1,4 @@
--- Which modules are valid (core section 3, with the limits of this profile).
+-- Which modules are valid (core section 3, with the limits of this host).
 use Rattle.std.specs.Prelude.{◌≡◌, ◌≢◌, ℕ, ◌+◌, ◌^◌, ◌<◌, ◌≤◌, ◌&&◌, nat_le, nat_lt, List, [], ◌∷◌, ◌++◌, length, map, reverse, take, replicate, Bool, Option, Some, None, IfSome, option_to_list, slice_get, if◌then◌else◌}
 use Rattle.std.specs.List.{AllByRecursion, flat_map}
 use Rattle.wasm_spec.specs.declared.types.ValueType.{ValueType}
@@ -41,7 +41,7 @@ abbrev pub ◌>>=◌ : {A B : Type 0} → Option A → (A → Option B) → Opti
 None >>= f = None
 (Some x) >>= f = f x
 
--- the limits of this profile (own)
+-- the limits of this host (own)
 
 abbrev pub MOST_PAGES : ℕ
 MOST_PAGES = 64
@@ -271,7 +271,7 @@ constant_type globals _ = None
 abbrev pub TypeValid : FuncType → Type 0
 TypeValid t = length t.results ≤ 1
 
--- limits (3.2.1) of tables and memories (3.2.3, 3.2.4): the least is within the profile's bound, and the most, where there is one, is neither below the least nor above what the core allows
+-- limits (3.2.1) of tables and memories (3.2.3, 3.2.4): the least is within the host's bound, and the most, where there is one, is neither below the least nor above what the core allows
 abbrev pub LimitsValid : (bound most : ℕ) → Limits → Type 0
 LimitsValid bound most l = (l.min ≤ bound) × IfSome l.max (λ n. (l.min ≤ n) × (n ≤ most))
 
@@ -308,7 +308,7 @@ abbrev pub AreDistinct : List (List ℕ) → Type 0
 AreDistinct [] = Unit {0}
 AreDistinct (x ∷ xs) = AllByRecursion (λ y. x ≢ y) xs × AreDistinct xs
 
--- What the module has outside the bodies of its functions. That functions, imported ones counted, are fewer than 2^32 is this profile's own rule: the
+-- What the module has outside the bodies of its functions. That functions, imported ones counted, are fewer than 2^32 is this host's own rule: the
 -- core bounds each vector (2.1.3), and an index is a number of 32 bits.
 pub record OutsideValid (m : Module) : Type 0 where
   pub few_functions : length (function_indices m) < 2 ^ 32

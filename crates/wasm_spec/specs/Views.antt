@@ -1,4 +1,4 @@
--- Instructions of the program as code.
+-- Instructions of the program as code (own).
 use Rattle.std.specs.Prelude.{List, [], ◌∷◌}
 use Rattle.wasm_spec.specs.Code.{Code, end, plain, control, block, loop, choose}
 use Rattle.wasm_spec.specs.declared.instructions.Instr.{Instr}

@@ -1,4 +1,4 @@
--- A run among the functions of a host: its calls of imports answered by the host, in the order in which they come.
+-- A run among the functions of a host: its calls of imports answered by the host, in the order in which they come (own, after core section 4.5.5).
 use Rattle.std.specs.Prelude.{ℕ, List}
 use Rattle.budget_meter.specs.Meter.{Meter}
 use Rattle.wasm_spec.specs.declared.values.Value.{Value}

@@ -181,6 +181,7 @@ impl Body {
         Body { items }
     }
 
+    /// The instructions, lent.
     pub fn as_slice(&self) -> &[Instr]
         ensures { code_of result.now ≡ self.now }
     {

@@ -26,6 +26,7 @@ impl<T> Items<T> {
         Items { items }
     }
 
+    /// The items, lent.
     pub fn as_slice(&self) -> &[T]
         ensures { result.now ≡ self.now }
     {

@@ -1,4 +1,4 @@
-//! Modules (core section 2.5), of the parts that this profile has.
+//! Modules (core section 2.5), of the parts that this host has.
 
 use crate::bytes::Bytes;
 use crate::instructions::Body;

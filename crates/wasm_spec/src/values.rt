@@ -20,6 +20,6 @@ pub enum TrapKind {
     IndirectType,
     /// `call_indirect` of an element of the table that was never set.
     EmptyElement,
-    /// More calls open at once than this profile allows.
+    /// More calls open at once than this host allows.
     CallDepth,
 }

@@ -1,4 +1,4 @@
--- What a call that reads gives, beside what a format's reader gives of the same input.
+-- What a call that reads gives, beside what a format's reader gives of the same input (own).
 use Rattle.std.specs.Prelude.{◌≡◌, ℕ, List, drop, Result, Ok, Err}
 use Rattle.xdr_spec.specs.declared.XdrErr.{XdrErr}
 use Rattle.xdr_spec.specs.Format.{Input, Outcome, Format, input}

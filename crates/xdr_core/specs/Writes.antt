@@ -1,4 +1,4 @@
--- What a call that writes leaves of what was written before.
+-- What a call that writes leaves of what was written before (own).
 use Rattle.std.specs.Prelude.{◌≡◌, ℕ, List, length, take}
 
 -- the bytes begin with these

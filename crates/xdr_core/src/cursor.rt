@@ -30,6 +30,7 @@ impl<'a> Model for Cursor<'a> {
 }
 
 impl<'a> Cursor<'a> {
+    /// All of these bytes are left to read.
     pub fn new(bytes: &'a [u8]) -> Self
         ensures { result ≡ input 0 bytes.now }
     {

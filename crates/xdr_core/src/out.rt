@@ -49,6 +49,7 @@ fn append_filled(out: &mut Vec<u8>, bytes: &[u8]) -> Result<(), NoMemory>
 }
 
 impl Out {
+    /// No byte was written yet.
     pub fn new(alloc: Global) -> Out
         ensures { result ≡ [] }
     {

@@ -1,5 +1,5 @@
 -- The value that bytes spell, all of the bytes, or where and why they are refused: spells_decoded, decoded_spells and
--- decoded_refuses say that this is what Spells and Refuses say.
+-- decoded_refuses say that this is what Spells and Refuses say (own).
 use Rattle.std.specs.Prelude.{ℕ, List, Result, Ok, Err, length, ◌==◌, if◌then◌else◌}
 use Rattle.xdr_spec.specs.declared.XdrErr.{XdrErr}
 use Rattle.xdr_spec.specs.declared.Why.TheVariants.{Trailing}

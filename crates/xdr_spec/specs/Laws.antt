@@ -1,4 +1,4 @@
--- What every format meets: its reader gives exactly what its spellings say. The laws of spellings and refusals follow from this.
+-- What every format meets: its reader gives exactly what its spellings say (own). The laws of spellings and refusals follow from this.
 use Rattle.std.specs.Prelude.{◌≡◌, ℕ, ◌+◌, ◌*◌, ◌<◌, List, ◌++◌, length, slice_get, Some, Ok, Err}
 use Rattle.xdr_spec.specs.declared.XdrErr.{XdrErr}
 use Rattle.xdr_spec.specs.declared.Why.{Why}

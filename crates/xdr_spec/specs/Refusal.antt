@@ -1,4 +1,4 @@
--- What it means that bytes spell a value, and that they are refused at a place for a reason: in terms of the spellings alone.
+-- What it means that bytes spell a value, and that they are refused at a place for a reason: in terms of the spellings alone (own).
 use Rattle.std.specs.Prelude.{◌≡◌, ℕ, ◌+◌, ◌*◌, ◌/◌, ◌<◌, ◌≤◌, List, ◌++◌, length, take, slice_get, Some}
 use Rattle.xdr_spec.specs.declared.Why.{Why}
 use Rattle.xdr_spec.specs.declared.Why.TheVariants.{End, Padding, Boolean, Tag, Limit, Depth, Trailing}

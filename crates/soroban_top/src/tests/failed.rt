@@ -1,7 +1,8 @@
-// Transactions that are refused or whose operation fails: their results, and the ledger that follows all the same.
+//! Transactions that are refused or whose operation fails: their results, and the ledger that follows all the same.
+
 use super::*;
 
-// A set of one transaction up to its source, and that source with its fee and its sequence number.
+/// A set of one transaction up to its source, and that source with its fee and its sequence number.
 const ONE: &str = "00000001000000010000000000000001000000010000000100000002";
 
 const HEAD: &str = concat!(
@@ -12,7 +13,7 @@ const HEAD: &str = concat!(
 
 const RESOURCES: &str = "0000000000000000000003e800000000000000000000000000000000";
 
-// What stands between an extension and the one key that it declares.
+/// What stands between an extension and the one key that it declares.
 const ONE_KEY: &str = "000000010000000000000001";
 
 const TWO_OPERATIONS: [&str; 10] = [
@@ -28,7 +29,7 @@ const TWO_OPERATIONS: [&str; 10] = [
     RESOURCES,
 ];
 
-// It may run at times up to 999.
+/// It may run at times up to 999.
 const UNTIL_999: [&str; 9] = [
     "00000001",
     ZEROS,
@@ -41,7 +42,7 @@ const UNTIL_999: [&str; 9] = [
     RESOURCES,
 ];
 
-// Declared is an offer.
+/// Declared is an offer.
 const OF_AN_OFFER: [&str; 10] = [
     "00000001",
     ZEROS,
@@ -55,7 +56,7 @@ const OF_AN_OFFER: [&str; 10] = [
     RESOURCES,
 ];
 
-// Declared is an account, which has no life.
+/// Declared is an account, which has no life.
 const OF_AN_ACCOUNT: [&str; 9] = [
     "00000001",
     ZEROS,
@@ -80,7 +81,7 @@ const RESTORATION: [&str; 7] = [
 
 const NO_FEE: &str = "0000000000000000";
 
-// The transaction's hash, what follows the fee of 0 in the report, and the lines.
+/// The transaction's hash, what follows the fee of 0 in the report, and the lines.
 const ROWS: [(&str, &str, &str, Case<'static>); 5] = [
     (
         "3fc6a256f6be8c663e8808d0b4553908c8feec97328e5af5e5e3276b2f739faa",

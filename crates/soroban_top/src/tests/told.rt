@@ -1,7 +1,8 @@
-// `show`, `vet` and text in Base64, over files in memory.
+//! `show`, `vet` and text in Base64, over files in memory.
+
 use super::*;
 
-// A command over a file `f`, whose bytes are those of hex digits and then of a text: its code and its lines.
+/// A command over a file `f`, whose bytes are those of hex digits and then of a text: its code and its lines.
 #[derive(Clone, Copy)]
 struct Told<'a> {
     words: &'a [&'a str],
@@ -46,13 +47,13 @@ const VET: Told<'static> = Told {
     lines: "valid: 1 functions, 0 imports, 1 exports, 0 pages\n",
 };
 
-// A function `f` without parameters that gives 2, before and behind the type of its result.
+/// A function `f` without parameters that gives 2, before and behind the type of its result.
 const BEFORE_TYPE: &str = "0061736d01000000010501600001";
 
 const BEHIND_TYPE: &str = "03020100070501016600000a06010400";
 
-// A module that reads a number at a key, adds 1 and puts it back, round the module's name of its first import and round the
-// first opcode of its body.
+/// A module that reads a number at a key, adds 1 and puts it back, round the module's name of its first import and round the
+/// first opcode of its body.
 const BUMP: &str = "0061736d0100000001120360027e7e017e60037e7e7e017e6000017e022d0201";
 
 const BUMP_IMPORTS: &str = concat!(
@@ -63,21 +64,21 @@ const BUMP_IMPORTS: &str = concat!(
 
 const BUMP_BODY: &str = "8ece26420110004280808080107c2100428ece262000420110010b";
 
-// An envelope without operations, of the sequence number -5.
+/// An envelope without operations, of the sequence number -5.
 const NO_OPERATION: &str = concat!(
     "0000000200000000",
     "0101010101010101010101010101010101010101010101010101010101010101",
     "00000064fffffffffffffffb0000000000000000000000000000000000000000",
 );
 
-// What stands in an envelope with an extension behind its body, and behind the key.
+/// What stands in an envelope with an extension behind its body, and behind the key.
 const ONE_KEY: &str = "000000010000000000000001";
 
 const RESOURCES: &str = "0000000000000000000003e800000000000000000000000000000000";
 
 const ENVELOPE: [&str; 6] = ["00000002", SOURCE, EXTEND_BY_500, ONE_KEY, KEY, RESOURCES];
 
-// A set of a component and of two stages: the first has two clusters, of one and of two envelopes.
+/// A set of a component and of two stages: the first has two clusters, of one and of two envelopes.
 const WIDE_SET: [&str; 24] = [
     "00000001",
     ZEROS,
@@ -105,7 +106,7 @@ const WIDE_SET: [&str; 24] = [
     NO_OPERATION,
 ];
 
-// Values, what spells none, and text in Base64.
+/// Values, what spells none, and text in Base64.
 const VALUES: [Told<'static>; 13] = [
     SHOWN_VALUE,
     Told {
@@ -185,7 +186,7 @@ const VALUES: [Told<'static>; 13] = [
     },
 ];
 
-// Ledgers, sets and envelopes.
+/// Ledgers, sets and envelopes.
 const FILES: [Told<'static>; 8] = [
     SHOWN_LEDGER,
     // No ledger may follow this one, and it is shown all the same.
@@ -238,7 +239,7 @@ const FILES: [Told<'static>; 8] = [
     },
 ];
 
-// Modules, and what is none.
+/// Modules, and what is none.
 const MODULES: [Told<'static>; 12] = [
     VET,
     Told {

@@ -1,4 +1,5 @@
 use Rattle.soroban_top.proofs.Due.{done_law, malformed_law, verdicts_law}
+use Rattle.soroban_top.proofs.Ledgers.{ledger_law}
 use Rattle.soroban_top.proofs.laws.apply_laws.Goals as goal
 
 pub returns-clause-malformed : goal.returns-clause-malformed
@@ -9,3 +10,6 @@ returns-clause-done c = done_law
 
 pub returns-clause-verdicts : goal.returns-clause-verdicts
 returns-clause-verdicts c = verdicts_law
+
+pub returns-clause-ledger : goal.returns-clause-ledger
+returns-clause-ledger c = ledger_law

@@ -1,3 +1,4 @@
+use Rattle.soroban_top.proofs.Ledgers.{ledger_done, ledger_shown}
 use Rattle.soroban_top.proofs.Shows.{envelope_done, envelope_malformed, set_done, set_malformed, value_done, value_malformed}
 use Rattle.soroban_top.proofs.laws.show_laws.Goals as goal
 
@@ -18,3 +19,9 @@ returns-clause-value_malformed c = value_malformed
 
 pub returns-clause-value_done : goal.returns-clause-value_done
 returns-clause-value_done c = value_done
+
+pub returns-clause-ledger_refused : goal.returns-clause-ledger_refused
+returns-clause-ledger_refused c = ledger_shown
+
+pub returns-clause-ledger_done : goal.returns-clause-ledger_done
+returns-clause-ledger_done c = ledger_done

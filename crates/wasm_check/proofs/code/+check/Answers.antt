@@ -10,7 +10,7 @@ use Rattle.wasm_check.proofs.code.+check.Goals as goal
 
 pub check_all-check_one-requires : goal.check_all-check_one-requires
 check_all-check_one-requires t c =
-    let smaller = weight_at c.args.is.now c.loop-i.i-index c.i-item.result c.loop-i-test.true c.i-item.is in
+    let smaller = weight_at c.args.instructions.now c.loop-instruction.instruction-index c.instruction-item.result c.loop-instruction-test.true c.instruction-item.is in
     (omega (arith, smaller, c.decreases), tt)
 
 pub check_body-returns-clause-checks : goal.check_body-returns-clause-checks
@@ -27,13 +27,13 @@ pub check_all-returns-in_err-check_one-clause-checks : goal.check_all-returns-in
 check_all-returns-in_err-check_one-clause-checks t c =
     let p = c.args.module.now in
     let x = context_in p c.args.scope.now in
-    let is = c.args.is.now in
-    let i = c.loop-i.i-index in
+    let is = c.args.instructions.now in
+    let i = c.loop-instruction.instruction-index in
     let rest = code_of (drop (i + 1) is) in
     let err = c.in_err-check_one.field-0.0 in
     let q = err_from_is_err_and c.from_residual.result c.from_residual.ensures.1 in
-    let split : drop i is ≡ c.i-item.result ∷ drop (i + 1) is = drop_item is i c.i-item.result (omega arith) c.i-item.is in
+    let split : drop i is ≡ c.instruction-item.result ∷ drop (i + 1) is = drop_item is i c.instruction-item.result (omega arith) c.instruction-item.is in
     let whole = check_code x (code_of is) c.args.stack.now in
-    let same : whole ≡ check_code x (before c.i-item.result rest) c.loop-i.stack = c.loop-i.invariant.1 ∙ ap (λ l. check_code x (code_of l) c.loop-i.stack) split in
-    let fails = subst (λ (y : Context). ChecksOn (check_code y (before c.i-item.result rest) c.loop-i.stack) (Err err) (check_code y rest c.check_one.new.stack)) c.loop-i.invariant.0 (c.in_err-check_one.ensures.checks rest) in
+    let same : whole ≡ check_code x (before c.instruction-item.result rest) c.loop-instruction.stack = c.loop-instruction.invariant.1 ∙ ap (λ l. check_code x (code_of l) c.loop-instruction.stack) split in
+    let fails = subst (λ (y : Context). ChecksOn (check_code y (before c.instruction-item.result rest) c.loop-instruction.stack) (Err err) (check_code y rest c.check_one.new.stack)) c.loop-instruction.invariant.0 (c.in_err-check_one.ensures.checks rest) in
     all_err c.from_residual.result q.0 err whole _ c.check_one.new.stack q.1 q.2 (subst (λ o. ChecksOn o (Err err) (check_code x rest c.check_one.new.stack)) (sym same) fails)

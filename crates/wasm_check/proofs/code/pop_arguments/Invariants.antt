@@ -3,8 +3,8 @@ use Rattle.std.specs.Prelude.{reverse}
 use Rattle.wasm_check.specs.Check.{pops}
 use Rattle.wasm_check.proofs.code.pop_arguments.Given as goal
 
-abbrev pub invariant-loop-i : goal.invariant-loop-i
-invariant-loop-i l = (l.i ≤ length l.types) × (pops (reverse l.fn.types) l.fn.stack ≡ pops (reverse (take l.i l.types)) l.stack)
+abbrev pub invariant-loop-left : goal.invariant-loop-left
+invariant-loop-left l = (l.left ≤ length l.types) × (pops (reverse l.fn.types) l.fn.stack ≡ pops (reverse (take l.left l.types)) l.stack)
 
-abbrev pub decreases-loop-i : goal.decreases-loop-i
-decreases-loop-i l = l.i
+abbrev pub decreases-loop-left : goal.decreases-loop-left
+decreases-loop-left l = l.left

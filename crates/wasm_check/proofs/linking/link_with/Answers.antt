@@ -9,15 +9,15 @@ returns-then-not-import_ok-clause-unlinked c =
     let host = functions_of c.args.host.now in
     let m = c.args.module.now in
     let i = c.import-item.result in
-    let here : i ≡ get_or m.imports c.loop-i.i i = subst (λ is. i ≡ get_or is c.loop-i.i i) c.as_slice-import-items.ensures c.import-item.is in
-    let lt : c.loop-i.i < length m.imports = subst (λ is. c.loop-i.i < length is) c.as_slice-import-items.ensures c.loop-i-test.true in
-    (i, slice_get_read m.imports (length m.imports) c.loop-i.i i refl lt here, not_linked host m i (sym c.import_ok.ensures ∙ c.if-not-import_ok.true), c.loop-i.invariant)
+    let here : i ≡ get_or m.imports c.loop-index.index i = subst (λ is. i ≡ get_or is c.loop-index.index i) c.as_slice-import-items.ensures c.import-item.is in
+    let lt : c.loop-index.index < length m.imports = subst (λ is. c.loop-index.index < length is) c.as_slice-import-items.ensures c.loop-index-test.true in
+    (i, slice_get_read m.imports (length m.imports) c.loop-index.index i refl lt here, not_linked host m i (sym c.import_ok.ensures ∙ c.if-not-import_ok.true), c.loop-index.invariant)
 
-pub loop-i-preserved : goal.loop-i-preserved
-loop-i-preserved c =
+pub loop-index-preserved : goal.loop-index-preserved
+loop-index-preserved c =
     let host = functions_of c.args.host.now in
     let m = c.args.module.now in
     let i = c.import-item.result in
-    let here : i ≡ get_or m.imports c.loop-i.i i = subst (λ is. i ≡ get_or is c.loop-i.i i) c.as_slice-import-items.ensures c.import-item.is in
-    let lt : c.loop-i.i < length m.imports = subst (λ is. c.loop-i.i < length is) c.as_slice-import-items.ensures c.loop-i-test.true in
-    linked_more host m c.loop-i.i i lt here (sym c.import_ok.ensures ∙ c.if-not-import_ok.false) c.loop-i.invariant
+    let here : i ≡ get_or m.imports c.loop-index.index i = subst (λ is. i ≡ get_or is c.loop-index.index i) c.as_slice-import-items.ensures c.import-item.is in
+    let lt : c.loop-index.index < length m.imports = subst (λ is. c.loop-index.index < length is) c.as_slice-import-items.ensures c.loop-index-test.true in
+    linked_more host m c.loop-index.index i lt here (sym c.import_ok.ensures ∙ c.if-not-import_ok.false) c.loop-index.invariant

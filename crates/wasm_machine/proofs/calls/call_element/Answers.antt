@@ -6,4 +6,4 @@ use Rattle.wasm_machine.proofs.calls.call_element.Goals as goal
 
 pub returns-in-Some : goal.returns-in-Some
 returns-in-Some c =
-    subst (λ x. IfOk c.call_typed.result (λ o. Moves (calls_element c.args.source.now c.args.code.now c.args.wanted.now (Some x)) c.args.m.now o c.call_typed.new.m)) (sym c.in-Some.is) c.call_typed.ensures
+    subst (λ x. IfOk c.call_typed.result (λ o. Moves (calls_element c.args.source.now c.args.code.now c.args.wanted.now (Some x)) c.args.machine.now o c.call_typed.new.machine)) (sym c.in-Some.is) c.call_typed.ensures

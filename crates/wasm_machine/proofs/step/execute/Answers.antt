@@ -7,44 +7,44 @@ use Rattle.wasm_machine.proofs.step.execute.Goals as goal
 
 pub unless-requires-clause-moves : goal.unless-requires-clause-moves
 unless-requires-clause-moves c =
-    let m = machine_of c.args.m.now c.args.budget.now in
+    let m = machine_of c.args.machine.now c.args.budget.now in
     (c.args.budget.now, subst (λ i. executes c.args.source.now c.args.code.now i m ≡ Fails → ⊥) c.in-Unless.is c.requires.moves)
 
 pub jump-requires : goal.jump-requires
 jump-requires c =
-    let m = machine_of c.args.m.now c.args.budget.now in
+    let m = machine_of c.args.machine.now c.args.budget.now in
     (c.args.budget.now, subst (λ i. executes c.args.source.now c.args.code.now i m ≡ Fails → ⊥) c.in-Jump.is c.requires.moves)
 
 pub jump_if-requires-clause-moves : goal.jump_if-requires-clause-moves
 jump_if-requires-clause-moves c =
-    let m = machine_of c.args.m.now c.args.budget.now in
+    let m = machine_of c.args.machine.now c.args.budget.now in
     (c.args.budget.now, subst (λ i. executes c.args.source.now c.args.code.now i m ≡ Fails → ⊥) c.in-JumpIf.is c.requires.moves)
 
 pub jump_by_table-requires-clause-moves : goal.jump_by_table-requires-clause-moves
 jump_by_table-requires-clause-moves c =
-    let m = machine_of c.args.m.now c.args.budget.now in
+    let m = machine_of c.args.machine.now c.args.budget.now in
     (c.args.budget.now, subst (λ i. executes c.args.source.now c.args.code.now i m ≡ Fails → ⊥) c.in-Table.is c.requires.moves)
 
 pub call-requires-clause-moves : goal.call-requires-clause-moves
 call-requires-clause-moves c =
-    let m = machine_of c.args.m.now c.args.budget.now in
+    let m = machine_of c.args.machine.now c.args.budget.now in
     (c.args.budget.now, subst (λ i. executes c.args.source.now c.args.code.now i m ≡ Fails → ⊥) c.in-Call.is c.requires.moves)
 
 pub call_by_table-requires-clause-moves : goal.call_by_table-requires-clause-moves
 call_by_table-requires-clause-moves c =
-    let m = machine_of c.args.m.now c.args.budget.now in
+    let m = machine_of c.args.machine.now c.args.budget.now in
     (c.args.budget.now, subst (λ i. executes c.args.source.now c.args.code.now i m ≡ Fails → ⊥) c.in-CallIndirect.is c.requires.moves)
 
 pub returns-in-Call : goal.returns-in-Call
 returns-in-Call c =
-    let m = machine_of c.args.m.now c.args.budget.now in
-    let new = machine_of c.call.new.m c.args.budget.now in
+    let m = machine_of c.args.machine.now c.args.budget.now in
+    let new = machine_of c.call.new.machine c.args.budget.now in
     subst (λ i. IfOk c.call.result (λ o. IsMove (executes c.args.source.now c.args.code.now i m) o new)) (sym c.in-Call.is)
     (if_ok c.call.result _ _ c.call.ensures (λ o h. h c.args.budget.now))
 
 pub returns-in-CallIndirect : goal.returns-in-CallIndirect
 returns-in-CallIndirect c =
-    let m = machine_of c.args.m.now c.args.budget.now in
-    let new = machine_of c.call_by_table.new.m c.args.budget.now in
+    let m = machine_of c.args.machine.now c.args.budget.now in
+    let new = machine_of c.call_by_table.new.machine c.args.budget.now in
     subst (λ i. IfOk c.call_by_table.result (λ o. IsMove (executes c.args.source.now c.args.code.now i m) o new)) (sym c.in-CallIndirect.is)
     (if_ok c.call_by_table.result _ _ c.call_by_table.ensures (λ o h. h c.args.budget.now))

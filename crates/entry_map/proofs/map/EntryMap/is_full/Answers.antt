@@ -1,7 +1,6 @@
 use Rattle.std.proofs.lemmas.Grind.{common_steps}
 use Rattle.std.proofs.Common.{◌≡◌, length, arith, sym, ap, ◌∙◌}
 use Rattle.std.specs.FinMap.{len}
-use Rattle.ledger_spec.specs.LedgerMap.{LedgerMap}
 use Rattle.entry_map.proofs.Mapping.{len_of}
 use Rattle.entry_map.proofs.map.EntryMap.is_full.Goals as goal
 

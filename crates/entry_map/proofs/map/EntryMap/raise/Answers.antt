@@ -13,7 +13,7 @@ pub invariant_of-self : goal.invariant_of-self
 invariant_of-self c =
     let slots = c.self.inside.slots.items in
     let place : IsPlace slots c.in-Some.place (key_bytes c.args.key.now) = rw c.deref.ensures.value at c.in-Some.ensures.found in
-    raised_slots slots c.in-Some.place (key_bytes c.args.key.now) c.index_mut.result.now c.later-kept.result c.self.invariant place c.index_mut.ensures.value c.later-kept.type_inv
+    raised_slots slots c.in-Some.place (key_bytes c.args.key.now) c.index_mut.result.now c.later-kept.result _ c.self.invariant place c.index_mut.ensures.value c.later-kept.type_inv
 
 pub returns-in-Some : goal.returns-in-Some
 returns-in-Some c =
@@ -26,7 +26,7 @@ returns-in-Some c =
     sym (ap (λ (o : Option Kept). raised o c.args.self.now c.args.key.now c.args.live_until) there
     ∙ ap (λ (m : LedgerMap). insert m key (record { entry = read.kept.entry; live_until = max read.kept.live_until c.args.live_until })) (sym c.self.view_is)
     ∙ ap (λ (n : ℕ). insert (map_of slots) key (record { entry = read.kept.entry; live_until = n })) (sym c.later-kept.ensures)
-    ∙ raised_map slots c.in-Some.place key read c.later-kept.result c.self.invariant.sorted place c.index_mut.ensures.value)
+    ∙ raised_map slots c.in-Some.place key read c.later-kept.result _ c.self.invariant.sorted place c.index_mut.ensures.value)
 
 pub returns-in_default : goal.returns-in_default
 returns-in_default c =

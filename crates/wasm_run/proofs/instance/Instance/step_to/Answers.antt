@@ -20,7 +20,7 @@ word-requires c =
     let i = suspended c.self.inside.source.now c.self.inside.code.now c.self.inside.phase c.self.inside.running in
     let able = able_at i phase.Ready (ap (λ (s : Suspended). s.phase) c.self.view_is ∙ c.requires) c.self.invariant in
     let b = c.args.budget.now in
-    let m = machine_of c.run.new.m c.run.new.budget in
+    let m = machine_of c.run.new.machine c.run.new.budget in
     let says = c.in_ok-result_value.ensures.says (able.0 b) (able.1 b).0 in
     word_is i.source i.flat (able.0 b) c.in-Done.result_value m (able.1 b).1 (subst (λ (p : Paused). Says i.source i.flat (able.0 b) p m) c.in-Done.is says)
 
@@ -33,9 +33,9 @@ invariant_of-self-in-HostCall c =
     let t = c.in-HostCall.result_type in
     let pushed = c.in_ok-push-in-HostCall.ensures.ok in
     let asks = paused.HostCall c.in-HostCall.import c.in-HostCall.words t in
-    let m = machine_of c.run.new.m after in
+    let m = machine_of c.run.new.machine after in
     let says = subst (λ (p : Paused). Says i.source i.flat (able.0 b) p m) c.in-HostCall.is (c.in_ok-result_value.ensures.says (able.0 b) (able.1 b).0) in
-    let j = record (suspended i.source i.flat (phase.Waiting t) c.run.new.m) { operands = c.push.new.self } in
+    let j = record (suspended i.source i.flat (phase.Waiting t) c.run.new.machine) { operands = c.push.new.self } in
     let says' = subst (λ (x : List Value). Says i.source i.flat (able.0 b) asks (standing (record j { operands = x }) after)) (sym (ap (λ (x : List Value). drop 1 x) pushed)) says in
     (omega (arith, ap (λ (x : List Value). length x) pushed), goes_on j (able.0 b) c.in-HostCall.import c.in-HostCall.words t after (able.1 b).1 says')
 
@@ -43,28 +43,28 @@ pub returns-in-Done-clause-tells : goal.returns-in-Done-clause-tells
 returns-in-Done-clause-tells c = λ go does.
     let i = suspended c.self.inside.source.now c.self.inside.code.now c.self.inside.phase c.self.inside.running in
     let b = c.args.budget.now in
-    let m = machine_of c.run.new.m c.run.new.budget in
+    let m = machine_of c.run.new.machine c.run.new.budget in
     let goes = (subst (λ (s : Suspended). Does s go) (sym c.self.view_is) does).1 b in
     let says = subst (λ (p : Paused). Says i.source i.flat (go b) p m) c.in-Done.is (c.in_ok-result_value.ensures.says (go b) goes.0) in
-    tells_done i.source i.flat (go b) c.in-Done.result_value c.word.result c.run.new.budget m (suspended i.source i.flat phase.Over c.run.new.m) goes.1 says c.word.ensures refl
+    tells_done i.source i.flat (go b) c.in-Done.result_value c.word.result c.run.new.budget m (suspended i.source i.flat phase.Over c.run.new.machine) goes.1 says c.word.ensures refl
 
 pub returns-in-Trap-clause-tells : goal.returns-in-Trap-clause-tells
 returns-in-Trap-clause-tells c = λ go does.
     let i = suspended c.self.inside.source.now c.self.inside.code.now c.self.inside.phase c.self.inside.running in
     let b = c.args.budget.now in
-    let m = machine_of c.run.new.m c.run.new.budget in
+    let m = machine_of c.run.new.machine c.run.new.budget in
     let goes = (subst (λ (s : Suspended). Does s go) (sym c.self.view_is) does).1 b in
     let says = subst (λ (p : Paused). Says i.source i.flat (go b) p m) c.in-Trap.is (c.in_ok-result_value.ensures.says (go b) goes.0) in
-    tells_trap i.source i.flat (go b) c.in-Trap.kind c.run.new.budget m (suspended i.source i.flat phase.Over c.run.new.m) says refl
+    tells_trap i.source i.flat (go b) c.in-Trap.kind c.run.new.budget m (suspended i.source i.flat phase.Over c.run.new.machine) says refl
 
 pub returns-in-Spent-clause-tells : goal.returns-in-Spent-clause-tells
 returns-in-Spent-clause-tells c = λ go does.
     let i = suspended c.self.inside.source.now c.self.inside.code.now c.self.inside.phase c.self.inside.running in
     let b = c.args.budget.now in
-    let m = machine_of c.run.new.m c.run.new.budget in
+    let m = machine_of c.run.new.machine c.run.new.budget in
     let goes = (subst (λ (s : Suspended). Does s go) (sym c.self.view_is) does).1 b in
     let says = subst (λ (p : Paused). Says i.source i.flat (go b) p m) c.in-Spent.is (c.in_ok-result_value.ensures.says (go b) goes.0) in
-    tells_spent i.source i.flat (go b) c.run.new.budget m (suspended i.source i.flat phase.Over c.run.new.m) says refl
+    tells_spent i.source i.flat (go b) c.run.new.budget m (suspended i.source i.flat phase.Over c.run.new.machine) says refl
 
 pub returns-in_ok-push-in-HostCall-clause-tells : goal.returns-in_ok-push-in-HostCall-clause-tells
 returns-in_ok-push-in-HostCall-clause-tells c = λ go does.
@@ -73,9 +73,9 @@ returns-in_ok-push-in-HostCall-clause-tells c = λ go does.
     let after = c.run.new.budget in
     let t = c.in-HostCall.result_type in
     let asks = paused.HostCall c.in-HostCall.import c.in-HostCall.words t in
-    let m = machine_of c.run.new.m after in
+    let m = machine_of c.run.new.machine after in
     let goes = (subst (λ (s : Suspended). Does s go) (sym c.self.view_is) does).1 b in
     let says = subst (λ (p : Paused). Says i.source i.flat (go b) p m) c.in-HostCall.is (c.in_ok-result_value.ensures.says (go b) goes.0) in
-    let j = record (suspended i.source i.flat (phase.Waiting t) c.run.new.m) { operands = c.push.new.self } in
+    let j = record (suspended i.source i.flat (phase.Waiting t) c.run.new.machine) { operands = c.push.new.self } in
     let says' = subst (λ (x : List Value). Says i.source i.flat (go b) asks (standing (record j { operands = x }) after)) (sym (ap (λ (x : List Value). drop 1 x) c.in_ok-push-in-HostCall.ensures.ok)) says in
     tells_ask j (go b) c.in-HostCall.import c.in-HostCall.words c.from_vec-args.result t after refl c.from_vec-args.ensures goes.1 says'

@@ -1,0 +1,44 @@
+"""What the scripts of this folder share: their one argument, and the seconds and peak memory of a command."""
+
+import os
+import subprocess
+import sys
+import time
+
+
+def program_argument(about):
+    """The full path of the program that is the one argument; else the usage at the end of `about`, and status 2."""
+    if len(sys.argv) != 2:
+        print(about.strip().split("\n\n")[-1], file=sys.stderr)
+        sys.exit(2)
+    return os.path.abspath(sys.argv[1])
+
+
+def measure(command):
+    """Seconds and peak memory in MiB of a command.
+
+    GNU time starts it: a child of this interpreter would be charged with the interpreter's own peak.
+    """
+    start = time.monotonic()
+    done = subprocess.run(
+        ["/usr/bin/time", "-q", "-f", "%M", *command], stdout=subprocess.DEVNULL, stderr=subprocess.PIPE, text=True
+    )
+    seconds = time.monotonic() - start
+    if done.returncode != 0:
+        sys.exit(f"{command[0]} ended with {done.returncode}: {done.stderr}")
+    return seconds, int(done.stderr.split()[-1]) / 1024
+
+
+def measure_apply(program, folder, contents):
+    """Seconds and peak memory in MiB of applying a set to a ledger.
+
+    The contents of the files `set`, `ledger` and `verdicts` are given by name; they are stored in the folder.
+    """
+    path = {name: os.path.join(folder, name) for name in ("set", "ledger", "verdicts", "report", "next")}
+    for name, data in contents.items():
+        with open(path[name], "wb") as file:
+            file.write(data)
+    return measure([
+        program, "apply", "--set", path["set"], "--ledger", path["ledger"], "--verdicts", path["verdicts"],
+        "--close-time", "1001", "--workers", "1", "--report", path["report"], "--ledger-out", path["next"],
+    ])

@@ -1,0 +1,82 @@
+-- The status that is due where the bytes of the ledger's file are no ledger's.
+use Rattle.std.proofs.Common.{◌≡◌, ◌↔◌, ℕ, Bool, true, false, List, Result, Ok, Err, refl, ap, ap₂}
+use Rattle.std.specs.FinMap.{get}
+use Rattle.ledger_file.specs.FileOf.{IsFileOf}
+use Rattle.ledger_file.proofs.FromFile.{file_read}
+use Rattle.ledger_file.proofs.Refused.{xdr_refused}
+use Rattle.ledger_file.proofs.ToFile.{file_is_read}
+use Rattle.ledger_spec.specs.LedgerFile.{ledger_of, refusal}
+use Rattle.ledger_spec.specs.LedgerMap.{LedgerMap}
+use Rattle.ledger_spec.specs.declared.LedgerRefusal.{LedgerRefusal}
+use Rattle.ledger_spec.specs.declared.LedgerWhy.{LedgerWhy}
+use Rattle.ledger_spec.specs.declared.LedgerWhy.TheVariants as ledger_why
+use Rattle.ledger_types.specs.File.{file_format}
+use Rattle.ledger_types.specs.declared.header.Header.{Header}
+use Rattle.show_lines.specs.Lines.{ledger_lines}
+use Rattle.xdr_spec.specs.Format.{IsBytes}
+use Rattle.xdr_spec.specs.Refusal.{Refuses}
+use Rattle.xdr_spec.specs.declared.Why.{Why}
+use Rattle.soroban_top.specs.Judged.{as_ledger, ledger_in}
+use Rattle.soroban_top.specs.Laws.{LedgerDoneLaw, LedgerLaw, LedgerShownLaw}
+use Rattle.soroban_top.specs.Outcome.{applied, only_said, outputs_of}
+use Rattle.soroban_top.specs.Product.{file}
+use Rattle.soroban_top.specs.Shown.{any_ledger_in}
+use Rattle.soroban_top.specs.Steps.{◌>>=◌, status_of}
+use Rattle.soroban_top.specs.declared.status.Status.{Status}
+use Rattle.soroban_top.specs.declared.status.Status.TheVariants as status
+use Rattle.soroban_top.proofs.Later.{Later, set_file, verdicts_file}
+
+is_refusal : {B : Type 0} (r : Result (Header × LedgerMap) LedgerRefusal) (rest : Header × LedgerMap → Result B Status) (reason : LedgerWhy) (at : ℕ) → ((l : Header × LedgerMap) → status_of (rest l) ≡ status.Ledger reason at → ⊥)
+    → status_of (as_ledger r >>= rest) ≡ status.Ledger reason at → r ≡ Err (refusal reason at)
+is_refusal (Ok l) rest reason at none h = absurd (none l h)
+is_refusal (Err e) rest reason at none h =
+    let reasons : e.why ≡ reason = cc in
+    let places : e.at ≡ at = cc in
+    let same : e ≡ refusal reason at = ap₂ refusal reasons places in
+    ap Err same
+
+ledger_due : {B : Type 0} (follows : Bool) (bytes : List ℕ) (rest : Header × LedgerMap → Result B Status) (at : ℕ) → IsBytes bytes → ((l : Header × LedgerMap) → status_of (rest l) ≡ status.Ledger ledger_why.Xdr at → ⊥)
+    → (status_of (as_ledger (ledger_of follows bytes) >>= rest) ≡ status.Ledger ledger_why.Xdr at) ↔ ((why : Why) × Refuses file_format bytes at why)
+ledger_due follows bytes rest at fit none = (
+  λ h. (xdr_refused follows bytes at fit).0 (is_refusal (ledger_of follows bytes) rest ledger_why.Xdr at none h),
+  λ refuses. rw ((xdr_refused follows bytes at fit).1 refuses) refl,
+)
+
+pub ledger_law : LedgerLaw
+unfolding ledger_in
+ledger_law a m bytes given at =
+    let later : Later (λ s. s ≡ status.Ledger ledger_why.Xdr at → ⊥) = record {
+      fault = λ name h. cc;
+      long = λ name h. cc;
+      text = λ name h. cc;
+      malformed = λ place why h. cc;
+      done = λ h. cc;
+    } in
+    rw given.has_ledger (ledger_due true bytes _ at given.are_bytes (λ l. verdicts_file _ later (λ place h. cc) (get m a.verdicts) a.verdicts _
+    (λ v. set_file _ later (get m a.set) a.base64 a.set (λ s. applied (file 3 a.report) (file 4 a.ledger_out) (outputs_of l s a.close_time)))))
+
+-- ---- show
+
+two_steps : {A B C : Type 0} (r : Result A LedgerRefusal) (f : A → B) (made : B → C) → status_of (as_ledger r >>= (λ x. Ok (f x)) >>= (λ y. Ok (made y))) ≡ status_of (as_ledger r >>= (λ x. Ok (made (f x))))
+two_steps (Ok x) f made = refl
+two_steps (Err e) f made = refl
+
+pub ledger_shown : LedgerShownLaw
+unfolding any_ledger_in
+ledger_shown s m bytes kind given at =
+    rw (given.has_text, given.opens, kind, two_steps (ledger_of false bytes) (λ l. ledger_lines l.0 l.1) only_said) (ledger_due false bytes (λ l. Ok (only_said (ledger_lines l.0 l.1))) at given.are_bytes (λ l h. cc))
+
+done_is : {A B : Type 0} (r : Result A LedgerRefusal) (f : A → B) → status_of (as_ledger r >>= (λ x. Ok (f x))) ≡ status.Done → (x : A) × (r ≡ Ok x)
+done_is (Ok x) f h = (x, refl)
+done_is (Err e) f h = absurd cc
+
+shown_done : {B : Type 0} (bytes : List ℕ) (f : Header × LedgerMap → B) → IsBytes bytes → (status_of (as_ledger (ledger_of false bytes) >>= (λ l. Ok (f l))) ≡ status.Done) ↔ ((header : Header) × (entries : LedgerMap) × IsFileOf false bytes header entries)
+shown_done bytes f fit = (
+  λ h. let l = done_is (ledger_of false bytes) f h in (l.0.0, l.0.1, file_read false bytes l.0.0 l.0.1 fit l.1),
+  λ is. rw (file_is_read false bytes is.0 is.1 is.2) refl,
+)
+
+pub ledger_done : LedgerDoneLaw
+unfolding any_ledger_in
+ledger_done s m bytes kind given =
+    rw (given.has_text, given.opens, kind, two_steps (ledger_of false bytes) (λ l. ledger_lines l.0 l.1) only_said) (shown_done bytes (λ l. only_said (ledger_lines l.0 l.1)) given.are_bytes)
