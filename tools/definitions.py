@@ -6,6 +6,7 @@ import re
 TOP = pathlib.Path(__file__).resolve().parent.parent
 PAGE = TOP / "docs" / "DEFINITIONS.md"
 DEFINITION = re.compile(r"(?:abbrev |unfoldable )*pub (?:unfoldable |abbrev )*(?:record |data |syntax )?(\S+)")
+BLOCK = re.compile(r"(?:abbrev |unfoldable )*mutual$|module _")
 
 
 def crates():
@@ -22,9 +23,21 @@ def comment_above(lines, at):
     return " ".join(line[3:].strip() for line in lines[first:at])
 
 
+def outdented(lines):
+    """Returns the lines, with what stands in a block moved to the margin, in place of the line that opens the block."""
+    moved, inside = [], False
+    for line in lines:
+        if line[:1].strip():
+            inside = BLOCK.match(line) is not None
+        if not (inside and line[:1].strip()):
+            moved.append(line[2:] if inside else line)
+    return moved
+
+
 def definitions(lines):
     """Yields the name and the comment of each public definition, once."""
     seen = set()
+    lines = outdented(lines)
     for at, line in enumerate(lines):
         found = DEFINITION.match(line)
         name = found and found[1].rstrip(":")

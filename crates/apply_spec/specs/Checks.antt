@@ -45,13 +45,9 @@ is_key a b = bytes_eq (key_bytes a) (key_bytes b)
 abbrev pub has_key : List LedgerKey → LedgerKey → Bool
 has_key keys key = list_any (is_key key) keys
 
--- the transaction declares the key read-write, or in either list
+-- the transaction declares the key read-write
 abbrev pub declares_write : Transaction → LedgerKey → Bool
 declares_write tx key = has_key (footprint_of tx).read_write key
-
--- the transaction declares the key in either list
-abbrev pub declares : Transaction → LedgerKey → Bool
-declares tx key = has_key (footprint_of tx).read_only key || declares_write tx key
 
 -- some key stands twice
 abbrev pub has_twice : List LedgerKey → Bool

@@ -76,7 +76,8 @@ extended header entries footprint extend_to =
 abbrev pub runs_today : Transaction → Bool
 runs_today tx = list_all (λ operation. takes_operation today (kind operation.body)) tx.operations
 
--- Only sets without host functions run today, so what is said of these here is not asked of any run.
+-- What becomes of the one operation. Only sets without host functions run today, so what is said of these here is not asked
+-- of any run.
 abbrev pub performed : Header → LedgerMap → Transaction → OperationBody → Enforced
 performed header entries tx (ExtendFootprintTtl extend_to) = extended header entries (footprint_of tx) extend_to
 performed header entries tx RestoreFootprint = without_effect (Failed (NotSupported ∷ []))

@@ -1,17 +1,14 @@
 -- What becomes of a set: its stages one after the other, a stage's clusters one after the other, and a cluster's
 -- transactions one after the other, on one map of all entries (own, after CAP-0063).
 use Rattle.std.specs.Prelude.{ℕ, pos, Bool, not, List, [], ◌∷◌, ◌++◌, Option, None, map, fold, filter}
-use Rattle.std.specs.List.{flat_map}
 use Rattle.invoke_types.specs.declared.success.SuccessPreimage.{SuccessPreimage}
 use Rattle.ledger_types.specs.declared.header.Header.{Header}
 use Rattle.tx_xdr.specs.Hashes.{transaction_hash}
+use Rattle.tx_xdr.specs.Stages.{stages_of}
 use Rattle.tx_xdr.specs.declared.transaction.Envelope.{Envelope}
 use Rattle.tx_xdr.specs.declared.transaction.Transaction.{Transaction}
-use Rattle.tx_xdr.specs.declared.set.Component.{Component}
 use Rattle.tx_xdr.specs.declared.set.Cluster.{Cluster}
 use Rattle.tx_xdr.specs.declared.set.Stage.{Stage}
-use Rattle.tx_xdr.specs.declared.set.Phase.{Phase}
-use Rattle.tx_xdr.specs.declared.set.Phase.TheVariants.{Components, Parallel}
 use Rattle.tx_xdr.specs.declared.set.TxSet.{TxSet}
 use Rattle.tx_results.specs.declared.results.TransactionOutcome.{TransactionOutcome}
 use Rattle.tx_results.specs.declared.results.TransactionResultPair.{TransactionResultPair}
@@ -102,19 +99,6 @@ ended running = record running { entries = put_all_in running.entries running.pe
 -- a stage: its clusters in their order, and then its end
 abbrev pub run_stage : Header → Running → Stage → Running
 run_stage header running stage = ended (fold (run_next_cluster header) running stage.clusters)
-
--- a component is a stage of one cluster
-abbrev pub component_stage : Component → Stage
-component_stage component = record { clusters = (record { envelopes = component.envelopes }) ∷ [] }
-
--- the stages of a phase
-abbrev pub stages_in : Phase → List Stage
-stages_in (Components components) = map component_stage components
-stages_in (Parallel base_fee stages) = stages
-
--- the stages of a set, phase after phase
-abbrev pub stages_of : TxSet → List Stage
-stages_of set = flat_map stages_in set.phases
 
 -- The transactions run on the header of the ledger before, with the close time of the new one.
 abbrev pub running_header : Header → ℕ → Header

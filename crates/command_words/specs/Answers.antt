@@ -15,4 +15,4 @@ ReadsWords (Err NoMemory) meant = ⊤
 -- clap ran out of memory, or refused the words
 abbrev pub IsRefusal : Error → WordsErr → Type 0
 IsRefusal e Usage = kind_of e ≢ OutOfMemory
-IsRefusal e NoMemory = ⊤
+IsRefusal e NoMemory = kind_of e ≡ OutOfMemory

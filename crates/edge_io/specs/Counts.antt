@@ -26,3 +26,9 @@ abbrev pub OnFailed : {T : Type 0} → Result T EdgeErr → Type 0 → Type 0
 OnFailed (Ok x) P = ⊤
 OnFailed (Err Failed) P = P
 OnFailed (Err NoMemory) P = ⊤
+
+-- a fact of a call that did not answer Failed
+abbrev pub UnlessFailed : {T : Type 0} → Result T EdgeErr → Type 0 → Type 0
+UnlessFailed (Ok x) P = P
+UnlessFailed (Err Failed) P = ⊤
+UnlessFailed (Err NoMemory) P = P

@@ -3,7 +3,7 @@
 ghost use Rattle.std.specs.Prelude.{◌≡◌, ℕ, ◌+◌, ◌-◌, ◌<◌, ◌≤◌, ◌^◌, ◌↔◌, [], ◌++◌, Some, None, refl, List, length, take, option_map, IfSome, IfOk, IsOk, IsErr, IsErrOf, OnOk, OnErr, ◌⊎◌};
 ghost use Rattle.std.specs.FinMap as map;
 ghost use Rattle.edge_io.specs.Contents.{IsPiece, IsThere, Reads, Stores, put};
-ghost use Rattle.edge_io.specs.Counts.{ChangesOnlyCount, OnFailed, RaisesOnly, Rose};
+ghost use Rattle.edge_io.specs.Counts.{ChangesOnlyCount, OnFailed, RaisesOnly, Rose, UnlessFailed};
 ghost use Rattle.edge_io.specs.Stored.{files_of};
 
 use crate::turns::{is_listed, raise};
@@ -124,10 +124,10 @@ impl Files for MemFiles {
         ensures steady { IsSteady self.old →
             OnFailed result ⊥ × IsSteady self.new × (faults_of self.new file ≡ faults_of self.old file) }
 
-        // It fails exactly at a listed call, and then the count rises by one.
+        // It fails exactly at a listed call, and only then the count rises, by one.
         ensures exact { IsErrOf result EdgeErr.Failed ↔ FailsNext self.old }
         ensures raised { OnFailed result (RaisesOnly file (faults_of self.old) (faults_of self.new)) }
-        ensures kept { OnOk result ((k : ℕ) → faults_of self.new k ≡ faults_of self.old k) }
+        ensures kept { UnlessFailed result ((k : ℕ) → faults_of self.new k ≡ faults_of self.old k) }
         ensures counted { CountsCall self.old self.new }
     {
         if is_listed(&mut self.calls, &self.failing) {

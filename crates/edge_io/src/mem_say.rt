@@ -1,7 +1,7 @@
 //! A text in memory.
 
-ghost use Rattle.std.specs.Prelude.{◌≡◌, ℕ, ◌+◌, ◌-◌, ◌<◌, ◌≤◌, ◌^◌, ◌↔◌, [], ◌++◌, Some, refl, take, OnOk, IsErrOf};
-ghost use Rattle.edge_io.specs.Counts.{OnFailed, Rose, raised};
+ghost use Rattle.std.specs.Prelude.{◌≡◌, ℕ, ◌+◌, ◌-◌, ◌<◌, ◌≤◌, ◌^◌, ◌↔◌, [], ◌++◌, Some, refl, take, IsErrOf};
+ghost use Rattle.edge_io.specs.Counts.{OnFailed, Rose, UnlessFailed, raised};
 ghost use Rattle.edge_io.specs.Text.{Says};
 
 use crate::turns::is_listed;
@@ -69,10 +69,10 @@ impl Say for MemSay {
         ensures steady { IsSteady self.old →
             OnFailed result ⊥ × IsSteady self.new × (faults_of self.new ≡ faults_of self.old) }
 
-        // It fails exactly at a listed call, and then the count rises by one.
+        // It fails exactly at a listed call, and only then the count rises, by one.
         ensures exact { IsErrOf result EdgeErr.Failed ↔ FailsNext self.old }
         ensures raised { OnFailed result (faults_of self.new ≡ raised (faults_of self.old)) }
-        ensures kept { OnOk result (faults_of self.new ≡ faults_of self.old) }
+        ensures kept { UnlessFailed result (faults_of self.new ≡ faults_of self.old) }
         ensures counted { CountsCall self.old self.new }
     {
         if is_listed(&mut self.calls, &self.failing) {

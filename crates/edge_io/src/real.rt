@@ -1,7 +1,7 @@
 //! The files of the system and its standard output. No contract says what they hold.
 
-ghost use Rattle.std.specs.Prelude.{◌≡◌, ◌<◌, ℕ, ◌≤◌, length, slice_index, None, IfOk, OnOk, OnErr};
-ghost use Rattle.edge_io.specs.Contents.{Stores};
+ghost use Rattle.std.specs.Prelude.{◌≡◌, ◌<◌, ℕ, ◌≤◌, length, slice_index, None, IfOk, IsOk, OnOk, OnErr};
+ghost use Rattle.edge_io.specs.Contents.{IsThere, Reads, Stores};
 ghost use Rattle.edge_io.specs.Counts.{ChangesOnlyCount, OnFailed, RaisesOnly, Rose, raised};
 ghost use Rattle.edge_io.specs.Text.{Says};
 
@@ -93,7 +93,21 @@ impl<R: rt::Files + Drop> Files for RealFiles<R> {
         self.counts[file as usize]
     }
 
-    fn piece(&mut self, file: u8, name: &Word, at: u64, buf: &mut [u8]) -> Result<usize, Failed> {
+    fn piece(&mut self, file: u8, name: &Word, at: u64, buf: &mut [u8]) -> Result<usize, Failed>
+        requires { file < 8 }
+
+        ensures within { IfOk result (λ n. n ≤ length buf.new) }
+        ensures read { Reads None name.now at buf.new result }
+        ensures same { ⟦<RealFiles<R> as Files>⟧.contents self.new ≡ ⟦<RealFiles<R> as Files>⟧.contents self.old }
+
+        ensures counts { ChangesOnlyCount file (⟦<RealFiles<R> as Files>⟧.faults self.old) (⟦<RealFiles<R> as Files>⟧.faults self.new) }
+        ensures cause { OnErr result (Rose (⟦<RealFiles<R> as Files>⟧.faults self.old file) (⟦<RealFiles<R> as Files>⟧.faults self.new file)) }
+        ensures steady { ⊥ → IsThere None name.now → IsOk result × ⊥ × (⟦<RealFiles<R> as Files>⟧.faults self.new file ≡ ⟦<RealFiles<R> as Files>⟧.faults self.old file) }
+
+        // The count rises by one exactly where it fails.
+        ensures raised { OnErr result (RaisesOnly file (⟦<RealFiles<R> as Files>⟧.faults self.old) (⟦<RealFiles<R> as Files>⟧.faults self.new)) }
+        ensures kept { OnOk result ((k : ℕ) → ⟦<RealFiles<R> as Files>⟧.faults self.new k ≡ ⟦<RealFiles<R> as Files>⟧.faults self.old k) }
+    {
         match self.read_at(name, at, buf) {
             Ok(n) => Ok(n),
             Err(_) => {
@@ -112,7 +126,7 @@ impl<R: rt::Files + Drop> Files for RealFiles<R> {
         ensures cause { OnFailed result (Rose (⟦<RealFiles<R> as Files>⟧.faults self.old file) (⟦<RealFiles<R> as Files>⟧.faults self.new file)) }
         ensures steady { ⊥ → OnFailed result ⊥ × ⊥ × (⟦<RealFiles<R> as Files>⟧.faults self.new file ≡ ⟦<RealFiles<R> as Files>⟧.faults self.old file) }
 
-        // The count rises by one exactly where it fails, and it fails for no other reason.
+        // The count rises by one exactly where it fails.
         ensures raised { OnErr result (RaisesOnly file (⟦<RealFiles<R> as Files>⟧.faults self.old) (⟦<RealFiles<R> as Files>⟧.faults self.new)) }
         ensures kept { OnOk result ((k : ℕ) → ⟦<RealFiles<R> as Files>⟧.faults self.new k ≡ ⟦<RealFiles<R> as Files>⟧.faults self.old k) }
     {
@@ -149,7 +163,7 @@ impl<R: Print + Drop> Say for StdSay<R> {
         ensures cause { OnFailed result (Rose (⟦<StdSay<R> as Say>⟧.faults self.old) (⟦<StdSay<R> as Say>⟧.faults self.new)) }
         ensures steady { ⊥ → OnFailed result ⊥ × ⊥ × (⟦<StdSay<R> as Say>⟧.faults self.new ≡ ⟦<StdSay<R> as Say>⟧.faults self.old) }
 
-        // The count rises by one exactly where it fails, and it fails for no other reason.
+        // The count rises by one exactly where it fails.
         ensures raised { OnErr result (⟦<StdSay<R> as Say>⟧.faults self.new ≡ raised (⟦<StdSay<R> as Say>⟧.faults self.old)) }
         ensures kept { OnOk result (⟦<StdSay<R> as Say>⟧.faults self.new ≡ ⟦<StdSay<R> as Say>⟧.faults self.old) }
     {

@@ -88,7 +88,8 @@ impl EntryMap {
     /// What is kept at a key.
     pub fn find(&self, key: &LedgerKey) -> Option<&Kept>
         requires { key_format.fits key.now }
-        ensures { option_copied result ≡ find_in self.now key.now }
+        ensures found { option_copied result ≡ find_in self.now key.now }
+        ensures map { IsLedgerMap self.now }
     {
         match place_of(&self.slots, key) {
             Some(place) => Some(&self.slots[place].kept),

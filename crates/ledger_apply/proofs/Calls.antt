@@ -21,7 +21,8 @@ use Rattle.tx_results.specs.declared.results.TransactionOutcome.{TransactionOutc
 use Rattle.tx_results.specs.declared.results.TransactionResultPair.{TransactionResultPair}
 use Rattle.apply_spec.specs.Checks.{footprint_of, refusal_of, checks_of, first_failed}
 use Rattle.apply_spec.specs.Enforced.{Enforced, enforced, unless_refused, first_performed, performed, may_extend}
-use Rattle.apply_spec.specs.Runs.{Running, before, run_transaction, run_cluster, run_next_cluster, run_stage, run_set, running_header, stages_of, success_preimages}
+use Rattle.apply_spec.specs.Runs.{Running, before, run_transaction, run_cluster, run_next_cluster, run_stage, run_set, running_header, success_preimages}
+use Rattle.tx_xdr.specs.Stages.{stages_of}
 use Rattle.ledger_apply.proofs.On.{recursion_append}
 
 -- ---- a transaction

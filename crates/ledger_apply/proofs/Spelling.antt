@@ -24,7 +24,7 @@ use Rattle.tx_xdr.specs.declared.set.Phase.{Phase}
 use Rattle.tx_xdr.specs.declared.set.Phase.TheVariants.{Components, Parallel}
 use Rattle.tx_xdr.specs.declared.set.TxSet.{TxSet}
 use Rattle.apply_spec.specs.Enforced.{runs_today}
-use Rattle.apply_spec.specs.Runs.{stages_in}
+use Rattle.tx_xdr.specs.Stages.{stages_in}
 use Rattle.ledger_apply.specs.Spelled.{IsCluster, IsStage}
 use Rattle.apply_spec.specs.Checks.{footprint_of, footprint_in}
 

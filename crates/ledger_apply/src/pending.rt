@@ -1,6 +1,6 @@
 //! Extensions that are pending in a cluster, and their putting in by maximum.
 
-ghost use Rattle.std.specs.Prelude.{◌≡◌, ◌∷◌, ◌++◌, [], not, max, All, IfOk, OnOk, filter, if◌then◌else◌};
+ghost use Rattle.std.specs.Prelude.{◌≡◌, ◌∷◌, ◌++◌, [], not, max, All, IfOk, OnOk, OnErr, filter, if◌then◌else◌};
 ghost use Rattle.std.specs.Option.{option_map_or};
 ghost use Rattle.ledger_types.specs.Key.{key_format};
 ghost use Rattle.apply_spec.specs.Checks.{is_key};
@@ -129,6 +129,7 @@ impl Pending {
         requires { key_format.fits key.now }
         ensures entries { OnOk result (entries.new ≡ put_all_in entries.old (filter (λ e. is_key e.key key.now) self.old)) }
         ensures pending { OnOk result (self.new ≡ filter (λ e. not (is_key e.key key.now)) self.old) }
+        ensures err { OnErr result ((self.new ≡ self.old) × (entries.new ≡ entries.old)) }
     {
         let bytes = encode(alloc, key)?;
         if let Some(awaited) = self.by_key.remove(bytes.as_slice()) {

@@ -7,7 +7,8 @@ ghost use Rattle.ledger_spec.specs.LedgerFile.{are_settings, has_next};
 ghost use Rattle.tx_xdr.specs.Limits.{today};
 ghost use Rattle.tx_xdr.specs.Set.{set_format, phase_format};
 ghost use Rattle.tx_results.specs.Results.{result_set_format};
-ghost use Rattle.apply_spec.specs.Runs.{run_stage as run_stage_in, run_set, new_header, stages_in, success_preimages};
+ghost use Rattle.apply_spec.specs.Runs.{run_stage as run_stage_in, run_set, new_header, success_preimages};
+ghost use Rattle.tx_xdr.specs.Stages.{stages_in};
 ghost use Rattle.ledger_apply.specs.State.{running_of, IsOn};
 ghost use Rattle.ledger_apply.specs.Spelled.{IsStage};
 

@@ -17,7 +17,6 @@ impl Ground for Ledger {
     ghost map = { λ ledger. ledger.entries };
 
     fn find(&self, key: &LedgerKey) -> Option<Found<'_>> {
-        let _slots = self.entries.as_slice();
         match self.entries.find(key) {
             Some(kept) => Some(Found {
                 entry: &kept.entry,

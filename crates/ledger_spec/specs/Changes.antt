@@ -9,7 +9,7 @@ use Rattle.ledger_spec.specs.declared.Kept.{Kept}
 use Rattle.ledger_spec.specs.LedgerMap.{LedgerMap, find, key_bytes}
 use Rattle.ledger_spec.specs.Seen.{Seen, live, absent, archived, seen, is_temporary}
 
--- the least life of a new entry, and the last ledger of that life
+-- the least life of a new entry, in ledgers
 abbrev pub least_life : Settings → LedgerEntry → ℕ
 least_life settings entry = if is_temporary entry.data then settings.min_temporary_ttl else settings.min_persistent_ttl
 
@@ -17,7 +17,7 @@ least_life settings entry = if is_temporary entry.data then settings.min_tempora
 abbrev pub first_life : Settings → ℕ → LedgerEntry → ℕ
 first_life settings n entry = n + least_life settings entry - 1
 
--- the last ledger that any life may reach
+-- the last ledger that an extension may reach
 abbrev pub furthest : Settings → ℕ → ℕ
 furthest settings n = n + settings.max_entry_ttl - 1
 

@@ -119,14 +119,3 @@ judged_if follows (Err e) = Err (refusal why.Xdr e.at)
 -- The header and the map of a file, or why it is none: all of its bytes are read first.
 abbrev pub ledger_of : Bool → List ℕ → Result (Header × LedgerMap) LedgerRefusal
 ledger_of follows bytes = judged_if follows (decoded file_format bytes)
-
--- ---- the number of a refusal, as it is printed
-
--- (own)
-abbrev pub why_number : LedgerWhy → ℕ
-why_number why.Xdr = 1
-why_number why.Order = 2
-why_number why.TtlHash = 3
-why_number why.CodeHash = 4
-why_number why.Settings = 5
-why_number why.SeqEnd = 6

@@ -1,4 +1,5 @@
 pub mod LedgerMap
 pub mod Seen
 pub mod Changes
+pub mod ChangeLaws
 pub mod LedgerFile

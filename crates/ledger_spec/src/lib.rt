@@ -1,6 +1,9 @@
 //! What a ledger is: a map from keys to entries and their lives, and the file that holds it.
 #![tactic(auto)]
 
+mod laws;
+
+pub use laws::{delete_is_absent, extend_is_longer, put_is_seen, raise_is_longest, seen_by_life};
 use ledger_types::LedgerEntry;
 
 /// An entry and the last ledger in which it is live.

@@ -2,7 +2,8 @@
 #![tactic(auto)]
 
 ghost use Rattle.std.specs.Prelude.{◌≡◌, ◌++◌, map, codes, OnOk, IfOk};
-ghost use Rattle.set_lines.specs.Lines.{cluster_lines, component_clusters, envelope_line, envelope_line_at, envelopes_in, numbered, operation_name, phase_stages, set_lines, stage_clusters, stage_lines, stages_in};
+ghost use Rattle.tx_xdr.specs.Stages.{component_stage, stages_in, stages_of};
+ghost use Rattle.set_lines.specs.Lines.{cluster_lines, envelope_line, envelope_line_at, numbered, operation_name, set_lines, stage_lines};
 ghost use Rattle.set_lines.specs.Parts.{part_of};
 
 use std::alloc::{AllocError, Global};
@@ -37,7 +38,7 @@ pub fn envelope_line(alloc: Global, envelope: &Envelope) -> Result<Vec<u8>, Allo
 }
 
 fn parts_of<'a>(alloc: Global, set: &'a TxSet) -> Result<Vec<Part<'a>>, AllocError>
-    ensures { IfOk result (λ v. map part_of v.items ≡ stages_in set.now) }
+    ensures { IfOk result (λ v. map part_of v.items ≡ stages_of set.now) }
 {
     let mut parts = Vec::new(alloc);
     for phase in set.phases.as_slice() {
@@ -47,7 +48,7 @@ fn parts_of<'a>(alloc: Global, set: &'a TxSet) -> Result<Vec<Part<'a>>, AllocErr
 }
 
 fn push_phase<'a>(parts: &mut Vec<Part<'a>>, phase: &'a Phase) -> Result<(), AllocError>
-    ensures { OnOk result (map part_of parts.new.items ≡ map part_of parts.old.items ++ phase_stages phase.now) }
+    ensures { OnOk result (map part_of parts.new.items ≡ map part_of parts.old.items ++ stages_in phase.now) }
 {
     match phase {
         Phase::Components(components) => push_components(parts, components.as_slice()),
@@ -59,7 +60,7 @@ fn push_components<'a>(
     parts: &mut Vec<Part<'a>>,
     components: &'a [Component],
 ) -> Result<(), AllocError>
-    ensures { OnOk result (map part_of parts.new.items ≡ map part_of parts.old.items ++ map component_clusters components.now) }
+    ensures { OnOk result (map part_of parts.new.items ≡ map part_of parts.old.items ++ map component_stage components.now) }
 {
     for component in components {
         parts.push(Part::Component(component))?;
@@ -68,7 +69,7 @@ fn push_components<'a>(
 }
 
 fn push_stages<'a>(parts: &mut Vec<Part<'a>>, stages: &'a [Stage]) -> Result<(), AllocError>
-    ensures { OnOk result (map part_of parts.new.items ≡ map part_of parts.old.items ++ map stage_clusters stages.now) }
+    ensures { OnOk result (map part_of parts.new.items ≡ map part_of parts.old.items ++ stages.now) }
 {
     for stage in stages {
         parts.push(Part::Stage(stage))?;
@@ -98,7 +99,7 @@ fn push_part(lines: &mut Vec<u8>, stage: u64, part: &Part<'_>) -> Result<(), All
 }
 
 fn push_clusters(lines: &mut Vec<u8>, stage: u64, clusters: &[Cluster]) -> Result<(), AllocError>
-    ensures { OnOk result (lines.new.items ≡ lines.old.items ++ numbered (cluster_lines stage) 0 (map envelopes_in clusters.now)) }
+    ensures { OnOk result (lines.new.items ≡ lines.old.items ++ numbered (cluster_lines stage) 0 clusters.now) }
 {
     for (number, cluster) in clusters.iter().enumerate() {
         push_envelopes(lines, stage, number as u64, cluster.envelopes.as_slice())?;
@@ -112,7 +113,7 @@ fn push_envelopes(
     cluster: u64,
     envelopes: &[Envelope],
 ) -> Result<(), AllocError>
-    ensures { OnOk result (lines.new.items ≡ lines.old.items ++ cluster_lines stage cluster envelopes.now) }
+    ensures { OnOk result (lines.new.items ≡ lines.old.items ++ numbered (envelope_line_at stage cluster) 0 envelopes.now) }
 {
     for (place, envelope) in envelopes.iter().enumerate() {
         push_envelope(lines, stage, cluster, place as u64, envelope)?;

@@ -22,7 +22,7 @@ name_of Limit = codes ": limit\n"
 name_of Depth = codes ": depth\n"
 name_of Trailing = codes ": trailing\n"
 
--- the number of a ledger's reason
+-- a ledger's reason, by its number
 abbrev pub number_of : LedgerWhy → List ℕ
 number_of why.Xdr = codes "ledger refused: 1 at "
 number_of why.Order = codes "ledger refused: 2 at "

@@ -24,6 +24,11 @@ UnlessFree (Fault name) P = ⊤
 UnlessFree NoMemory P = ⊤
 UnlessFree status P = P
 
+-- a fact, unless memory ran out
+abbrev pub UnlessNoMemory : Status → Type 0 → Type 0
+UnlessNoMemory NoMemory P = ⊤
+UnlessNoMemory status P = P
+
 -- a fact where this status, which is due, is no fault
 abbrev pub UnlessFault : Status → Type 0 → Type 0
 UnlessFault (Fault name) P = ⊤
@@ -33,3 +38,8 @@ UnlessFault status P = P
 abbrev pub Gives : {X Y : Type 0} → (X → Y) → Result X Status → Result Y Status → Type 0
 Gives view (Ok x) outcome = outcome ≡ Ok (view x)
 Gives view (Err status) outcome = UnlessFree status (outcome ≡ Err status)
+
+-- The same, unless memory ran out.
+abbrev pub GivesExactly : {X Y : Type 0} → (X → Y) → Result X Status → Result Y Status → Type 0
+GivesExactly view (Ok x) outcome = outcome ≡ Ok (view x)
+GivesExactly view (Err status) outcome = UnlessNoMemory status (outcome ≡ Err status)

@@ -6,7 +6,7 @@ ghost use Rattle.soroban_top.specs.Asked.{reads_of, writes_of};
 ghost use Rattle.soroban_top.specs.Counts.{HasCause, NoLower, SameCounts};
 ghost use Rattle.soroban_top.specs.Outcome.{applied, outcome_of};
 ghost use Rattle.soroban_top.specs.Product.{file};
-ghost use Rattle.soroban_top.specs.Steps.{Gives, UnlessFault, status_of};
+ghost use Rattle.soroban_top.specs.Steps.{Gives, GivesExactly, UnlessFault, status_of};
 ghost use Rattle.soroban_top.specs.Views.{made_of, targets_of};
 
 use crate::judged::{read_ledger, read_set, read_verdicts};
@@ -30,6 +30,8 @@ pub fn apply<'a, F: Files>(
     ensures cause { IfErr result (HasCause (reads_of (Asked request.now)) (F.faults files.old) (F.faults files.new)) }
     ensures steady { F.steady files.old → IfSome (F.contents files.old) (λ m. UnlessFault (status_of (outcome_of (Asked request.now) m))
         (F.steady files.new × SameCounts (F.faults files.old) (F.faults files.new))) }
+    ensures steady_exact { F.steady files.old → IfSome (F.contents files.old) (λ m.
+        GivesExactly made_of result (outcome_of (Asked request.now) m)) }
 {
     let ledger = read_ledger(alloc, files, LEDGER, &request.ledger)?;
     let _verdicts = read_verdicts(alloc, files, VERDICTS, &request.verdicts)?;

@@ -4,7 +4,7 @@ ghost use Rattle.std.specs.Prelude.{◌≡◌, [], ◌∷◌, IfOk, IfErr, IfSom
 ghost use Rattle.soroban_top.specs.Counts.{NoLower, SameCounts, HasCause};
 ghost use Rattle.soroban_top.specs.Judged.{content_of};
 ghost use Rattle.soroban_top.specs.Left.{StoresAll};
-ghost use Rattle.soroban_top.specs.Steps.{Gives, UnlessFault, status_of};
+ghost use Rattle.soroban_top.specs.Steps.{Gives, GivesExactly, UnlessFault, status_of};
 ghost use Rattle.soroban_top.specs.Views.{file_of, job_of, jobs_of, targets_of};
 
 use crate::{FileArg, Status, Store};
@@ -19,6 +19,8 @@ pub fn read_file<F: Files>(alloc: Global, files: &mut F, file: &FileArg<'_>) -> 
     ensures cause { IfErr result (HasCause (file_of file.now ∷ []) (F.faults files.old) (F.faults files.new)) }
     ensures steady { F.steady files.old → IfSome (F.contents files.old) (λ m. UnlessFault (status_of (content_of m file.now.name.now))
         (F.steady files.new × SameCounts (F.faults files.old) (F.faults files.new))) }
+    ensures steady_exact { F.steady files.old → IfSome (F.contents files.old) (λ m.
+        GivesExactly (λ b. b) result (content_of m file.now.name.now)) }
 {
     // Cloned before the call, so that a fault can tell it.
     let name = file.name.clone()?;
@@ -36,6 +38,7 @@ fn store_file<F: Files>(files: &mut F, store: &Store<'_>) -> Result<(), Status>
     ensures counts { NoLower (F.faults files.old) (F.faults files.new) }
     ensures cause { IfErr result (HasCause (file_of store.now.file ∷ []) (F.faults files.old) (F.faults files.new)) }
     ensures steady { F.steady files.old → F.steady files.new × SameCounts (F.faults files.old) (F.faults files.new) }
+    ensures steady_exact { F.steady files.old → IfErr result (λ status. status ≡ Status.NoMemory) }
 {
     let name = store.file.name.clone()?;
     match files.store(store.file.option, store.file.name, &store.bytes) {
@@ -51,6 +54,7 @@ pub fn store_all<F: Files>(files: &mut F, stores: &[Store<'_>]) -> Result<(), St
     ensures counts { NoLower (F.faults files.old) (F.faults files.new) }
     ensures cause { IfErr result (HasCause (targets_of stores.now) (F.faults files.old) (F.faults files.new)) }
     ensures steady { F.steady files.old → F.steady files.new × SameCounts (F.faults files.old) (F.faults files.new) }
+    ensures steady_exact { F.steady files.old → IfErr result (λ status. status ≡ Status.NoMemory) }
 {
     for store in stores {
         store_file(files, store)?;

@@ -3,7 +3,7 @@
 ghost use Rattle.std.specs.Prelude.{◌≡◌, ◌⊎◌, ◌≤◌, ◌++◌};
 ghost use Rattle.edge_io.specs.Counts.{OnFailed, Rose};
 ghost use Rattle.soroban_top.specs.Lines.{Finishes, HasSayCause, IsStatusAfter, SaysLines, ill_line, line_of, name_of, number_of};
-ghost use Rattle.soroban_top.specs.Steps.{viewed};
+ghost use Rattle.soroban_top.specs.Steps.{status_of, viewed};
 
 use crate::Status;
 use edge_io::{EdgeErr, Say, Word};
@@ -19,6 +19,8 @@ pub fn finish<S: Say>(alloc: Global, came_to: Result<Vec<u8>, Status>, say: &mut
     ensures cause { HasSayCause (viewed (λ v. v.items) came_to) (S.faults say.old) (S.faults say.new) result }
     ensures counts { S.faults say.old ≤ S.faults say.new }
     ensures steady { S.steady say.old → S.faults say.new ≡ S.faults say.old }
+    ensures steady_exact { S.steady say.old →
+        (result ≡ status_of (viewed (λ v. v.items) came_to)) ⊎ (result ≡ Status.NoMemory) }
 {
     match came_to {
         Ok(lines) => unless_unsaid(alloc, Status::Done, say_part(say, &lines)),

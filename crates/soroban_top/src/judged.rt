@@ -9,7 +9,7 @@ ghost use Rattle.soroban_top.specs.Counts.{HasCause, IsOfBytes, NoLower, SameCou
 ghost use Rattle.soroban_top.specs.Judged.{ledger_at, ledger_in, verdicts_at, verdicts_in, set_at, set_in, set_opened};
 ghost use Rattle.soroban_top.specs.Product.{file};
 ghost use Rattle.soroban_top.specs.Seen.{seen};
-ghost use Rattle.soroban_top.specs.Steps.{Gives, UnlessFault, status_of};
+ghost use Rattle.soroban_top.specs.Steps.{Gives, GivesExactly, UnlessFault, status_of};
 
 use crate::drive::read_file;
 use crate::opened::open_text;
@@ -38,6 +38,8 @@ pub fn read_ledger<F: Files>(
     ensures cause { IfErr result (HasCause (file option name.now ∷ []) (F.faults files.old) (F.faults files.new)) }
     ensures steady { F.steady files.old → IfSome (F.contents files.old) (λ m. UnlessFault (status_of (ledger_at m name.now))
         (F.steady files.new × SameCounts (F.faults files.old) (F.faults files.new))) }
+    ensures steady_exact { F.steady files.old → IfSome (F.contents files.old) (λ m.
+        GivesExactly seen result (ledger_at m name.now)) }
 {
     let bytes = read_file(alloc, files, &FileArg { option, name })?;
     ledger_in(alloc, bytes.as_slice())
@@ -57,6 +59,8 @@ pub fn read_verdicts<F: Files>(
     ensures cause { IfErr result (HasCause (file option name.now ∷ []) (F.faults files.old) (F.faults files.new)) }
     ensures steady { F.steady files.old → IfSome (F.contents files.old) (λ m. UnlessFault (status_of (verdicts_at m name.now))
         (F.steady files.new × SameCounts (F.faults files.old) (F.faults files.new))) }
+    ensures steady_exact { F.steady files.old → IfSome (F.contents files.old) (λ m.
+        GivesExactly (λ v. v) result (verdicts_at m name.now)) }
 {
     let bytes = read_file(alloc, files, &FileArg { option, name })?;
     verdicts_in(alloc, bytes.as_slice())
@@ -78,6 +82,8 @@ pub fn read_set<F: Files>(
     ensures cause { IfErr result (HasCause (file option name.now ∷ []) (F.faults files.old) (F.faults files.new)) }
     ensures steady { F.steady files.old → IfSome (F.contents files.old) (λ m. UnlessFault (status_of (set_at m base64 name.now))
         (F.steady files.new × SameCounts (F.faults files.old) (F.faults files.new))) }
+    ensures steady_exact { F.steady files.old → IfSome (F.contents files.old) (λ m.
+        GivesExactly (λ s. s) result (set_at m base64 name.now)) }
 {
     let text = read_file(alloc, files, &FileArg { option, name })?;
     set_opened(alloc, base64, name, text.as_slice())

@@ -11,7 +11,7 @@ ghost use Rattle.soroban_top.specs.Judged.{AreThere};
 ghost use Rattle.soroban_top.specs.Left.{Leaves, OnRefused};
 ghost use Rattle.soroban_top.specs.Lines.{line_of};
 ghost use Rattle.soroban_top.specs.Outcome.{due, outcome_if, outcome_of, says_of};
-ghost use Rattle.soroban_top.specs.Steps.{Gives, UnlessFault, UnlessFree, status_of};
+ghost use Rattle.soroban_top.specs.Steps.{Gives, GivesExactly, UnlessFault, UnlessFree, status_of};
 
 mod apply;
 mod drive;
@@ -68,6 +68,11 @@ pub fn soroban<R: Threads + Sync, F: Files, S: Say, G: Gate + Sync>(
         (F.faults files.old) (F.faults files.new) (S.faults say.old) (S.faults say.new) →
         (result ≡ due (asked_of words.now) m) ⊎ (result ≡ Status.NoMemory)) }
 
+    // Of steady files and a steady text it is the one that is due, which at a missing file is a fault of its name, unless
+    // memory ran out.
+    ensures steady_exact { F.steady files.old → S.steady say.old → IfSome (F.contents files.old) (λ m.
+        (result ≡ due (asked_of words.now) m) ⊎ (result ≡ Status.NoMemory)) }
+
     // What the files and the text then are.
     ensures left { IfSome (F.contents files.old) (λ m. Ends (asked_of words.now) m result
         (outside (F.contents files.old) (S.text say.old)) (outside (F.contents files.new) (S.text say.new))) }
@@ -99,6 +104,8 @@ fn perform<F: Files>(alloc: Global, words: &[Word], files: &mut F) -> Result<Vec
     ensures refused { OnRefused (status_of result) (F.contents files.new ≡ F.contents files.old) }
     ensures steady { F.steady files.old → IfSome (F.contents files.old) (λ m. UnlessFault (due (asked_of words.now) m)
         (SameCounts (F.faults files.old) (F.faults files.new))) }
+    ensures steady_exact { F.steady files.old → IfSome (F.contents files.old) (λ m.
+        GivesExactly (λ v. v.items) result (says_of (outcome_if (asked_of words.now) m))) }
     ensures counts { NoLower (F.faults files.old) (F.faults files.new) }
 {
     let request = asked(alloc, words)?;
@@ -114,6 +121,8 @@ fn run<F: Files>(alloc: Global, request: &Request, files: &mut F) -> Result<Vec<
     ensures refused { OnRefused (status_of result) (F.contents files.new ≡ F.contents files.old) }
     ensures steady { F.steady files.old → IfSome (F.contents files.old) (λ m. UnlessFault (status_of (outcome_of request.now m))
         (SameCounts (F.faults files.old) (F.faults files.new))) }
+    ensures steady_exact { F.steady files.old → IfSome (F.contents files.old) (λ m.
+        GivesExactly (λ v. v.items) result (says_of (outcome_of request.now m))) }
     ensures counts { NoLower (F.faults files.old) (F.faults files.new) }
 {
     let product = produce(alloc, request, files)?;

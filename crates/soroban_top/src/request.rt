@@ -5,7 +5,7 @@ ghost use Rattle.command_words.specs.Words.{asked_of};
 ghost use Rattle.soroban_top.specs.Asked.{reads_of, writes_of};
 ghost use Rattle.soroban_top.specs.Counts.{HasCause, NoLower, SameCounts};
 ghost use Rattle.soroban_top.specs.Outcome.{ReadsWords, outcome_of};
-ghost use Rattle.soroban_top.specs.Steps.{Gives, UnlessFault, status_of};
+ghost use Rattle.soroban_top.specs.Steps.{Gives, GivesExactly, UnlessFault, status_of};
 ghost use Rattle.soroban_top.specs.Views.{made_of, targets_of};
 
 use crate::apply::apply;
@@ -40,6 +40,8 @@ pub fn produce<'a, F: Files>(
     ensures cause { IfErr result (HasCause (reads_of request.now) (F.faults files.old) (F.faults files.new)) }
     ensures steady { F.steady files.old → IfSome (F.contents files.old) (λ m. UnlessFault (status_of (outcome_of request.now m))
         (F.steady files.new × SameCounts (F.faults files.old) (F.faults files.new))) }
+    ensures steady_exact { F.steady files.old → IfSome (F.contents files.old) (λ m.
+        GivesExactly made_of result (outcome_of request.now m)) }
 {
     match request {
         Request::Apply(options) => apply(alloc, files, options),

@@ -7,7 +7,7 @@ ghost use Rattle.soroban_top.specs.Asked.{reads_of, writes_of};
 ghost use Rattle.soroban_top.specs.Counts.{HasCause, IsOfBytes, NoLower, SameCounts};
 ghost use Rattle.soroban_top.specs.Outcome.{outcome_of};
 ghost use Rattle.soroban_top.specs.Shown.{shown, shown_opened};
-ghost use Rattle.soroban_top.specs.Steps.{Gives, UnlessFault, status_of};
+ghost use Rattle.soroban_top.specs.Steps.{Gives, GivesExactly, UnlessFault, status_of};
 ghost use Rattle.soroban_top.specs.Views.{made_of, targets_of};
 ghost use Rattle.soroban_top.specs.declared.status.Status.TheVariants.{NoMemory};
 
@@ -35,6 +35,8 @@ pub fn show<'a, F: Files>(
     ensures cause { IfErr result (HasCause (reads_of (Asked request.now)) (F.faults files.old) (F.faults files.new)) }
     ensures steady { F.steady files.old → IfSome (F.contents files.old) (λ m. UnlessFault (status_of (outcome_of (Asked request.now) m))
         (F.steady files.new × SameCounts (F.faults files.old) (F.faults files.new))) }
+    ensures steady_exact { F.steady files.old → IfSome (F.contents files.old) (λ m.
+        GivesExactly made_of result (outcome_of (Asked request.now) m)) }
 {
     let file = FileArg {
         option: ONLY_FILE,

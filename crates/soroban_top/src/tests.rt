@@ -347,7 +347,7 @@ const IDLE: Case<'static> = Case {
 };
 
 /// Sets without phases, and refusals: the code, the lines and the case.
-const ROWS: [(u8, &str, Case<'static>); 12] = [
+const ROWS: [(u8, &str, Case<'static>); 11] = [
     (0, UNCHANGED, IDLE),
     (
         0,
@@ -405,7 +405,6 @@ const ROWS: [(u8, &str, Case<'static>); 12] = [
             ..IDLE
         },
     ),
-    (4, "fault on set\n", Case { set: &[], ..IDLE }),
     (
         2,
         "usage\n",
@@ -434,6 +433,74 @@ const ROWS: [(u8, &str, Case<'static>); 12] = [
         },
     ),
 ];
+
+/// The first of the missing files that is read is at fault, by its name, and nothing is stored.
+#[test]
+fn missing_files(rt: HostRuntime) -> Result<(), Fail> {
+    let alloc = rt.alloc();
+    for (missing, text, case) in MISSING {
+        let ran = run(&rt, alloc, case, Vec::new(alloc), Vec::new(alloc))?;
+        let Status::Fault { name } = &ran.status else {
+            return Err(Fail::from("no fault"));
+        };
+        assert_eq!(rt; name.as_str(), missing);
+        assert_eq!(rt; ran.say.text(), text.as_bytes());
+        assert_eq!(rt; ran.status.code(), 4);
+        assert_eq!(rt; length(alloc, &ran.files, "report")?, 0);
+        assert_eq!(rt; length(alloc, &ran.files, "next")?, 0);
+    }
+    Ok(())
+}
+
+/// The file at fault, the line and the case.
+const MISSING: [(&str, &str, Case<'static>); 5] = [
+    ("set", "fault on set\n", Case { set: &[], ..IDLE }),
+    (
+        "ledger",
+        "fault on ledger\n",
+        Case {
+            ledger: &[],
+            ..IDLE
+        },
+    ),
+    (
+        "verdicts",
+        "fault on verdicts\n",
+        Case {
+            verdicts: &[],
+            ..IDLE
+        },
+    ),
+    (
+        "verdicts",
+        "fault on verdicts\n",
+        Case {
+            set: &[],
+            verdicts: &[],
+            ..IDLE
+        },
+    ),
+    (
+        "ledger",
+        "fault on ledger\n",
+        Case {
+            set: &[],
+            ledger: &[],
+            verdicts: &[],
+            ..IDLE
+        },
+    ),
+];
+
+#[test]
+fn memory_is_wanting(rt: HostRuntime) -> Result<(), Fail> {
+    let alloc = rt.alloc();
+    let mut say = MemSay::new(alloc, Vec::new(alloc));
+    let status = finish(alloc, Err(Status::NoMemory), &mut say);
+    assert_eq!(rt; say.text(), b"no memory\n".as_slice());
+    assert_eq!(rt; status.code(), 5);
+    Ok(())
+}
 
 #[test]
 fn calls_fail(rt: HostRuntime) -> Result<(), Fail> {

@@ -4,7 +4,7 @@ ghost use Rattle.std.specs.Prelude.{◌≡◌};
 ghost use Rattle.tx_results.specs.Operations.{invoke_number, invoke_of_number, extend_number, extend_of_number, inner_number, inner_of_number, operation_number, operation_of_number};
 ghost use Rattle.tx_results.specs.Results.{code_number, code_of_number};
 
-/// The code of what became of INVOKE_HOST_FUNCTION (`InvokeHostFunctionResultCode`).
+/// The code of what became of INVOKE_HOST_FUNCTION (`InvokeHostFunctionResultCode`, those that this host gives).
 #[derive(Clone, Copy, Debug, PartialEq, Eq)]
 pub enum InvokeResultCode {
     /// 0.
@@ -48,7 +48,7 @@ impl InvokeResultCode {
     }
 }
 
-/// What became of EXTEND_FOOTPRINT_TTL (`ExtendFootprintTTLResult`).
+/// What became of EXTEND_FOOTPRINT_TTL (`ExtendFootprintTTLResult`, with the codes that this host gives).
 #[derive(Clone, Copy, Debug, PartialEq, Eq)]
 pub enum ExtendResult {
     /// 0.
@@ -112,7 +112,7 @@ impl InnerKind {
     }
 }
 
-/// The code of what became of an operation (`OperationResultCode`).
+/// The code of what became of an operation (`OperationResultCode`, those that this host gives).
 #[derive(Clone, Copy, Debug, PartialEq, Eq)]
 pub enum OperationResultCode {
     /// opINNER 0: the body's result follows.
@@ -144,7 +144,7 @@ impl OperationResultCode {
     }
 }
 
-/// The code of what became of a transaction (`TransactionResultCode`).
+/// The code of what became of a transaction (`TransactionResultCode`, those that this host gives).
 #[derive(Clone, Copy, Debug, PartialEq, Eq)]
 pub enum TransactionResultCode {
     /// txSUCCESS 0.

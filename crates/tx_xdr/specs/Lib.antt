@@ -6,3 +6,4 @@ pub mod Ext
 pub mod Transaction
 pub mod Set
 pub mod Hashes
+pub mod Stages

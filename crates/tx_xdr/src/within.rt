@@ -10,12 +10,12 @@ use crate::limits::Limits;
 use std::alloc::Global;
 use xdr_core::{Cursor, ReadXdr, Why, XdrErr};
 
-/// A type whose values are spelled in bytes, where limits say how many members its lists may have.
+/// A type whose values are spelled in bytes, where limits say how many members its lists may have and which arms are taken.
 pub trait ReadWithin {
     /// How they are spelled.
     ghost format: { LimitsData → Format Self };
 
-    /// Reads the value at the front, part by part. After an error the input is somewhere on the way.
+    /// Reads the value at the front, part by part. After an error the cursor may stand anywhere.
     fn read_parts_within(
         alloc: Global,
         input: &mut Cursor<'_>,
@@ -45,7 +45,7 @@ pub trait ReadWithin {
     ghost lawful: { (limits : LimitsData) → IsFormat (format limits) };
 }
 
-/// Reads as many values as are counted.
+/// Reads as many values as are counted. After an error the cursor may stand anywhere.
 fn read_row_within<T: ReadWithin + Drop>(
     alloc: Global,
     input: &mut Cursor<'_>,
@@ -61,7 +61,7 @@ fn read_row_within<T: ReadWithin + Drop>(
     Ok(items)
 }
 
-/// Reads a count of at most `max`, and that many values.
+/// Reads a count of at most `max`, and that many values. After an error the cursor may stand anywhere.
 #[tactic(auto, unfolding(xdr_spec::specs::Format::list))]
 pub fn read_list_within<T: ReadWithin + Drop>(
     alloc: Global,

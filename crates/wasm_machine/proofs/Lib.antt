@@ -1,4 +1,5 @@
 pub mod CallLaws
+pub mod Counts
 pub mod Events
 pub mod LeftLaws
 pub mod Measure

@@ -9,11 +9,11 @@ use budget_meter::{Budget, Kind};
 pub fn pay(left: &mut u64, budget: &mut Budget) -> bool
     ensures paid { MatchBool result
         (Pays left.old budget.old left.new budget.new)
-        (CannotPay left.old budget.old × (budget.new ≡ budget.old)) }
+        (CannotPay left.old budget.old × (left.new ≡ left.old) × (budget.new ≡ budget.old)) }
 {
-    if *left == 0 {
+    if *left == 0 || budget.charge(Kind::WasmInsnExec, 1).is_err() {
         return false;
     }
     *left -= 1;
-    budget.charge(Kind::WasmInsnExec, 1).is_ok()
+    true
 }

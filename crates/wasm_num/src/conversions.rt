@@ -26,7 +26,7 @@ pub fn convert(operation: Conversion, operand: u64) -> u64
     }
 }
 
-/// Sign extension from 8 to 32 bits (core section 4.3.3, `extend_s`).
+/// Sign extension from 8 to 32 bits (core section 4.3.4, `extend_s`).
 #[inline]
 pub fn extend_8_to_32(operand: u8) -> u32
     ensures { result ≡ extend_s 8 32 operand }
@@ -34,7 +34,7 @@ pub fn extend_8_to_32(operand: u8) -> u32
     i32::from(operand.cast_signed()).cast_unsigned()
 }
 
-/// Sign extension from 16 to 32 bits (core section 4.3.3, `extend_s`).
+/// Sign extension from 16 to 32 bits (core section 4.3.4, `extend_s`).
 #[inline]
 pub fn extend_16_to_32(operand: u16) -> u32
     ensures { result ≡ extend_s 16 32 operand }
@@ -42,7 +42,7 @@ pub fn extend_16_to_32(operand: u16) -> u32
     i32::from(operand.cast_signed()).cast_unsigned()
 }
 
-/// Sign extension from 8 to 64 bits (core section 4.3.3, `extend_s`).
+/// Sign extension from 8 to 64 bits (core section 4.3.4, `extend_s`).
 #[inline]
 pub fn extend_8_to_64(operand: u8) -> u64
     ensures { result ≡ extend_s 8 64 operand }
@@ -50,7 +50,7 @@ pub fn extend_8_to_64(operand: u8) -> u64
     i64::from(operand.cast_signed()).cast_unsigned()
 }
 
-/// Sign extension from 16 to 64 bits (core section 4.3.3, `extend_s`).
+/// Sign extension from 16 to 64 bits (core section 4.3.4, `extend_s`).
 #[inline]
 pub fn extend_16_to_64(operand: u16) -> u64
     ensures { result ≡ extend_s 16 64 operand }
@@ -58,7 +58,7 @@ pub fn extend_16_to_64(operand: u16) -> u64
     i64::from(operand.cast_signed()).cast_unsigned()
 }
 
-/// Sign extension from 32 to 64 bits (core section 4.3.3, `extend_s`).
+/// Sign extension from 32 to 64 bits (core section 4.3.4, `extend_s`).
 #[inline]
 pub fn extend_32_to_64(operand: u32) -> u64
     ensures { result ≡ extend_s 32 64 operand }

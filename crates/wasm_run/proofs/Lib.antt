@@ -1,3 +1,4 @@
+pub mod Counts
 pub mod Expressions
 pub mod Fold
 pub mod Starts

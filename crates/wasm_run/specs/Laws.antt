@@ -1,5 +1,5 @@
 -- Laws of runs (own).
-use Rattle.std.specs.Prelude.{◌≡◌, ◌≢◌, ℕ, ◌+◌, ◌-◌, ◌≤◌, List, [], ◌∷◌, length}
+use Rattle.std.specs.Prelude.{◌≡◌, ◌≢◌, ℕ, ◌-◌, ◌^◌, ◌<◌, ◌≤◌, List, [], ◌∷◌, length, map, reverse}
 use Rattle.budget_meter.specs.declared.kind.Kind.TheVariants.{WasmInsnExec}
 use Rattle.budget_meter.specs.Meter.{Meter}
 use Rattle.wasm_spec.specs.declared.values.Value.TheVariants as value
@@ -7,10 +7,11 @@ use Rattle.wasm_spec.specs.declared.module.Module.{Module}
 use Rattle.wasm_spec.specs.Typing.{Typed}
 use Rattle.wasm_spec.specs.Stores.{Store}
 use Rattle.wasm_spec.specs.Runs.{State, Run, Spent, charged, executed}
-use Rattle.wasm_spec.specs.Meaning.{meaning}
+use Rattle.wasm_spec.specs.Spending.{GoesOnSpending, Enough, PaidIfRoom}
+use Rattle.wasm_spec.specs.Meaning.{MOST_CALLS, call_of, beginning, meaning}
 use Rattle.wasm_spec.specs.Instances.{Ready, start_of}
-use Rattle.wasm_spec.specs.Worlds.{Host, Returned, Trapped, Exhausted, Broken, after_reply, interp}
-use Rattle.wasm_spec.proofs.RunLaws.{GoesOnSpending}
+use Rattle.wasm_spec.specs.Worlds.{Reply, Answers, Quits, Host, Returned, Trapped, Exhausted, Broken, after_reply, interp}
+use Rattle.wasm_machine.specs.Spending.{IsLater}
 use Rattle.wasm_run.specs.declared.instance.Event.{Event}
 use Rattle.wasm_run.specs.declared.instance.Event.TheVariants as event
 use Rattle.wasm_run.specs.Suspended.{Suspended, Awaits, Tells}
@@ -39,7 +40,36 @@ NeverBreaks W = (host : Host W) (m : Module) (export args : List ℕ) (f : ℕ) 
 abbrev pub EachSpends : Type 0
 EachSpends = (s : State) (go : State → Run) → 1 ≤ s.meter.terms.wasm_insn_exec.instructions.constant → GoesOnSpending s go (executed Spent s go)
 
--- The count of instructions never ends a run before the budget does: where as many may still be executed as the budget could pay for, an instruction is what its charge is.
+-- the count of instructions
+
+-- Where a call begins, as many instructions may be executed as the budget could pay for.
+abbrev pub EnoughAtFirst : Type 0
+EnoughAtFirst = (store : Store) (b : Meter) → b.limits.instructions < 2 ^ 64 → Enough (beginning store b)
+
+-- Where so many may be, an instruction ends the run only if the budget has no room for it, and else leaves as many as the budget could still pay for.
+abbrev pub EnoughAfterEach : Type 0
+EnoughAfterEach = (s : State) (go : State → Run) → Enough s → 1 ≤ s.meter.terms.wasm_insn_exec.instructions.constant → PaidIfRoom s go (executed Spent s go)
+
+-- It stays so with any later budget, as after a growth of the memory or an answer of a host.
+abbrev pub EnoughWhenLater : Type 0
+EnoughWhenLater = (s : State) (b : Meter) → IsLater s.meter b → Enough s → Enough (record s { meter = b })
+
+-- The count never ends a run before the budget does: where as many instructions may still be executed as the budget could pay for, an instruction is what its charge is.
 abbrev pub CountNeverEnds : Type 0
-CountNeverEnds = (s : State) (go : State → Run) → s.meter.limits.instructions ≤ s.meter.used.instructions + s.left → 1 ≤ s.meter.terms.wasm_insn_exec.instructions.constant
+CountNeverEnds = (s : State) (go : State → Run) → Enough s → 1 ≤ s.meter.terms.wasm_insn_exec.instructions.constant
     → executed Spent s go ≡ charged WasmInsnExec 1 Spent (record s { left = s.left - 1 }) go
+
+-- an answer of a host that lowers no sum, and leaves the limits and the terms
+abbrev pub IsLaterReply : {W : Type 0} → Meter → Reply W → Type 0
+IsLaterReply b (Answers w v memory c) = IsLater b c
+IsLaterReply b (Quits w) = Unit {0}
+
+-- a host all of whose answers are so
+abbrev pub NeverLowers : {W : Type 0} → Host W → Type 0
+NeverLowers {W} host = (f : ℕ) (args memory : List ℕ) (b : Meter) (w : W) → IsLaterReply b (host f args memory b w)
+
+-- Among the functions of a host that never lowers the sums, a call comes to the same with any greater count: the count ends none.
+abbrev pub SameWithMore : Type 0 → Type 0
+SameWithMore W = (host : Host W) (m : Module) (f : ℕ) (args : List ℕ) (store : Store) (b : Meter) (w : W) (count : ℕ)
+    → NeverLowers host → b.limits.instructions < 2 ^ 64 → 1 ≤ b.terms.wasm_insn_exec.instructions.constant → 2 ^ 64 - 1 ≤ count
+    → interp host (call_of m MOST_CALLS f (reverse (map value.I64 args)) (record (beginning store b) { left = count })) w ≡ interp host (meaning m f args store b) w

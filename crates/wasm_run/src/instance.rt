@@ -126,6 +126,7 @@ impl<'a> Instance<'a> {
         ensures ready { self.new.phase ≡ Phase.Ready }
         ensures does { (f : ℕ) → self.old.phase ≡ Phase.Fresh f (length args.now)
             → Does self.new (meaning self.old.source f args.now self.old.store) }
+        ensures store { self.new.store ≡ self.old.store }
     {
         let Phase::Fresh(function, _) = self.phase else {
             unreachable!()
@@ -168,6 +169,7 @@ impl<'a> Instance<'a> {
         ensures ready { self.new.phase ≡ Phase.Ready }
         ensures goes_on { (on : (ℕ → List ℕ → Meter → Run)) → Awaits self.old on → Does self.new (on answer self.old.store.memory.bytes) }
         ensures work { work self.new ≡ work self.old }
+        ensures store { self.new.store ≡ self.old.store }
     {
         let Phase::Waiting(result_type) = self.phase else {
             unreachable!()
@@ -176,7 +178,7 @@ impl<'a> Instance<'a> {
         self.phase = Phase::Ready;
     }
 
-    /// The bytes of the memory, lent.
+    /// The bytes of the memory, lent. After the call's end nothing is told of them.
     pub fn memory(&self) -> &[u8]
         ensures { result.now ≡ self.now.store.memory.bytes }
     {

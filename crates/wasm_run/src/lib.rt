@@ -15,6 +15,6 @@ mod trap;
 
 pub use error::StartErr;
 pub use instance::{Event, Instance, Phase};
-pub use laws::{count_never_ends, each_spends, events_fold, never_breaks};
+pub use laws::{count_never_ends, each_spends, events_fold, never_breaks, same_with_more};
 pub use prepare::{Beginning, begin};
 pub use trap::trap_error;

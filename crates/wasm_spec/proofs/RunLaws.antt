@@ -1,26 +1,16 @@
 -- What an instruction spends, and runs among the functions of a host.
-use Rattle.std.proofs.Common.{◌≡◌, ℕ, zero, suc, ◌<◌, ◌≤◌, ◌⊎◌, Bool, true, false, List, inl, inr, refl, subst, arith}
+use Rattle.std.proofs.Common.{◌≡◌, ℕ, zero, suc, ◌≤◌, Bool, true, false, List, inl, inr, refl, subst, arith}
 use Rattle.budget_meter.specs.Meter.{Meter, used_after}
 use Rattle.budget_meter.specs.declared.kind.Kind.TheVariants.{WasmInsnExec}
 use Rattle.wasm_spec.specs.declared.types.ValueType.{ValueType}
 use Rattle.wasm_spec.specs.declared.values.Value.{Value}
 use Rattle.wasm_spec.specs.declared.module.Module.{Module}
 use Rattle.wasm_spec.specs.Runs.{State, Run, Normal, Branch, Return, Trap, Spent, Stuck, Ask, charged_if, counted, executed, has_room}
+use Rattle.wasm_spec.specs.Spending.{SpendsMore, GoesOnSpending}
 use Rattle.wasm_spec.specs.Worlds.{Reply, Answers, Quits, Host, End, Returned, Trapped, Exhausted, Quit, Broken, after_reply, interp}
 use Rattle.wasm_spec.proofs.Sound.{CallGood}
 
 -- what an instruction spends
-
--- the same budget, with more instructions spent
-pub record SpendsMore (old new : Meter) : Type 0 where
-  pub limits : new.limits ≡ old.limits
-  pub terms : new.terms ≡ old.terms
-  pub instructions : old.used.instructions < new.used.instructions
-  pub memory : old.used.memory ≤ new.used.memory
-
--- Where an instruction costs one at least, either the budget is spent, or the run goes on with more spent.
-abbrev pub GoesOnSpending : State → (State → Run) → Run → Type 0
-GoesOnSpending s go r = (r ≡ Spent s.meter) ⊎ ((k : ℕ) × (after : Meter) × SpendsMore s.meter after × (r ≡ go (record s { left = k; meter = after })))
 
 charge_spends : (b : Bool) (k : ℕ) (s : State) (after : Meter) (go : State → Run) → SpendsMore s.meter after → GoesOnSpending s go (charged_if b Spent after (record s { left = k }) go)
 charge_spends false k s after go h = inl refl

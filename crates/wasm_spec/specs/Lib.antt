@@ -8,6 +8,7 @@ pub mod Meaning
 pub mod Memory
 pub mod Opcodes
 pub mod Runs
+pub mod Spending
 pub mod Stores
 pub mod Typing
 pub mod Views

@@ -8,7 +8,8 @@ use Rattle.tx_results.specs.declared.results.TransactionResultPair.{TransactionR
 use Rattle.tx_xdr.specs.declared.set.Phase.{Phase}
 use Rattle.tx_xdr.specs.declared.set.Stage.{Stage}
 use Rattle.tx_results.proofs.Fits.{result_set_fits}
-use Rattle.apply_spec.specs.Runs.{Running, run_stage, running_header, stages_in}
+use Rattle.apply_spec.specs.Runs.{Running, run_stage, running_header}
+use Rattle.tx_xdr.specs.Stages.{stages_in}
 use Rattle.ledger_apply.specs.Spelled.{IsStage}
 use Rattle.ledger_apply.specs.State.{running_of}
 use Rattle.ledger_apply.proofs.On.{on_other, fold_more_of}

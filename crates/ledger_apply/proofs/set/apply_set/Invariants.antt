@@ -1,6 +1,7 @@
 use Rattle.std.proofs.Common.{◌≡◌, [], fold, take}
 use Rattle.std.specs.List.{flat_map}
-use Rattle.apply_spec.specs.Runs.{run_stage, running_header, stages_in}
+use Rattle.apply_spec.specs.Runs.{run_stage, running_header}
+use Rattle.tx_xdr.specs.Stages.{stages_in}
 use Rattle.ledger_apply.specs.State.{running_of, IsOn}
 use Rattle.ledger_apply.proofs.set.apply_set.Given as goal
 

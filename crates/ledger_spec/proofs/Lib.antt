@@ -1,0 +1,4 @@
+pub mod Places
+pub mod Life
+pub mod Puts
+pub mod Extends

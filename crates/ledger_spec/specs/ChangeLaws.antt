@@ -1,0 +1,44 @@
+-- What is seen of a change of a ledger's map by those who made it (own).
+use Rattle.std.specs.Prelude.{◌≡◌, ◌≢◌, ◌<◌, ◌≤◌, ℕ, ◌+◌, ◌-◌, Option, IsSomeAnd}
+use Rattle.ledger_types.specs.Entry.{key_of}
+use Rattle.ledger_types.specs.declared.key.LedgerKey.{LedgerKey}
+use Rattle.ledger_types.specs.declared.durability.Durability.TheVariants.{Temporary}
+use Rattle.ledger_types.specs.declared.entry.LedgerEntry.{LedgerEntry}
+use Rattle.ledger_types.specs.declared.entry.LedgerEntryData.{LedgerEntryData}
+use Rattle.ledger_types.specs.declared.entry.LedgerEntryData.TheVariants.{ContractData, ContractCode}
+use Rattle.ledger_types.specs.declared.header.Settings.{Settings}
+use Rattle.ledger_spec.specs.declared.Kept.{Kept}
+use Rattle.ledger_spec.specs.LedgerMap.{LedgerMap, find, key_bytes}
+use Rattle.ledger_spec.specs.Seen.{live, absent, archived, seen}
+use Rattle.ledger_spec.specs.Changes.{Unextended, backward, missing, too_far, in_archive}
+
+-- contract data whose durability is temporary
+abbrev pub IsTemporary : LedgerEntryData → Type 0
+IsTemporary (ContractData entry) = entry.durability ≡ Temporary
+IsTemporary (ContractCode entry) = ⊥
+
+-- the last of so many ledgers, of which n is the first
+abbrev pub last_of : ℕ → ℕ → ℕ
+last_of n ledgers = n + ledgers - 1
+
+-- what is kept, with this last ledger
+abbrev pub living_until : ℕ → Kept → Kept
+living_until live_until kept = record kept { live_until = live_until }
+
+-- keys with other bytes than those of this key find what they found
+abbrev pub OthersStay : LedgerKey → LedgerMap → LedgerMap → Type 0
+OthersStay changed before after = (key : LedgerKey) → key_bytes key ≢ key_bytes changed → find after key ≡ find before key
+
+-- There is a map, and in ledger n the entry is live there, as modified in ledger n, with this last ledger.
+abbrev pub IsPut : ℕ → LedgerEntry → ℕ → Option LedgerMap → Type 0
+IsPut n entry live_until after =
+    IsSomeAnd after (λ map. seen n map (key_of entry) ≡ live (record { entry = record entry { last_modified_ledger_seq = n }; live_until = live_until }))
+
+-- where an extension has this reason to be refused: the threshold is judged first, then what is seen, then the life
+abbrev pub IsReason : Unextended → Settings → ℕ → LedgerMap → LedgerKey → ℕ → ℕ → Type 0
+IsReason backward settings n map key threshold extend_to = extend_to < threshold
+IsReason missing settings n map key threshold extend_to = (threshold ≤ extend_to) × (seen n map key ≡ absent)
+IsReason too_far settings n map key threshold extend_to =
+    (kept : Kept) × (threshold ≤ extend_to) × (seen n map key ≡ live kept) × IsTemporary kept.entry.data
+    × (last_of n settings.max_entry_ttl < n + extend_to)
+IsReason in_archive settings n map key threshold extend_to = (threshold ≤ extend_to) × (seen n map key ≡ archived)
