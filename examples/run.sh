@@ -1,28 +1,29 @@
 #!/bin/sh
-# Builds the program, vets a module, shows a transaction, and applies a small transaction set to a small ledger.
+# Proves and builds the program, and shows what it does: vets a module, shows a transaction, a ledger and a set, and applies
+# the set to a ledger.
+#
+# The inputs are those of the crate command_cases, whose table data/readme.txt has the same commands and what they do. So the
+# gate checks what this prints.
 set -eu
-cd "$(dirname "$0")"
-out=$(mktemp -d)
-trap 'rm -rf "$out"' EXIT
+cd "$(dirname "$0")/.."
+python3 tools/prove.py soroban_cmd
 
+program=$PWD/crates/soroban_cmd/out/soroban_cmd
+inputs=$PWD/crates/command_cases/data/example
+folder=$(mktemp -d)
+trap 'rm -rf "$folder"' EXIT
 for name in set ledger verdicts module token; do
-    sed 's/#.*//' "$name.hex" | xxd -r -p >"$out/$name.bin"
+    sed 's/#.*//' "$inputs/$name.hex" | xxd -r -p >"$folder/$name.bin"
 done
-cp envelope.b64 "$out"
-cd ../crates/soroban_cmd
-# `rt run` builds the program before it runs it.
-rt run -- vet --module "$out/module.bin" >"$out/log" 2>&1 || {
-    cat "$out/log" >&2
-    exit 1
-}
-program=$PWD/out/soroban_cmd
-cd "$out"
+cp "$inputs/envelope.b64" "$folder"
+cd "$folder"
 
 soroban() {
     echo "\$ soroban_cmd $*"
     "$program" "$@"
 }
 
+echo
 soroban vet --module module.bin
 soroban show --kind envelope --file envelope.b64 --base64
 soroban show --kind ledger --file token.bin

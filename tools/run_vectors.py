@@ -1,7 +1,7 @@
 #!/usr/bin/env python3
-"""Makes crates/wasm_run/src/tests/vectors.rt: modules, and runs with what wabt's wasm-interp says of them.
+"""Writes crates/conformance/data/operations.txt: calls of a module, with what wabt's wasm-interp says of them.
 
-usage: tools/run_vectors.py > crates/wasm_run/src/tests/vectors.rt (it needs wat2wasm and wasm-interp of wabt)
+usage: tools/run_vectors.py > crates/conformance/data/operations.txt (it needs wat2wasm and wasm-interp of wabt)
 """
 import os
 import re
@@ -149,30 +149,14 @@ def answer(line):
     return next(word for message, word in TRAPS if message in said)
 
 
-EXAMPLES = """(module (memory 1 100)
-(func (export "two") (result i64) (i64.const 2))
-(func (export "count") (result i64) (local i64) (i64.const 3) (local.set 0)
-  (loop (local.get 0) (i64.const 1) (i64.sub) (local.tee 0) (i64.eqz) (i32.eqz) (br_if 0)) (i64.const 2))
-(func (export "spin") (result i64) (loop (br 0)) (i64.const 2))
-(func $deep (export "deep") (result i64) (call $deep))
-(func (export "grow") (result i64) (i64.or (i64.shl (i64.extend_i32_u (memory.grow (i32.const 63))) (i64.const 32)) (i64.extend_i32_u (memory.grow (i32.const 1)))))
-(func (export "least") (result i64) (i64.div_s (i64.const 0x8000000000000000) (i64.const -1)))
-(func (export "zero") (result i64) (i64.div_s (i64.const 0x8000000000000000) (i64.const 0)))
-(func (export "narrow") (param i32) (result i64) (i64.const 2))
-(func (export "silent") (param i64))
-(export "memory" (memory 0)))"""
-HOSTED = """(module (import "h" "g" (func $g (param i64 i64) (result i64))) (memory 1)
-(func (export "f") (param i64) (result i64) (i64.add (call $g (local.get 0) (i64.const 7)) (i64.load (i32.const 8))))
-(export "g" (func $g)))"""
-UNFIT = """(module (memory 1) (table 2 funcref) (func $f (export "f") (result i64) (i64.const 2)) {})"""
-SEGMENTS = [
-    ('(data (i32.const 65535) "a")', "-"), ('(data (i32.const 65536) "")', "-"), ('(data (i32.const 65535) "ab")', "segment"), ('(data (i32.const 65537) "")', "segment"),
-    ("(elem (i32.const 1) $f)", "-"), ("(elem (i32.const 2))", "-"), ("(elem (i32.const 1) $f $f)", "segment"), ("(elem (i32.const -1) $f)", "segment"),
-]
+def outcome(word):
+    """The outcome of a call, as the table writes it."""
+    return f"trap {word}" if word in {trap for _, trap in TRAPS} else f"done {word}"
 
 
-def constant(name, about, value):
-    return f"/// {about}\npub const {name}: &str =\n    \"{value}\";\n"
+def version():
+    """The version of wabt."""
+    return subprocess.run(["wasm-interp", "--version"], stdout=subprocess.PIPE, check=True).stdout.decode().strip()
 
 
 def main():
@@ -180,17 +164,14 @@ def main():
     for part in (lambda: numeric(32), lambda: numeric(64), conversions, memory, control):
         part()
         ends.append(len(rows))
-    lines = [f"{n} {a:x} {b:x} {r}\\n\\" for (n, a, b), r in zip(rows, answers())]
-    unfit = [f"{word} {assembled(UNFIT.format(s)).hex()}\\n\\" for s, word in SEGMENTS]
-    print("//! Modules that an independent assembler made, and runs with what an independent engine says of them.\n")
-    print(constant("EXAMPLES", "Functions whose sums are known.", assembled(EXAMPLES).hex()))
-    print(constant("HOSTED", "A function that calls an import and reads memory, and that import.", assembled(HOSTED).hex()))
-    print(constant("OPERATIONS", "A function for each operation, with two numbers.", assembled(text() + ")").hex()))
-    print("/// A line a module: whether its segments fit, and its bytes.\npub fn segments() -> &'static str {\n    \"\\")
-    print("\n".join(unfit) + '\n"\n}\n')
-    for name, start, end in zip(("runs32", "runs64", "conversions", "accesses", "control"), [0, *ends], ends):
-        print(f"/// A line a run of an operation: its name, its two numbers, and the result or trap.\npub fn {name}() -> &'static str {{\n    \"\\")
-        print("\n".join(lines[start:end]) + '\n"\n}\n')
+    lines = [f"call {{OPERATIONS}} 10000 {n} {a:x} {b:x} => {outcome(r)}" for (n, a, b), r in zip(rows, answers())]
+    print("# Calls of a module that has a function for each operation, and their results as another engine computes them.")
+    print(f"# tools/run_vectors.py wrote this table with wat2wasm and wasm-interp of wabt {version()}.\n")
+    print(f"let OPERATIONS {assembled(text() + ')').hex()}")
+    titles = ("operations of 32 bits", "operations of 64 bits", "conversions", "loads and stores", "control")
+    for title, start, end in zip(titles, [0, *ends], ends):
+        print(f"\n## {title}")
+        print("\n".join(lines[start:end]))
     print(len(lines), file=sys.stderr)
 
 

@@ -1,12 +1,12 @@
 #!/usr/bin/env python3
-"""Makes crates/wasm_check/src/tests/vectors.rt: small modules, and what an independent validator says of them.
+"""Writes crates/conformance/data/modules.txt: small modules, and what an independent validator says of them.
 
 Each module is assembled by wabt's wat2wasm, and wasm-validate says whether it is valid, with the features of
 WebAssembly 1.0 and the sign extensions alone. Of those that are not valid, the group (ill typed, or no module at all)
 is judged by hand from the standard and written here. Where the validator differs, the row is said, no file is written
 and the status is 1.
 
-usage: tools/wasm_vectors.py FILE (crates/wasm_check/src/tests/vectors.rt; it needs wat2wasm and wasm-validate of wabt)
+usage: tools/wasm_vectors.py FILE (crates/conformance/data/modules.txt; it needs wat2wasm and wasm-validate of wabt)
 """
 
 import collections
@@ -15,7 +15,7 @@ import subprocess
 import sys
 import tempfile
 
-VALID, ILL, NO_MODULE = "valid", "ill", "notamodule"
+VALID, ILL, NO_MODULE = "valid", "ill typed", "not a module"
 OFF = ["mutable-globals", "saturating-float-to-int", "simd", "multi-value", "bulk-memory", "reference-types"]
 
 COMPARISONS = ["eq", "ne", "lt_s", "lt_u", "gt_s", "gt_u", "le_s", "le_u", "ge_s", "ge_u"]
@@ -348,13 +348,19 @@ def is_valid(data):
     return done.returncode == 0
 
 
-def file_of(rows):
-    """The text of the file of these rows."""
-    lines = [f"{verdict} {data.hex()} {name}\\n\\" for name, data, verdict in rows]
+def version():
+    """The version of wabt."""
+    return subprocess.run(["wasm-validate", "--version"], stdout=subprocess.PIPE, check=True).stdout.decode().strip()
+
+
+def table_of(rows):
+    """The text of the table of these rows."""
+    lines = [f"check {data.hex()} => {verdict} # {name}" for name, data, verdict in rows]
     return "\n".join([
-        "//! Small modules made by an independent assembler, with what an independent validator says of them.", "",
-        "/// A line a module: whether it is valid, its bytes, and what it is for.",
-        "pub fn vectors() -> &'static str {", '    "\\', *lines, '"', "}", "",
+        "# Small modules, each with what it is for, as another validator judges them. If one is not valid, whether it is ill",
+        "# typed or no module was judged by hand from the standard.",
+        f"# tools/wasm_vectors.py wrote this table with wat2wasm and wasm-validate of wabt {version()}.",
+        "", *lines, "",
     ])
 
 
@@ -377,7 +383,7 @@ def main():
     if different:
         sys.exit(1)
     with open(sys.argv[1], "w", encoding="utf-8") as file:
-        file.write(file_of(rows))
+        file.write(table_of(rows))
     counts = collections.Counter(verdict for _, _, verdict in rows)
     print(", ".join(f"{count} {verdict}" for verdict, count in counts.items()), file=sys.stderr)
 

@@ -1,4 +1,4 @@
--- What a transaction declares, and the checks that it passes before it runs (own, after CAP-0021, CAP-0046-05 and CAP-0063).
+-- The keys that a transaction declares, and its checks before it runs (own, after CAP-0021, CAP-0046-05 and CAP-0063).
 use Rattle.std.specs.Prelude.{ℕ, ◌+◌, ◌==◌, Bool, true, false, not, ◌||◌, ◌&&◌, List, [], ◌∷◌, ◌++◌, length, Option, Some, None, nat_lt, nat_le, if◌then◌else◌}
 use Rattle.std.specs.List.{list_any, list_all}
 use Rattle.std.specs.Str.{bytes_eq}
@@ -23,25 +23,25 @@ next_seq header = header.seq + 1
 
 -- ---- footprints
 
--- a transaction with ext 0 declares nothing
+-- the footprint; a transaction with ext 0 declares nothing
 abbrev pub footprint_in : TransactionExt → Footprint
 footprint_in exts.None = record { read_only = []; read_write = [] }
 footprint_in (exts.Soroban soroban) = soroban.footprint
 
--- a transaction has contract data where its ext is 1
+-- the transaction has Soroban data, which is ext 1
 abbrev pub is_soroban : TransactionExt → Bool
 is_soroban exts.None = false
 is_soroban (exts.Soroban soroban) = true
 
--- what a transaction declares
+-- the footprint of a transaction
 abbrev pub footprint_of : Transaction → Footprint
 footprint_of tx = footprint_in tx.ext
 
--- two keys are one where their XDR bytes are
+-- two keys are equal if their XDR bytes are
 abbrev pub is_key : LedgerKey → LedgerKey → Bool
 is_key a b = bytes_eq (key_bytes a) (key_bytes b)
 
--- the key is among these
+-- the list has this key
 abbrev pub has_key : List LedgerKey → LedgerKey → Bool
 has_key keys key = list_any (is_key key) keys
 
@@ -49,12 +49,12 @@ has_key keys key = list_any (is_key key) keys
 abbrev pub declares_write : Transaction → LedgerKey → Bool
 declares_write tx key = has_key (footprint_of tx).read_write key
 
--- some key stands twice
+-- a key occurs twice in the list
 abbrev pub has_twice : List LedgerKey → Bool
 has_twice [] = false
 has_twice (key ∷ keys) = has_key keys key || has_twice keys
 
--- accounts, trust lines, contract data and contract code alone may be declared
+-- only accounts, trust lines, contract data and contract code may be declared
 abbrev pub may_be_declared : LedgerKey → Bool
 may_be_declared (Account account) = true
 may_be_declared (Trustline account asset) = true
@@ -66,61 +66,61 @@ may_be_declared (ClaimableBalance id) = false
 may_be_declared (LiquidityPool pool) = false
 may_be_declared (Ttl hash) = false
 
--- both lists together, read-only first
+-- all declared keys, read-only first
 abbrev pub declared_keys : Footprint → List LedgerKey
 declared_keys footprint = footprint.read_only ++ footprint.read_write
 
--- no key stands twice in the two lists together, and each may be declared
+-- no key occurs twice in the two lists together, and each may be declared
 abbrev pub may_be_footprint : List LedgerKey → Bool
 may_be_footprint keys = if has_twice keys then false else list_all may_be_declared keys
 
--- ---- when a transaction may run (CAP-0021): the header has the close time of the ledger that is being made
+-- ---- when a transaction may run (CAP-0021); the header has the close time of the ledger that is being made
 
--- the bounds on close times that preconditions have
+-- the time bounds of preconditions
 abbrev pub time_bounds_of : Preconditions → Option TimeBounds
 time_bounds_of preconditions.None = None
 time_bounds_of (preconditions.Time bounds) = Some bounds
 time_bounds_of (preconditions.V2 v2) = v2.time_bounds
 
--- the bounds on ledger numbers that preconditions have
+-- the ledger bounds of preconditions
 abbrev pub ledger_bounds_of : Preconditions → Option LedgerBounds
 ledger_bounds_of preconditions.None = None
 ledger_bounds_of (preconditions.Time bounds) = None
 ledger_bounds_of (preconditions.V2 v2) = v2.ledger_bounds
 
--- the close time lies before the least time
+-- the close time is below the minimum time
 abbrev pub is_before_time : ℕ → Option TimeBounds → Bool
 is_before_time close_time None = false
 is_before_time close_time (Some bounds) = nat_lt close_time bounds.min_time
 
--- a greatest time of 0 is none
+-- the close time is above the maximum time; a maximum of 0 means none
 abbrev pub is_after_time : ℕ → Option TimeBounds → Bool
 is_after_time close_time None = false
 is_after_time close_time (Some bounds) = not (bounds.max_time == 0) && nat_lt bounds.max_time close_time
 
--- ledger n lies before the least ledger
+-- ledger n is below the minimum ledger
 abbrev pub is_before_ledger : ℕ → Option LedgerBounds → Bool
 is_before_ledger n None = false
 is_before_ledger n (Some bounds) = nat_lt n bounds.min_ledger
 
--- the greatest ledger is the first that is too late, and 0 is none
+-- ledger n has reached the maximum ledger, which is the first that is too late; a maximum of 0 means none
 abbrev pub is_after_ledger : ℕ → Option LedgerBounds → Bool
 is_after_ledger n None = false
 is_after_ledger n (Some bounds) = not (bounds.max_ledger == 0) && nat_le bounds.max_ledger n
 
--- txTOO_EARLY: before the least time, or the least ledger
+-- txTOO_EARLY: below the minimum time or the minimum ledger
 abbrev pub is_too_early : Header → Transaction → Bool
 is_too_early header tx =
     is_before_time header.close_time (time_bounds_of tx.preconditions) || is_before_ledger (next_seq header) (ledger_bounds_of tx.preconditions)
 
--- txTOO_LATE: after the greatest time, or the greatest ledger
+-- txTOO_LATE: above the maximum time, or at the maximum ledger or above it
 abbrev pub is_too_late : Header → Transaction → Bool
 is_too_late header tx =
     is_after_time header.close_time (time_bounds_of tx.preconditions) || is_after_ledger (next_seq header) (ledger_bounds_of tx.preconditions)
 
 -- ---- the checks: the first that fails decides
 
--- each check, and the code where it fails
+-- each check with the result code of its failure
 abbrev pub checks_of : Header → Transaction → List (Bool × TransactionOutcome)
 checks_of header tx =
     (nat_lt 0 (length tx.operations), MissingOperation)
@@ -130,11 +130,11 @@ checks_of header tx =
     ∷ (may_be_footprint (declared_keys (footprint_of tx)), SorobanInvalid)
     ∷ []
 
--- the code of the first check that fails
+-- the result code of the first check that fails
 abbrev pub first_failed : List (Bool × TransactionOutcome) → Option TransactionOutcome
 first_failed [] = None
 first_failed (check ∷ rest) = if check.0 then first_failed rest else Some check.1
 
--- the code of a transaction that does not run
+-- the result code of a transaction that fails its checks
 abbrev pub refusal_of : Header → Transaction → Option TransactionOutcome
 refusal_of header tx = first_failed (checks_of header tx)

@@ -1,11 +1,11 @@
--- What becomes of one transaction over a map of all entries (own, after CAP-0046-05 and CAP-0046-12).
+-- The outcome and the effect of one transaction over a map of all entries (own, after CAP-0046-05 and CAP-0046-12).
 use Rattle.std.specs.Prelude.{ℕ, ◌+◌, Bool, true, false, ◌&&◌, List, [], ◌∷◌, Option, Some, None, length, nat_lt, ◌==◌, if◌then◌else◌}
 use Rattle.std.specs.List.{list_all, filter_map}
 use Rattle.ledger_types.specs.declared.key.LedgerKey.{LedgerKey}
 use Rattle.ledger_types.specs.declared.key.LedgerKey.TheVariants.{Account, Trustline, Offer, Data, ClaimableBalance, LiquidityPool, ContractData, ContractCode, Ttl}
 use Rattle.ledger_types.specs.declared.header.Header.{Header}
 use Rattle.ledger_types.specs.declared.header.Settings.{Settings}
-use Rattle.tx_xdr.specs.Limits.{today, takes_operation}
+use Rattle.tx_xdr.specs.SetBounds.{today, takes_operation}
 use Rattle.tx_xdr.specs.Operation.{kind}
 use Rattle.tx_xdr.specs.declared.transaction.Footprint.{Footprint}
 use Rattle.tx_xdr.specs.declared.transaction.Operation.{Operation}
@@ -22,18 +22,18 @@ use Rattle.ledger_spec.specs.Seen.{Seen, live, absent, archived, seen}
 use Rattle.apply_spec.specs.declared.Extension.{Extension}
 use Rattle.apply_spec.specs.Checks.{footprint_of, next_seq, refusal_of}
 
--- the outcome, and the lives that are to be longer, which are pending until they are put in
+-- the outcome, and the extensions, which are pending until they are put in
 pub record Enforced : Type 0 where
   pub outcome : TransactionOutcome
   pub extensions : List Extension
 
--- the outcome alone
+-- an outcome without extensions
 abbrev pub without_effect : TransactionOutcome → Enforced
 without_effect outcome = record { outcome = outcome; extensions = [] }
 
 -- ---- EXTEND_FOOTPRINT_TTL
 
--- contract data and contract code alone have a life to extend
+-- only contract data and contract code have a live-until ledger
 abbrev pub has_life : LedgerKey → Bool
 has_life (ContractData contract key durability) = true
 has_life (ContractCode hash) = true
@@ -45,23 +45,23 @@ has_life (ClaimableBalance id) = false
 has_life (LiquidityPool pool) = false
 has_life (Ttl hash) = false
 
--- nothing is declared read-write, what is declared has a life, and the new life is not beyond the greatest
+-- no key is declared read-write, each declared key has a live-until ledger, and extend_to is below the maximum TTL
 abbrev pub may_extend : Settings → Footprint → ℕ → Bool
 may_extend settings footprint extend_to =
     (length footprint.read_write == 0) && list_all has_life footprint.read_only && nat_lt extend_to settings.max_entry_ttl
 
--- an entry that is live, but not as long, is to live until this ledger
+-- a live entry that expires before this ledger is to live until it
 abbrev pub extension_seen : Seen → LedgerKey → ℕ → Option Extension
 extension_seen (live kept) key until =
     if nat_lt kept.live_until until then Some (record { key = key; live_until = until }) else None
 extension_seen absent key until = None
 extension_seen archived key until = None
 
--- the lives that are to be longer, of these keys in their order
+-- the extensions of these keys, in their order
 abbrev pub extensions_of : ℕ → LedgerMap → List LedgerKey → ℕ → List Extension
 extensions_of n entries keys until = filter_map (λ key. extension_seen (seen n entries key) key until) keys
 
--- what becomes of EXTEND_FOOTPRINT_TTL
+-- EXTEND_FOOTPRINT_TTL
 abbrev pub extended : Header → LedgerMap → Footprint → ℕ → Enforced
 extended header entries footprint extend_to =
     if may_extend header.settings footprint extend_to then record {
@@ -72,27 +72,26 @@ extended header entries footprint extend_to =
 
 -- ---- any transaction
 
--- the operations of the sets that run today
+-- the transaction has only operations that sets may have today
 abbrev pub runs_today : Transaction → Bool
 runs_today tx = list_all (λ operation. takes_operation today (kind operation.body)) tx.operations
 
--- What becomes of the one operation. Only sets without host functions run today, so what is said of these here is not asked
--- of any run.
+-- The only operation. Sets with host functions do not run today, so no run reaches the row of InvokeHostFunction.
 abbrev pub performed : Header → LedgerMap → Transaction → OperationBody → Enforced
 performed header entries tx (ExtendFootprintTtl extend_to) = extended header entries (footprint_of tx) extend_to
 performed header entries tx RestoreFootprint = without_effect (Failed (NotSupported ∷ []))
 performed header entries tx (InvokeHostFunction host_function auth) = without_effect (Failed (NotSupported ∷ []))
 
--- its one operation; that there is one is checked before
+-- the first operation; the checks reject a transaction without one
 abbrev pub first_performed : Header → LedgerMap → Transaction → List Operation → Enforced
 first_performed header entries tx [] = without_effect MissingOperation
 first_performed header entries tx (operation ∷ rest) = performed header entries tx operation.body
 
--- a transaction that a check refuses has no effect
+-- a transaction that fails a check has no effect
 abbrev pub unless_refused : Option TransactionOutcome → Enforced → Enforced
 unless_refused (Some outcome) done = without_effect outcome
 unless_refused None done = done
 
--- the checks come first, and then the operation
+-- the checks come first, then the operation
 abbrev pub enforced : Header → LedgerMap → Transaction → Enforced
 enforced header entries tx = unless_refused (refusal_of header tx) (first_performed header entries tx tx.operations)

@@ -1,4 +1,4 @@
--- What applying a set stores and says (own; results are those of the Stellar XDR files).
+-- The files that `apply` stores and the lines that it prints (own; results are those of the Stellar XDR files).
 use Rattle.std.specs.Prelude.{ℕ, ◌-◌, Bool, true, false, List, ◌++◌, length, count_by, codes, decimal}
 use Rattle.hex.specs.Hex.{encode_lower}
 use Rattle.sha2.specs.Sha256.{sha256}
@@ -10,11 +10,11 @@ use Rattle.tx_results.specs.declared.results.TransactionOutcome.TheVariants.{Suc
 use Rattle.tx_results.specs.declared.results.TransactionResultPair.{TransactionResultPair}
 use Rattle.ledger_spec.specs.LedgerMap.{LedgerMap}
 use Rattle.ledger_spec.specs.LedgerFile.{ledger_bytes}
-use Rattle.apply_spec.specs.Runs.{Running, run_set, new_header, success_preimages}
+use Rattle.apply_spec.specs.Runs.{RunState, run_set, new_header, success_preimages}
 
 -- ---- the lines
 
--- a transaction succeeded where its result code is txSUCCESS
+-- a transaction succeeded if its result code is txSUCCESS
 abbrev pub is_success : TransactionOutcome → Bool
 is_success (Success results) = true
 is_success (Failed results) = false
@@ -24,7 +24,7 @@ is_success MissingOperation = false
 is_success Malformed = false
 is_success SorobanInvalid = false
 
--- how many transactions succeeded
+-- the number of transactions that succeeded
 abbrev pub successes : List TransactionResultPair → ℕ
 successes results = count_by (λ pair. is_success pair.result.outcome) results
 
@@ -34,19 +34,19 @@ count_line seq results =
     codes "ledger " ++ decimal seq ++ codes ": " ++ decimal (length results) ++ codes " transactions, "
     ++ decimal (successes results) ++ codes " succeeded, " ++ decimal (length results - successes results) ++ codes " failed\n"
 
--- a name, and the SHA-256 of these bytes in hex
+-- a name and the SHA-256 of these bytes, in hex
 abbrev pub hash_line : List ℕ → List ℕ → List ℕ
 hash_line name bytes = name ++ encode_lower (sha256 bytes) ++ codes "\n"
 
 -- ---- both files and all lines
 
--- the bytes of the report and of the new ledger, and the lines that are said
+-- the bytes of the report and of the new ledger, and the lines that are printed
 pub record Outputs : Type 0 where
   pub report : List ℕ
   pub ledger : List ℕ
   pub lines : List ℕ
 
--- the lines beside the bytes of both files
+-- both files with the lines about them
 abbrev pub outputs_with : ℕ → List TransactionResultPair → List ℕ → List ℕ → Outputs
 outputs_with seq results report ledger = record {
   report = report;
@@ -54,11 +54,11 @@ outputs_with seq results report ledger = record {
   lines = count_line seq results ++ hash_line (codes "report ") report ++ hash_line (codes "ledger ") ledger;
 }
 
--- what is stored and said where the set has run
-abbrev pub outputs_after : Header → Running → Outputs
+-- the outputs after a run of the set
+abbrev pub outputs_after : Header → RunState → Outputs
 outputs_after header running =
     outputs_with header.seq running.results (report_bytes (record { pairs = running.results }) (success_preimages running)) (ledger_bytes header running.entries)
 
--- what a set over a ledger stores and says
+-- the outputs of a set over a ledger
 abbrev pub outputs : Header → LedgerMap → TxSet → ℕ → Outputs
 outputs header entries set close_time = outputs_after (new_header header close_time) (run_set header entries set close_time)

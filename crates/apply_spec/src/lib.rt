@@ -1,9 +1,10 @@
-//! What becomes of a transaction set over a ledger, as one map of all entries that transactions change one after the other.
+//! What a transaction set does to a ledger: definitions over one map of all entries, which the transactions change one
+//! after the other.
 #![tactic(auto)]
 
 use ledger_types::LedgerKey;
 
-/// An entry that is to live at least until a ledger.
+/// An extension of an entry's life to at least this ledger.
 #[derive(Drop)]
 pub struct Extension {
     pub key: LedgerKey,

@@ -24,7 +24,7 @@ abbrev mutual
   AreTreesBounded no_trees = Unit {0}
   AreTreesBounded (trees t ts) = IsTreeBounded t × AreTreesBounded ts
 
--- the same of an invocation of the program
+-- the bytes of an invocation of the program
 abbrev pub invocation_bytes : Invocation → List ℕ
 invocation_bytes i = function_format.spell i.function ++ (to_be_bytes w32 (length i.sub_invocations) ++ flat_map tree_bytes i.sub_invocations)
 

@@ -16,12 +16,12 @@ one_level subs = via invocation_of_parts invocation_parts (pair function_format 
 abbrev pub tree_format : Format (List Tree) → Format Tree
 tree_format subs = via tree_of invocation_of (one_level subs)
 
--- the sub-invocations of an invocation with so many levels below it
+-- the sub-invocations of an invocation with at most this number of levels below it
 unfoldable pub subs_format : ℕ → Format (List Tree)
 subs_format zero = empty_list Depth
 subs_format (suc n) = counted (tree_format (subs_format n))
 
--- how many levels lie below the root of a tree, of the 100 that there may be
+-- the number of levels below the root of a tree: 100 levels are allowed
 abbrev pub levels_below : ℕ
 levels_below = 99
 

@@ -21,7 +21,7 @@ abbrev pub signed_bytes : Hash → AddressCredentials → Invocation → List �
 signed_bytes network address root =
     number32.spell 9 ++ (hash_format.spell network ++ (signed64.spell address.nonce ++ (number32.spell address.signature_expiration_ledger ++ invocation_format.spell root)))
 
--- the bytes that are hashed; none where nobody signs
+-- the hashed bytes; none for credentials without a signature
 abbrev pub payload : Hash → Credentials → Invocation → List ℕ
 payload network SourceAccount root = []
 payload network (Address address) root = signed_bytes network address root

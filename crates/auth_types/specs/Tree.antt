@@ -18,7 +18,7 @@ abbrev pub list_of_trees : Trees → List Tree
 list_of_trees no_trees = []
 list_of_trees (trees t ts) = t ∷ list_of_trees ts
 
--- how many functions a tree is made of
+-- the number of functions in a tree
 abbrev mutual
   pub size : Tree → ℕ
   size (node f ts) = suc (trees_size ts)

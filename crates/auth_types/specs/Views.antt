@@ -16,6 +16,6 @@ invocation_of_parts p = record { function = p.0; sub_invocations = p.1 }
 abbrev pub invocation_parts : Invocation → Function × List Tree
 invocation_parts i = (i.function, i.sub_invocations)
 
--- and back
+-- the invocation of a tree
 abbrev pub invocation_of : Tree → Invocation
 invocation_of (node f ts) = invocation_of_parts (f, list_of_trees ts)

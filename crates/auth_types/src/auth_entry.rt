@@ -1,4 +1,4 @@
-//! Authorisations.
+//! Authorisation entries.
 
 ghost use Rattle.std.specs.Prelude.{◌≡◌};
 ghost use Rattle.auth_types.specs.AuthEntry.{auth_entry_format, auth_entry_lawful};
@@ -9,7 +9,8 @@ use std::alloc::{AllocError, Global};
 use value_xdr::Xdr;
 use xdr_core::{Cursor, NoMemory, Out, ReadXdr, add_sizes};
 
-/// Who authorises, and what (the XDR files' `SorobanAuthorizationEntry`).
+/// An authorisation entry: credentials, and the tree of invocations that they authorise (the XDR files'
+/// `SorobanAuthorizationEntry`).
 #[derive(Drop)]
 pub struct AuthEntry {
     pub credentials: Credentials,

@@ -1,4 +1,4 @@
-//! Invocations cloned.
+//! Clones of invocations.
 
 ghost use Rattle.std.specs.Prelude.{◌≡◌};
 

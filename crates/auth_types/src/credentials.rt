@@ -1,4 +1,4 @@
-//! Who authorises.
+//! Credentials of authorisation entries.
 
 ghost use Rattle.std.specs.Prelude.{◌≡◌};
 ghost use Rattle.xdr_core.specs.Reads.{Reads};
@@ -9,7 +9,7 @@ use value_types::{ScAddress, ScVal};
 use value_xdr::Xdr;
 use xdr_core::{Cursor, NoMemory, Out, ReadXdr, Why, XdrErr, add_sizes};
 
-/// How somebody authorises (the XDR files' `SorobanCredentialsType`).
+/// The types of credentials (the XDR files' `SorobanCredentialsType`).
 #[derive(Clone, Copy, Debug, PartialEq, Eq)]
 pub enum CredentialsType {
     SourceAccount,
@@ -17,7 +17,7 @@ pub enum CredentialsType {
 }
 
 impl CredentialsType {
-    /// The constant of this number, if there is one (RFC 4506, section 4.3).
+    /// The variant with this number, or `None` if no variant has it (RFC 4506, section 4.3).
     pub fn from_number(number: u32) -> Option<CredentialsType>
         ensures { result ≡ kind_of number }
     {
@@ -28,7 +28,7 @@ impl CredentialsType {
         }
     }
 
-    /// Its number (RFC 4506, section 4.3).
+    /// The number of the variant (RFC 4506, section 4.3).
     pub fn number(self) -> u32
         ensures { result ≡ number self }
     {
@@ -63,15 +63,15 @@ impl Xdr for CredentialsType {
     ghost lawful = { type_lawful };
 }
 
-/// The authorisation of an address by a signature (the XDR files' `SorobanAddressCredentials`).
+/// Credentials of an address that signs (the XDR files' `SorobanAddressCredentials`).
 #[derive(Drop)]
 pub struct AddressCredentials {
     pub address: ScAddress,
-    /// Used once by the address.
+    /// The nonce, which the address uses once.
     pub nonce: i64,
-    /// The number of the last ledger in which the signature holds.
+    /// The last ledger in which the signature is valid.
     pub signature_expiration_ledger: u32,
-    /// Whatever the address takes for a signature.
+    /// The signature, in the form that the address expects.
     pub signature: ScVal,
 }
 
@@ -122,7 +122,7 @@ impl Xdr for AddressCredentials {
     ghost lawful = { address_credentials_lawful };
 }
 
-/// Who authorises (the XDR files' `SorobanCredentials`).
+/// Credentials: who authorises (the XDR files' `SorobanCredentials`).
 #[derive(Drop)]
 pub enum Credentials {
     /// 0: the transaction's source, by the transaction's own signatures.
@@ -143,7 +143,7 @@ impl Clone for Credentials {
 }
 
 impl Credentials {
-    /// Which arm it is (RFC 4506, section 4.15).
+    /// The discriminant of the union (RFC 4506, section 4.15).
     pub fn kind(&self) -> CredentialsType
         ensures { result ≡ kind self.now }
     {

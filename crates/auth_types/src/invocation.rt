@@ -6,7 +6,7 @@ use invoke_types::Function;
 use std::alloc::Global;
 use std::marker::Model;
 
-/// What an authorisation lets happen, and what this may lead to (the XDR files' `SorobanAuthorizedInvocation`).
+/// An authorised invocation with its sub-invocations (the XDR files' `SorobanAuthorizedInvocation`).
 #[cycle(invocation)]
 #[derive(Drop)]
 pub struct Invocation {
@@ -45,7 +45,7 @@ impl Model for Invocations {
 impl Invocations {
     ghost use Rattle.auth_types.specs.Views.{forest_of};
 
-    /// The list of these items. It takes no memory.
+    /// The list of these items. Takes no memory.
     pub fn from_vec(items: Vec<Invocation>) -> Invocations
         ensures { result ≡ forest_of items.items }
     {
@@ -59,12 +59,12 @@ impl Invocations {
         &self.items
     }
 
-    /// Where its memory comes from.
+    /// The allocator of the list.
     pub fn allocator(&self) -> Global {
         *self.items.allocator()
     }
 
-    /// The items as a `Vec`. It takes no memory.
+    /// The items as a `Vec`. Takes no memory.
     pub fn into_vec(self) -> Vec<Invocation>
         ensures { forest_of result.items ≡ self }
     {

@@ -9,7 +9,7 @@ use std::alloc::Global;
 use value_xdr::Xdr;
 use xdr_core::{Cursor, NoMemory, Out, ReadXdr};
 
-/// How many levels lie below the root of a tree.
+/// The number of levels below the root of a tree.
 const LEVELS_BELOW: u32 = 99;
 
 #[tactic(auto, unfolding(crate::specs::Invocation::invocation_format))]

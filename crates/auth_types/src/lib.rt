@@ -1,4 +1,4 @@
-//! Authorisations of what contract transactions invoke, and how they are spelled (the Stellar XDR files, under RFC 4506).
+//! Authorisation entries of contract transactions with their codecs (the Stellar XDR files, under RFC 4506).
 #![tactic(auto)]
 
 mod auth_entry;
@@ -14,6 +14,3 @@ pub use auth_entry::AuthEntry;
 pub use credentials::{AddressCredentials, Credentials, CredentialsType};
 pub use invocation::{Invocation, Invocations};
 pub use payload::payload_hash;
-
-#[cfg(test)]
-mod tests;

@@ -1,4 +1,4 @@
-//! What signatures of authorisations sign.
+//! The payload that an authorisation's signature signs.
 
 ghost use Rattle.std.specs.Prelude.{IfOk, OnOk, ◌≡◌, ◌++◌};
 ghost use Rattle.value_types.specs.Hash.{hash_format};
@@ -16,7 +16,7 @@ use value_types::Hash;
 use value_xdr::Xdr;
 use xdr_core::{NoMemory, Out};
 
-/// The number of what is hashed for an authorisation (ENVELOPE_TYPE_SOROBAN_AUTHORIZATION).
+/// The envelope type of an authorisation's payload (ENVELOPE_TYPE_SOROBAN_AUTHORIZATION).
 const ENVELOPE_TYPE_SOROBAN_AUTHORIZATION: u32 = 9;
 
 #[tactic(auto, unfolding(crate::specs::Credentials::address_credentials_format, value_types::specs::Hash::hash_format, xdr_spec::specs::Format::number32))]
@@ -37,7 +37,7 @@ fn write_signed(
     root.write(out)
 }
 
-/// Writes what is hashed for an authorisation.
+/// Writes the hashed bytes of an authorisation.
 #[tactic(auto, unfolding(crate::specs::AuthEntry::auth_entry_format, crate::specs::Credentials::credentials_format))]
 fn write_payload(network: &Hash, entry: &AuthEntry, out: &mut Out) -> Result<(), NoMemory>
     requires { auth_entry_format.fits entry.now }
@@ -51,8 +51,8 @@ fn write_payload(network: &Hash, entry: &AuthEntry, out: &mut Out) -> Result<(),
     }
 }
 
-/// What the signature of an authorisation signs on the network with this id: the SHA-256 of the envelope type, the network's id, the
-/// nonce, the last ledger of the signature and the root of the tree.
+/// The hash that the signature of an authorisation entry signs on the network with this id: the SHA-256 of the envelope type, the
+/// network's id, the nonce, the last ledger of the signature and the root of the tree.
 #[tactic(auto, unfolding(value_types::specs::Hash::hash_format))]
 pub fn payload_hash(alloc: Global, network: &Hash, entry: &AuthEntry) -> Result<Hash, NoMemory>
     requires signed { IsOfAddress entry.now.credentials }

@@ -1,4 +1,4 @@
-//! Trees of invocations read from bytes.
+//! Reads trees of invocations.
 
 ghost use Rattle.std.specs.Prelude.{◌≡◌, IfOk};
 ghost use Rattle.xdr_core.specs.Reads.{Reads};
@@ -11,7 +11,7 @@ use std::alloc::Global;
 use value_xdr::Xdr;
 use xdr_core::{Cursor, ReadXdr, Why, XdrErr};
 
-/// An invocation with at most `left` levels below it.
+/// Reads an invocation with at most `left` levels below it.
 #[cycle(read)]
 pub fn read_invocation(
     alloc: Global,
@@ -28,7 +28,7 @@ pub fn read_invocation(
     })
 }
 
-/// The sub-invocations of an invocation with at most `left` levels below it.
+/// Reads the sub-invocations of an invocation with at most `left` levels below it.
 #[cycle(read)]
 fn read_subs(alloc: Global, input: &mut Cursor<'_>, left: u32) -> Result<Invocations, ReadXdr>
     ensures { Reads (subs_format left).read input.old input.new result }
@@ -42,7 +42,7 @@ fn read_subs(alloc: Global, input: &mut Cursor<'_>, left: u32) -> Result<Invocat
     Ok(Invocations::from_vec(items))
 }
 
-/// How many sub-invocations there are: none at the last level.
+/// Reads the number of sub-invocations, which is 0 at the last level.
 fn read_count(input: &mut Cursor<'_>, left: u32) -> Result<u32, ReadXdr>
     ensures count { Reads (count_at left) input.old input.new result }
     ensures none { IfOk result (λ n. left ≡ 0 → n ≡ 0) }

@@ -1,4 +1,4 @@
-//! Trees of invocations written as bytes.
+//! Writes trees of invocations.
 
 ghost use Rattle.std.specs.Prelude.{◌≡◌, ◌++◌, OnOk, OnErr, length};
 ghost use Rattle.std.specs.List.{flat_map, AllByRecursion};
@@ -11,8 +11,7 @@ use crate::invocation::Invocation;
 use value_xdr::Xdr;
 use xdr_core::{NoMemory, Out, add_sizes};
 
-/// Writes the spelling of a tree of invocations. After an error
-/// bytes of unknown content may follow what was there.
+/// Writes the spelling of a tree of invocations. After an error, bytes of unknown content may follow the old ones.
 #[cycle(write)]
 pub fn write_invocation(invocation: &Invocation, out: &mut Out) -> Result<(), NoMemory>
     requires { IsInvocationBounded invocation.now }
@@ -37,7 +36,7 @@ fn write_row(items: &[Invocation], out: &mut Out) -> Result<(), NoMemory>
     Ok(())
 }
 
-/// How many bytes `write_invocation` writes, or `u64::MAX`.
+/// The number of bytes that `write_invocation` writes, or `u64::MAX` if it is larger.
 #[cycle(size)]
 #[tactic(auto, unfolding(xdr_core::specs::Sizes::capped))]
 pub fn size_of_invocation(invocation: &Invocation) -> u64

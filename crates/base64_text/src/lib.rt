@@ -1,4 +1,4 @@
-//! Bytes that are given as a line of Base64 text (RFC 4648, section 4).
+//! Decodes base64 text (RFC 4648, section 4).
 #![tactic(auto)]
 
 ghost use Rattle.std.specs.Prelude.{◌≡◌, ℕ, List, IfOk};
@@ -10,22 +10,19 @@ use base64::DecodeAllocError;
 use base64::engine::general_purpose::STANDARD;
 use std::alloc::Global;
 
-#[cfg(test)]
-mod tests;
-
-/// Why a text gives no bytes.
+/// The error of decoding.
 #[derive(Debug, PartialEq, Eq, Drop)]
 pub enum TextErr {
-    /// The text is the encoding of no bytes.
+    /// The text is not an encoding.
     NotBase64,
     /// Memory ran out.
     NoMemory,
 }
 
-/// The bytes of which a text is the encoding, in the standard alphabet and with its padding. One newline at the end of the
-/// text is dropped first, and nothing else is passed over. The empty text is the encoding of no bytes at all, which are bytes.
+/// Decodes a text in the standard alphabet with its padding. One newline at the end of the text is dropped first; nothing else is
+/// skipped. The empty text decodes to the empty list of bytes.
 ///
-/// `NotBase64` comes exactly where the text is the encoding of none.
+/// `NotBase64` comes exactly if the text is not an encoding.
 #[tactic(auto, unfolding(crate::specs::Text::bytes_in))]
 pub fn decode_text(alloc: Global, text: &[u8]) -> Result<Vec<u8>, TextErr>
     ensures given { Gives (λ v. v.items) (bytes_in text.now) result }
@@ -51,7 +48,7 @@ fn without_newline(text: &[u8]) -> &[u8]
     }
 }
 
-/// A text gives exactly the bytes of which it is the encoding.
+/// A text decodes to bytes exactly if it is their encoding.
 pub fn text_is_encoding()
     ensures { OnlyEncodings }
 {}

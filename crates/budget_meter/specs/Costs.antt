@@ -26,7 +26,7 @@ terms_of t ComputeSha256Hash = t.compute_sha256_hash
 terms_of t VmInstantiation = t.vm_instantiation
 terms_of t InvokeVmFunction = t.invoke_vm_function
 
--- both sums, with what a charge of the input costs under the terms added
+-- both sums with the cost of the input added
 abbrev pub sums_after : Used → KindTerms → ℕ → Used
 sums_after used terms input = record {
   instructions = used.instructions + cost_of terms.instructions input;

@@ -11,6 +11,6 @@ pub record Meter : Type 0 where
   pub terms : Terms
   pub used : Used
 
--- the sums that a charge leaves, where there is room for it
+-- the sums after a charge for which there is room
 abbrev pub used_after : Meter → Kind → ℕ → Used
 used_after meter kind input = sums_after meter.used (terms_of meter.terms kind) input

@@ -8,7 +8,7 @@ use crate::kind::Kind;
 use crate::terms::{LinearCost, Terms};
 use std::marker::Model;
 
-/// The most that may be spent.
+/// The limits of what may be spent.
 #[derive(Clone, Copy, Debug, PartialEq, Eq)]
 pub struct Limits {
     pub instructions: u64,
@@ -24,11 +24,11 @@ pub struct Used {
     pub memory: u64,
 }
 
-/// A charge would pass one of the two limits.
+/// The error of a charge that would pass one of the two limits.
 #[derive(Clone, Copy, Debug, PartialEq, Eq)]
 pub struct Spent;
 
-/// The sums that a transaction has spent, under its limits. It takes no memory.
+/// The sums that a transaction has spent, under its limits. Takes no memory.
 #[derive(Drop)]
 pub struct Budget {
     limits: Limits,
@@ -50,9 +50,9 @@ impl Model for Budget {
 }
 
 impl Budget {
-    /// Nothing is spent yet.
+    /// A budget of which nothing is spent.
     pub fn new(limits: Limits, terms: Terms) -> Budget
-        // So each instruction that is executed spends something.
+        // So each executed instruction spends something.
         requires { 1 ≤ terms.wasm_insn_exec.instructions.constant }
         ensures limits { result.limits ≡ limits }
         ensures terms { result.terms ≡ terms }
@@ -68,8 +68,8 @@ impl Budget {
         }
     }
 
-    /// Adds what a charge of the kind with this input costs to both sums. `Spent` exactly where
-    /// one of them would pass its limit.
+    /// Adds the cost of a charge of the kind with this input to both sums. Returns `Spent` exactly if one of them would pass its
+    /// limit; the sums are then as before.
     pub fn charge(&mut self, kind: Kind, input: u64) -> Result<(), Spent>
         ensures fits { IsOk result ↔ IsWithin self.old.limits (used_after self.old kind input) }
         ensures ok { OnOk result (self.new ≡ record self.old { used = used_after self.old kind input }) }
@@ -94,7 +94,7 @@ impl Budget {
         Ok(())
     }
 
-    /// The two sums.
+    /// The two sums that are spent.
     pub fn spent(&self) -> Used
         ensures sums { result ≡ self.now.used }
         ensures within { IsWithin self.now.limits result }

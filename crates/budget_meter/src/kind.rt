@@ -1,4 +1,4 @@
-//! What can be charged.
+//! The kinds of cost.
 
 ghost use Rattle.std.specs.Prelude.{◌≡◌};
 ghost use Rattle.budget_meter.specs.Kinds.{number_of};
@@ -6,25 +6,25 @@ ghost use Rattle.budget_meter.specs.Kinds.{number_of};
 /// A kind of cost, under the network's name and number (`ContractCostType`).
 #[derive(Clone, Copy, Debug, PartialEq, Eq)]
 pub enum Kind {
-    /// A WebAssembly instruction that is executed.
+    /// The execution of a WebAssembly instruction.
     WasmInsnExec,
-    /// Memory that is taken, by its bytes.
+    /// Allocated memory, by its bytes.
     MemAlloc,
-    /// Bytes that are copied.
+    /// Copied bytes.
     MemCpy,
-    /// Bytes that are compared.
+    /// Compared bytes.
     MemCmp,
     /// A call of a host function.
     DispatchHostFunction,
-    /// A look at a host object.
+    /// A visit of a host object.
     VisitObject,
-    /// A value that is spelled, by its bytes.
+    /// A value that is written as XDR, by its bytes.
     ValSer,
-    /// A value that is read, by its bytes.
+    /// A value that is read from XDR, by its bytes.
     ValDeser,
-    /// A hash, by the bytes that are hashed.
+    /// A hash, by the hashed bytes.
     ComputeSha256Hash,
-    /// A module that is made ready, by the bytes of its code.
+    /// The instantiation of a module, by the bytes of its code.
     VmInstantiation,
     /// A call of a contract's function.
     InvokeVmFunction,

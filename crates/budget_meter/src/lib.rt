@@ -1,5 +1,4 @@
-//! The budget of one transaction: how many instructions and how much memory it may spend, and
-//! what an act costs.
+//! The budget of one transaction: the instructions and the memory that it may spend, and the cost of each act.
 #![tactic(auto)]
 
 mod budget;
@@ -9,6 +8,3 @@ mod terms;
 pub use budget::{Budget, Limits, Spent, Used};
 pub use kind::Kind;
 pub use terms::{KindTerms, LinearCost, Terms};
-
-#[cfg(test)]
-mod tests;

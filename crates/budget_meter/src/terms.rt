@@ -1,4 +1,4 @@
-//! What each kind costs.
+//! The terms: the cost of each kind.
 
 ghost use Rattle.std.specs.Prelude.{◌≡◌};
 ghost use Rattle.budget_meter.specs.Costs.{terms_of};
@@ -12,7 +12,7 @@ pub struct LinearCost {
     pub linear: u32,
 }
 
-/// What a charge of one kind costs.
+/// The cost of a charge of one kind.
 #[derive(Clone, Copy, Debug, PartialEq, Eq)]
 pub struct KindTerms {
     /// In instructions.
@@ -21,7 +21,7 @@ pub struct KindTerms {
     pub memory: LinearCost,
 }
 
-/// What a charge of each kind costs.
+/// The cost of a charge of each kind.
 #[derive(Clone, Copy, Debug, PartialEq, Eq)]
 pub struct Terms {
     pub wasm_insn_exec: KindTerms,

@@ -1,4 +1,4 @@
--- What a call that reads words answers (own).
+-- Results of calls that read words (own).
 use Rattle.std.specs.Prelude.{◌≡◌, ◌≢◌, ⊤, Option, Some, None, Result, Ok, Err}
 use Rattle.clap.specs.Values.{kind_of}
 use Rattle.clap.specs.declared.error.Error.{Error}
@@ -6,7 +6,7 @@ use Rattle.clap.specs.declared.error.kind.ErrorKind.TheVariants.{OutOfMemory}
 use Rattle.command_words.specs.declared.error.WordsErr.{WordsErr}
 use Rattle.command_words.specs.declared.error.WordsErr.TheVariants.{Usage, NoMemory}
 
--- what the words mean was found, and Usage where they mean nothing, unless memory ran out
+-- the meaning of the words, or Usage if they have none, unless memory ran out
 abbrev pub ReadsWords : {X : Type 0} → Result X WordsErr → Option X → Type 0
 ReadsWords (Ok x) meant = meant ≡ Some x
 ReadsWords (Err Usage) meant = meant ≡ None

@@ -15,7 +15,7 @@ begins_with mark (c ∷ cs) = c == mark
 abbrev pub is_number : Text → Bool
 is_number text = not (length text == 0) && all_ascii_digits text
 
--- a number from the least to the most
+-- a number in a range
 abbrev pub number_in : ℕ → ℕ → Text → Option ℕ
 number_in least most text =
     if is_number text && (nat_le least (digits_value 10 text) && nat_le (digits_value 10 text) most) then Some (digits_value 10 text) else None
@@ -35,7 +35,7 @@ kind_in text = if bytes_eq text (codes "set") then Some Set
     else (if bytes_eq text (codes "ledger") then Some Ledger
     else (if bytes_eq text (codes "value") then Some Value else None)))
 
--- names of files: none is empty, and none stands twice
+-- names of files: none is empty, and no two are equal
 abbrev pub are_names : List Text → Bool
 are_names [] = true
 are_names (name ∷ names) = not (length name == 0) && not (list_any (bytes_eq name) names) && are_names names

@@ -14,7 +14,7 @@ infixl 10 ◌>>=◌
 abbrev ◌>>=◌ : {A B : Type 0} → Option A → (A → Option B) → Option B
 o >>= f = option_and_then f o
 
--- where the test holds
+-- a value if the test holds
 abbrev pub guard : Bool → Option (Unit {0})
 guard true = Some tt
 guard false = None
@@ -72,6 +72,6 @@ abbrev pub are_right : Kinds → Bool
 are_right [] = true
 are_right (kind ∷ kinds) = false
 
--- the command of these words, if they are right
+-- the request of the words, if they are right
 unfoldable pub asked_of : List Text → Option Request
 asked_of words = if are_right (fault_of soroban_app words) then asked_from (subcommand_of soroban_app words) else None

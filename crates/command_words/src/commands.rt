@@ -9,7 +9,7 @@ ghost use Rattle.command_words.specs.Commands.{apply_app, bare_app, flag_rule, o
 use clap::{Arg, ArgAction, Command};
 use std::alloc::{AllocError, Global};
 
-/// The program: it takes one of its commands.
+/// The definition of the program for clap.
 #[tactic(auto, unfolding(crate::specs::Commands::soroban_app))]
 pub fn soroban_command<'a>(alloc: Global) -> Result<Command<'a>, AllocError>
     ensures { IfOk result (λ c. app_of c ≡ soroban_app) }
@@ -19,7 +19,7 @@ pub fn soroban_command<'a>(alloc: Global) -> Result<Command<'a>, AllocError>
     with_command(command, vet_command(alloc)?)
 }
 
-/// The program before it has commands. It gives no help, and its own name is not among the words.
+/// The program before it has commands, without help and without its own name among the words.
 fn bare_command<'a>(alloc: Global) -> Command<'a>
     ensures { app_of result ≡ bare_app }
 {

@@ -1,14 +1,14 @@
-//! Why there is no request.
+//! Errors of reading words.
 
 ghost use Rattle.std.specs.Prelude.{◌≡◌};
 ghost use Rattle.command_words.specs.declared.error.WordsErr.TheVariants.{NoMemory};
 
 use std::alloc::AllocError;
 
-/// Why there is no request.
+/// The reason why words are no request.
 #[derive(Clone, Copy, Debug, PartialEq, Eq)]
 pub enum WordsErr {
-    /// The words are not right.
+    /// The words are wrong.
     Usage,
     NoMemory,
 }

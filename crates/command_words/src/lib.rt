@@ -1,12 +1,10 @@
-//! The words of the command line: which are right, and what they ask for.
+//! The words of the command line: which are right, and the request that they make.
 #![tactic(auto)]
 
 mod commands;
 mod error;
 mod matches;
 mod request;
-#[cfg(test)]
-mod tests;
 mod values;
 mod words;
 

@@ -1,4 +1,4 @@
-//! What clap found, as a request.
+//! From clap's matches to a request.
 
 ghost use Rattle.std.specs.Prelude.{◌≡◌, option_and_then, option_map};
 ghost use Rattle.clap.specs.Matches.{found_of};

@@ -1,4 +1,4 @@
-//! What right words ask for.
+//! Requests: commands with their options.
 
 use edge_io::Word;
 
@@ -10,19 +10,19 @@ pub struct ApplyRequest {
     /// The file of the ledger before the set.
     pub ledger: Word,
     pub verdicts: Word,
-    /// When the new ledger closes, in seconds since 1970.
+    /// The close time of the new ledger, in seconds since 1970.
     pub close_time: u64,
-    /// How many workers share the work, from 1 to 64. The answer is the same for any number.
+    /// The number of workers, from 1 to 64. The result is the same for any number.
     pub workers: u64,
     /// The file that gets the results.
     pub report: Word,
     /// The file that gets the new ledger.
     pub ledger_out: Word,
-    /// Whether the set's file is text in Base64.
+    /// Whether the set's file is base64 text.
     pub base64: bool,
 }
 
-/// What the file of `show` spells.
+/// The kinds of files that `show` reads.
 #[derive(Clone, Copy, Debug, PartialEq, Eq)]
 pub enum ShowKind {
     Set,
@@ -36,7 +36,7 @@ pub enum ShowKind {
 pub struct ShowRequest {
     pub kind: ShowKind,
     pub file: Word,
-    /// Whether the file is text in Base64.
+    /// Whether the file is base64 text.
     pub base64: bool,
 }
 

@@ -8,11 +8,11 @@ ghost use Rattle.command_words.specs.Values.{are_names, begins_with, kind_in, nu
 use crate::ShowKind;
 use edge_io::Word;
 
-/// The number that one or more decimal digits make, if it is in this range.
+/// The number of one or more decimal digits, if it is in this range.
 pub fn number_in(text: &str, least: u64, most: u64) -> Option<u64>
     ensures { result ≡ number_in least most text.now }
 {
-    // `parse` takes a plus sign.
+    // `parse` accepts a plus sign.
     if begins_with(text, b'+') {
         return None;
     }
@@ -43,7 +43,7 @@ pub fn kind_in(text: &str) -> Option<ShowKind>
     }
 }
 
-/// Whether these may be the names of a command's files: none is empty, and no two are equal.
+/// Whether the names of a command's files are right: none is empty, and no two are equal.
 pub fn are_names(names: &[&Word]) -> bool
     ensures { result ≡ are_names (map (λ n. n.now) names.now) }
 {

@@ -1,4 +1,4 @@
-//! From the words to what they ask for.
+//! From the words to a request.
 
 ghost use Rattle.command_words.specs.Answers.{IsRefusal, ReadsWords};
 ghost use Rattle.command_words.specs.Words.{asked_of};
@@ -11,8 +11,7 @@ use clap::error::ErrorKind;
 use edge_io::Word;
 use std::alloc::Global;
 
-/// What the words after the program's name ask for. They are one command, and its options in any
-/// order, each once.
+/// The request of the words after the program's name: one command, and its options in any order, each once.
 pub fn request_of(alloc: Global, words: &[Word]) -> Result<Request, WordsErr>
     ensures { ReadsWords result (asked_of words.now) }
 {
@@ -23,7 +22,7 @@ pub fn request_of(alloc: Global, words: &[Word]) -> Result<Request, WordsErr>
     }
 }
 
-/// What an error of clap says of the words.
+/// The error of a refusal by clap.
 fn refusal(error: &Error) -> WordsErr
     ensures { IsRefusal error.now result }
 {

@@ -1,4 +1,4 @@
-//! The storage of contracts over a ledger.
+//! The storage of contracts, over the entries of a ledger.
 #![tactic(auto)]
 
 mod ground;

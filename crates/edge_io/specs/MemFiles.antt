@@ -1,4 +1,4 @@
--- What the files in memory tell, and which of their calls fails (own).
+-- The content of files in memory, and which of their calls fail (own).
 use Rattle.std.specs.Prelude.{◌≡◌, ℕ, ◌<◌, ◌-◌, ◌^◌, List, [], Contains, Some, None, slice_index}
 use Rattle.std.specs.FinMap.{get}
 use Rattle.edge_io.specs.Contents.{Contents}
@@ -10,7 +10,7 @@ use Rattle.edge_io.specs.declared.mem_files.MemFiles.{MemFiles}
 abbrev pub contents_of : MemFiles → Contents
 contents_of m = Some (files_of m.stored.items)
 
--- how often the calls for a file option have failed
+-- the number of failed calls for a file option
 abbrev pub faults_of : MemFiles → ℕ → ℕ
 faults_of m file = slice_index m.counts file
 
@@ -22,11 +22,11 @@ calls_of m = m.calls
 abbrev pub failing_of : MemFiles → List ℕ
 failing_of m = m.failing.items
 
--- no call is listed, and each count can rise
+-- no failing call is listed, and each count can rise
 abbrev pub IsSteady : MemFiles → Type 0
 IsSteady m = (failing_of m ≡ []) × ((file : ℕ) → faults_of m file < 2 ^ 64 - 1)
 
--- the next call is listed
+-- the next call is listed as failing
 abbrev pub FailsNext : MemFiles → Type 0
 FailsNext m = Contains (failing_of m) (calls_of m)
 
@@ -39,7 +39,7 @@ pub record CountsCall (old new : MemFiles) : Type 0 where
   pub listed : failing_of new ≡ failing_of old
   pub next : calls_of new ≡ raised (calls_of old)
 
--- all but the files is as before
+-- everything but the files is as before
 pub record IsSameBesides (old new : MemFiles) : Type 0 where
   pub listed : failing_of new ≡ failing_of old
   pub calls : calls_of new ≡ calls_of old

@@ -1,4 +1,4 @@
--- What the text in memory tells, and which of its calls fails (own).
+-- The text in memory, and which of its calls fail (own).
 use Rattle.std.specs.Prelude.{◌≡◌, ℕ, ◌<◌, ◌-◌, ◌^◌, List, [], Contains, Option, Some}
 use Rattle.edge_io.specs.Counts.{raised}
 use Rattle.edge_io.specs.declared.mem_say.MemSay.{MemSay}
@@ -7,7 +7,7 @@ use Rattle.edge_io.specs.declared.mem_say.MemSay.{MemSay}
 abbrev pub text_of : MemSay → Option (List ℕ)
 text_of m = Some m.text.items
 
--- how often the calls have failed
+-- the number of failed calls
 abbrev pub faults_of : MemSay → ℕ
 faults_of m = m.count
 
@@ -19,11 +19,11 @@ calls_of m = m.calls
 abbrev pub failing_of : MemSay → List ℕ
 failing_of m = m.failing.items
 
--- no call is listed, and the count can rise
+-- no failing call is listed, and the count can rise
 abbrev pub IsSteady : MemSay → Type 0
 IsSteady m = (failing_of m ≡ []) × (faults_of m < 2 ^ 64 - 1)
 
--- the next call is listed
+-- the next call is listed as failing
 abbrev pub FailsNext : MemSay → Type 0
 FailsNext m = Contains (failing_of m) (calls_of m)
 

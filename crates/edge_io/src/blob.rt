@@ -4,7 +4,7 @@ ghost use Rattle.std.specs.Prelude.{◌≡◌, ◌≤◌, ◌^◌, length};
 
 use std::marker::Model;
 
-/// The bytes of a file that was read, at most 2^30 of them.
+/// The bytes of a file, at most 2^30 of them.
 #[derive(Debug, Drop)]
 pub struct Blob {
     bytes: Vec<u8>,
@@ -21,7 +21,7 @@ impl Model for Blob {
 }
 
 impl Blob {
-    /// The file of these bytes. It takes no memory.
+    /// Takes the bytes over. Takes no memory.
     pub fn new(bytes: Vec<u8>) -> Blob
         requires { length bytes.items ≤ 2 ^ 30 }
         ensures { result ≡ bytes.items }

@@ -1,13 +1,13 @@
-//! How a call at the edge ends badly.
+//! Errors of calls at the edge.
 
 use thiserror::Error;
 
-/// The call failed.
+/// The error of a call that failed.
 #[derive(Clone, Copy, Debug, PartialEq, Eq, Error)]
 #[error("the call failed")]
 pub struct Failed;
 
-/// Why bytes were not stored or said.
+/// The error of storing or printing.
 #[derive(Clone, Copy, Debug, PartialEq, Eq, Error)]
 pub enum EdgeErr {
     #[error("the call failed")]
@@ -16,7 +16,7 @@ pub enum EdgeErr {
     NoMemory,
 }
 
-/// Why a file was not read whole.
+/// The error of reading a whole file.
 #[derive(Clone, Copy, Debug, PartialEq, Eq, Error)]
 pub enum ReadErr {
     #[error("the file can't be read")]

@@ -6,26 +6,25 @@ ghost use Rattle.edge_io.specs.Counts.{ChangesOnlyCount, Rose, OnFailed};
 
 use crate::{EdgeErr, Failed, Word};
 
-/// Files by name. Each call says which of the command's file options, of at most eight, it serves,
-/// so that its failures are counted there.
+/// Files by name. Each call names the file option of the command that it serves, from 0 to 7, and its failures are counted for
+/// this option.
 pub trait Files {
-    /// The bytes of each name, where the object tells them.
+    /// The bytes of each name, if they are known.
     ghost contents: { Self → Contents };
 
-    /// How often the calls for a file option have failed.
+    /// The number of failed calls for a file option.
     ghost faults: { Self → ℕ → ℕ };
 
-    /// No call fails but a piece of a missing file.
+    /// No call fails except a piece of a missing file.
     ghost steady: { Self → Type 0 };
 
-    /// How often the calls for a file option have failed. It stays at 2^64 - 1.
+    /// The number of failed calls for a file option, at most 2^64 - 1.
     fn faults(&self, file: u8) -> u64
         requires { file < 8 }
         ensures { result ≡ faults self.now file };
 
-    /// Copies bytes of a file from a place on into the front of the buffer, and answers how many. It
-    /// answers 0 only at or past the file's end, or for an empty buffer, and Failed where there is no
-    /// file of this name.
+    /// Copies bytes of a file from an offset into the start of the buffer, and returns their number. The number is 0 only at or past
+    /// the file's end, or for an empty buffer. Returns Failed if no file has this name.
     fn piece(&mut self, file: u8, name: &Word, at: u64, buf: &mut [u8]) -> Result<usize, Failed>
         requires { file < 8 }
 
@@ -38,8 +37,8 @@ pub trait Files {
         ensures steady { steady self.old → IsThere (contents self.old) name.now →
             IsOk result × steady self.new × (faults self.new file ≡ faults self.old file) };
 
-    /// Puts bytes in the place of what the name held. At Failed it holds a front of them or what it
-    /// held, at NoMemory what it held.
+    /// Replaces the bytes of a name. At Failed the name holds a prefix of the new bytes or what it held; at NoMemory it holds what it
+    /// held.
     fn store(&mut self, file: u8, name: &Word, bytes: &[u8]) -> Result<(), EdgeErr>
         requires { file < 8 }
 
@@ -50,7 +49,7 @@ pub trait Files {
         ensures steady { steady self.old →
             OnFailed result ⊥ × steady self.new × (faults self.new file ≡ faults self.old file) };
 
-    /// A steady object tells its contents.
+    /// The content of a steady object is known.
     ghost steady_tells: { (f : Self) → steady f → IsSome (contents f) };
 
     /// The counts of a steady object can rise.

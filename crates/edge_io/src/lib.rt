@@ -1,6 +1,5 @@
-//! The edge of the program: the files that it reads and stores, what it says, and the gate that its
-//! workers pass. A contract names what a file holds where the object tells it, how often calls have
-//! failed, and whether the object is steady.
+//! The edge of the program: the files that it reads and stores, its output, and the gate of its workers. Contracts speak of the
+//! content of files if it is known, of the number of failed calls, and of objects that are steady.
 #![tactic(auto)]
 
 mod blob;

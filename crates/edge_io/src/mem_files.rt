@@ -17,12 +17,12 @@ pub struct Stored {
     bytes: Vec<u8>,
 }
 
-/// Files in memory. Those of its calls of `piece` and `store` fail whose numbers, counted over both
-/// from 0, are listed, and every `piece` of a missing file.
+/// Files in memory. The calls of `piece` and `store` are numbered together from 0. The calls with listed numbers fail, and every
+/// `piece` of a missing file.
 #[derive(Drop)]
 pub struct MemFiles {
     alloc: Global,
-    // The newest bytes of a name stand first.
+    // The newest bytes of a name come first.
     stored: Vec<Stored>,
     counts: [u64; 8],
     calls: u64,
@@ -32,7 +32,7 @@ pub struct MemFiles {
 impl MemFiles {
     ghost use Rattle.edge_io.specs.MemFiles.{calls_of, contents_of, failing_of, faults_of, IsSteady, IsSameBesides};
 
-    /// No files, at whose calls those of these numbers fail.
+    /// No files; the calls of these numbers will fail.
     pub fn new(alloc: Global, failing: Vec<u64>) -> MemFiles
         ensures contents { contents_of result ≡ Some map.empty }
         ensures counts { (file : ℕ) → faults_of result file ≡ 0 }
@@ -49,7 +49,7 @@ impl MemFiles {
         }
     }
 
-    /// Puts a file there, which is none of the numbered calls.
+    /// Puts a file into memory. This is none of the numbered calls.
     pub fn put(&mut self, name: &Word, bytes: &[u8]) -> Result<(), AllocError>
         ensures ok { OnOk result (contents_of self.new ≡ put (contents_of self.old) name.now bytes.now) }
         ensures err { OnErr result (contents_of self.new ≡ contents_of self.old) }
@@ -95,7 +95,7 @@ impl Files for MemFiles {
         ensures steady { IsSteady self.old → IsThere (contents_of self.old) name.now →
             IsOk result × IsSteady self.new × (faults_of self.new file ≡ faults_of self.old file) }
 
-        // It fails exactly at a listed call and at a missing file, and then the count rises by one.
+        // The call fails exactly if it is listed or the file is missing. Then the count rises by one.
         ensures exact { IsErr result ↔ (FailsNext self.old ⊎ IsMissing self.old name.now) }
         ensures raised { OnErr result (RaisesOnly file (faults_of self.old) (faults_of self.new)) }
         ensures kept { OnOk result ((k : ℕ) → faults_of self.new k ≡ faults_of self.old k) }
@@ -124,7 +124,7 @@ impl Files for MemFiles {
         ensures steady { IsSteady self.old →
             OnFailed result ⊥ × IsSteady self.new × (faults_of self.new file ≡ faults_of self.old file) }
 
-        // It fails exactly at a listed call, and only then the count rises, by one.
+        // The call fails exactly if it is listed. Only then the count rises, by one.
         ensures exact { IsErrOf result EdgeErr.Failed ↔ FailsNext self.old }
         ensures raised { OnFailed result (RaisesOnly file (faults_of self.old) (faults_of self.new)) }
         ensures kept { UnlessFailed result ((k : ℕ) → faults_of self.new k ≡ faults_of self.old k) }
@@ -155,7 +155,7 @@ fn find_bytes<'a>(stored: &'a [Stored], name: &Word) -> Option<&'a [u8]>
     None
 }
 
-/// Copies the bytes from a place on, as far as they go, and answers how many.
+/// Copies the bytes from an offset, as many as fit, and returns their number.
 fn copy_from(bytes: &[u8], at: usize, buf: &mut [u8]) -> usize
     ensures within { result ≤ length buf.new }
     ensures piece { IsPiece bytes.now at buf.new result }

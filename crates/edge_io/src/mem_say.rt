@@ -1,4 +1,4 @@
-//! A text in memory.
+//! An output in memory.
 
 ghost use Rattle.std.specs.Prelude.{◌≡◌, ℕ, ◌+◌, ◌-◌, ◌<◌, ◌≤◌, ◌^◌, ◌↔◌, [], ◌++◌, Some, refl, take, IsErrOf};
 ghost use Rattle.edge_io.specs.Counts.{OnFailed, Rose, UnlessFailed, raised};
@@ -8,7 +8,7 @@ use crate::turns::is_listed;
 use crate::{EdgeErr, Say};
 use std::alloc::{AllocError, Global};
 
-/// A text in memory. Those of its calls of `say` fail whose numbers, counted from 0, are listed.
+/// An output in memory. The calls of `say` are numbered from 0, and those with listed numbers fail.
 #[derive(Drop)]
 pub struct MemSay {
     text: Vec<u8>,
@@ -20,7 +20,7 @@ pub struct MemSay {
 impl MemSay {
     ghost use Rattle.edge_io.specs.MemSay.{calls_of, failing_of, faults_of, text_of, IsSteady};
 
-    /// An empty text, at whose calls those of these numbers fail.
+    /// An empty text; the calls of these numbers will fail.
     pub fn new(alloc: Global, failing: Vec<u64>) -> MemSay
         ensures text { text_of result ≡ Some [] }
         ensures count { faults_of result ≡ 0 }
@@ -69,14 +69,14 @@ impl Say for MemSay {
         ensures steady { IsSteady self.old →
             OnFailed result ⊥ × IsSteady self.new × (faults_of self.new ≡ faults_of self.old) }
 
-        // It fails exactly at a listed call, and only then the count rises, by one.
+        // The call fails exactly if it is listed. Only then the count rises, by one.
         ensures exact { IsErrOf result EdgeErr.Failed ↔ FailsNext self.old }
         ensures raised { OnFailed result (faults_of self.new ≡ raised (faults_of self.old)) }
         ensures kept { UnlessFailed result (faults_of self.new ≡ faults_of self.old) }
         ensures counted { CountsCall self.old self.new }
     {
         if is_listed(&mut self.calls, &self.failing) {
-            // A failing call says the first half of the bytes.
+            // A failing call appends the first half of the bytes.
             let _ = self.text.extend_from_slice(&bytes[..bytes.len() / 2]);
             self.count = self.count.saturating_add(1);
             return Err(EdgeErr::Failed);

@@ -1,4 +1,4 @@
-//! The files of the system and its standard output. No contract says what they hold.
+//! The operating system's files and standard output. No contract says what they hold.
 
 ghost use Rattle.std.specs.Prelude.{◌≡◌, ◌<◌, ℕ, ◌≤◌, length, slice_index, None, IfOk, IsOk, OnOk, OnErr};
 ghost use Rattle.edge_io.specs.Contents.{IsThere, Reads, Stores};
@@ -10,16 +10,16 @@ use crate::{EdgeErr, Failed, Files, Say, Word};
 use std::io::{Read, Seek, SeekFrom, Write};
 use std::{fs, io, rt};
 
-/// The file that was read last stays open, so that a file is opened once for all of its pieces.
+/// The open file that was read last, so that a file is opened once for all of its pieces.
 #[derive(Drop)]
 struct OpenFile<R: rt::Files> {
     name: Word,
     file: R::File,
-    // Where the next read begins.
-    place: u64,
+    // The offset of the next read.
+    offset: u64,
 }
 
-/// The files of the system.
+/// The operating system's files.
 #[derive(Drop)]
 pub struct RealFiles<R: rt::Files + Drop> {
     rt: R,
@@ -35,7 +35,7 @@ pub struct StdSay<R: Print + Drop> {
 }
 
 impl<R: rt::Files + Drop> RealFiles<R> {
-    /// No call has failed yet, and no file is open.
+    /// Files of which no call has failed and none is open.
     pub fn new(rt: R) -> RealFiles<R>
         ensures { (file : ℕ) → ⟦<RealFiles<R> as Files>⟧.faults result file ≡ 0 }
     {
@@ -46,7 +46,7 @@ impl<R: rt::Files + Drop> RealFiles<R> {
         }
     }
 
-    /// Reads from a place on.
+    /// Reads from an offset.
     fn read_at(&mut self, name: &Word, at: u64, buf: &mut [u8]) -> io::Result<usize>
         ensures within { IfOk result (λ n. n ≤ length buf.new) }
         ensures counts { self.new.counts ≡ self.old.counts }
@@ -56,21 +56,21 @@ impl<R: rt::Files + Drop> RealFiles<R> {
             _ => OpenFile {
                 name: name.clone()?,
                 file: fs::open(&self.rt, name.as_str())?,
-                place: 0,
+                offset: 0,
             },
         };
-        if open.place != at {
-            open.place = open.file.seek(SeekFrom::Start(at))?;
+        if open.offset != at {
+            open.offset = open.file.seek(SeekFrom::Start(at))?;
         }
         let n = open.file.read(buf)?;
-        open.place = open.place.saturating_add(n as u64);
+        open.offset = open.offset.saturating_add(n as u64);
         self.open = Some(open);
         Ok(n)
     }
 }
 
 impl<R: Print + Drop> StdSay<R> {
-    /// No call has failed yet.
+    /// An output of which no call has failed.
     pub fn new(rt: R) -> StdSay<R>
         ensures { ⟦<StdSay<R> as Say>⟧.faults result ≡ 0 }
     {
@@ -104,7 +104,7 @@ impl<R: rt::Files + Drop> Files for RealFiles<R> {
         ensures cause { OnErr result (Rose (⟦<RealFiles<R> as Files>⟧.faults self.old file) (⟦<RealFiles<R> as Files>⟧.faults self.new file)) }
         ensures steady { ⊥ → IsThere None name.now → IsOk result × ⊥ × (⟦<RealFiles<R> as Files>⟧.faults self.new file ≡ ⟦<RealFiles<R> as Files>⟧.faults self.old file) }
 
-        // The count rises by one exactly where it fails.
+        // The count rises by one exactly if the call fails.
         ensures raised { OnErr result (RaisesOnly file (⟦<RealFiles<R> as Files>⟧.faults self.old) (⟦<RealFiles<R> as Files>⟧.faults self.new)) }
         ensures kept { OnOk result ((k : ℕ) → ⟦<RealFiles<R> as Files>⟧.faults self.new k ≡ ⟦<RealFiles<R> as Files>⟧.faults self.old k) }
     {
@@ -126,7 +126,7 @@ impl<R: rt::Files + Drop> Files for RealFiles<R> {
         ensures cause { OnFailed result (Rose (⟦<RealFiles<R> as Files>⟧.faults self.old file) (⟦<RealFiles<R> as Files>⟧.faults self.new file)) }
         ensures steady { ⊥ → OnFailed result ⊥ × ⊥ × (⟦<RealFiles<R> as Files>⟧.faults self.new file ≡ ⟦<RealFiles<R> as Files>⟧.faults self.old file) }
 
-        // The count rises by one exactly where it fails.
+        // The count rises by one exactly if the call fails.
         ensures raised { OnErr result (RaisesOnly file (⟦<RealFiles<R> as Files>⟧.faults self.old) (⟦<RealFiles<R> as Files>⟧.faults self.new)) }
         ensures kept { OnOk result ((k : ℕ) → ⟦<RealFiles<R> as Files>⟧.faults self.new k ≡ ⟦<RealFiles<R> as Files>⟧.faults self.old k) }
     {
@@ -163,7 +163,7 @@ impl<R: Print + Drop> Say for StdSay<R> {
         ensures cause { OnFailed result (Rose (⟦<StdSay<R> as Say>⟧.faults self.old) (⟦<StdSay<R> as Say>⟧.faults self.new)) }
         ensures steady { ⊥ → OnFailed result ⊥ × ⊥ × (⟦<StdSay<R> as Say>⟧.faults self.new ≡ ⟦<StdSay<R> as Say>⟧.faults self.old) }
 
-        // The count rises by one exactly where it fails.
+        // The count rises by one exactly if the call fails.
         ensures raised { OnErr result (⟦<StdSay<R> as Say>⟧.faults self.new ≡ raised (⟦<StdSay<R> as Say>⟧.faults self.old)) }
         ensures kept { OnOk result (⟦<StdSay<R> as Say>⟧.faults self.new ≡ ⟦<StdSay<R> as Say>⟧.faults self.old) }
     {

@@ -1,4 +1,4 @@
-//! What the command says.
+//! The command's output.
 
 ghost use Rattle.std.specs.Prelude.{◌≡◌, ◌<◌, ◌≤◌, ◌^◌, ◌-◌, ℕ, List, Option, IsSome};
 ghost use Rattle.edge_io.specs.Text.{Says};
@@ -6,22 +6,22 @@ ghost use Rattle.edge_io.specs.Counts.{Rose, OnFailed};
 
 use crate::EdgeErr;
 
-/// A text that grows at its end.
+/// An output: a text that grows at its end.
 pub trait Say {
-    /// The text so far, where the object tells it.
+    /// The text so far, if it is known.
     ghost text: { Self → Option (List ℕ) };
 
-    /// How often the calls have failed.
+    /// The number of failed calls.
     ghost faults: { Self → ℕ };
 
     /// No call fails.
     ghost steady: { Self → Type 0 };
 
-    /// How often the calls have failed. It stays at 2^64 - 1.
+    /// The number of failed calls, at most 2^64 - 1.
     fn faults(&self) -> u64
         ensures { result ≡ faults self.now };
 
-    /// Adds bytes to the text: all of them, at Failed a front of them, at NoMemory none.
+    /// Appends the bytes: all of them at Ok, a prefix at Failed, none at NoMemory.
     fn say(&mut self, bytes: &[u8]) -> Result<(), EdgeErr>
         ensures said { Says result bytes.now (text self.old) (text self.new) }
 
@@ -30,7 +30,7 @@ pub trait Say {
         ensures steady { steady self.old →
             OnFailed result ⊥ × steady self.new × (faults self.new ≡ faults self.old) };
 
-    /// A steady object tells its text.
+    /// The text of a steady object is known.
     ghost steady_tells: { (s : Self) → steady s → IsSome (text s) };
 
     /// The count of a steady object can rise.

@@ -1,10 +1,10 @@
-//! The whole of a file, of at most 2^30 bytes.
+//! Reads a whole file of at most 2^30 bytes.
 
 ghost use Rattle.std.specs.Prelude.{◌≡◌, ◌+◌, ◌<◌, ◌≤◌, ◌^◌, ◌++◌, ◌↔◌, List, ℕ, length, take, drop, IsTrue, IfOk, IfSome, IsSomeAnd, OnErr, IsOk, IsErrOf};
 ghost use Rattle.std.specs.FinMap as map;
 ghost use Rattle.edge_io.specs.Contents.{IsThere, OnContent};
 ghost use Rattle.edge_io.specs.Counts.{ChangesOnlyCount, Rose};
-ghost use Rattle.edge_io.specs.Whole.{OnFault, ReadsWhole, IsFront};
+ghost use Rattle.edge_io.specs.Whole.{OnFault, ReadsWhole, IsPrefixOf};
 
 use crate::{Blob, Failed, Files, ReadErr, Word};
 use std::alloc::Global;
@@ -13,8 +13,8 @@ const LIMIT: usize = 1 << 30;
 
 const CHUNK: usize = 1 << 16;
 
-/// The bytes of a file of at most 2^30 bytes. The byte at place 2^30 is asked for first: where it is
-/// there, the file is too long. Fault comes only where a piece could not be read.
+/// Reads a file of at most 2^30 bytes. It asks for the byte at offset 2^30 first; if the file has it, the file is too long.
+/// Fault comes only if a piece could not be read.
 pub fn read_whole<F: Files>(
     alloc: Global,
     files: &mut F,
@@ -43,7 +43,7 @@ pub fn read_whole<F: Files>(
     }
 }
 
-/// Whether the file has a byte at a place.
+/// Whether the file has a byte at an offset.
 fn reaches<F: Files>(files: &mut F, file: u8, name: &Word, at: u64) -> Result<bool, Failed>
     requires { file < 8 }
 
@@ -61,7 +61,7 @@ fn reaches<F: Files>(files: &mut F, file: u8, name: &Word, at: u64) -> Result<bo
     Ok(n > 0)
 }
 
-/// The bytes up to the limit.
+/// Reads the bytes up to the limit.
 fn read_to_limit<F: Files>(
     alloc: Global,
     files: &mut F,
@@ -93,7 +93,7 @@ fn read_to_limit<F: Files>(
     Ok(bytes)
 }
 
-/// Adds the next piece to the bytes so far, and answers how many bytes it has.
+/// Appends the next piece to the bytes, and returns its length.
 fn append_piece<F: Files>(
     files: &mut F,
     file: u8,
@@ -104,8 +104,8 @@ fn append_piece<F: Files>(
     requires file { file < 8 }
     requires room { 0 < length buf.old }
 
-    ensures front { IfOk result (λ n. OnContent (F.contents files.old) name.now (λ whole.
-        IsFront bytes.old.items whole → IsFront bytes.new.items whole)) }
+    ensures prefix { IfOk result (λ n. OnContent (F.contents files.old) name.now (λ whole.
+        IsPrefixOf bytes.old.items whole → IsPrefixOf bytes.new.items whole)) }
     ensures end { IfOk result (λ n. n ≡ 0 →
         OnContent (F.contents files.old) name.now (λ whole. length whole ≤ length bytes.old.items)) }
     ensures longer { IfOk result (λ n. length bytes.new.items ≡ length bytes.old.items + n) }

@@ -21,14 +21,14 @@ impl Model for Word {
 }
 
 impl Word {
-    /// The word of this text. It takes no memory.
+    /// Takes the text over. Takes no memory.
     pub fn new(text: String) -> Word
         ensures { result ≡ string_bytes text }
     {
         Word { text }
     }
 
-    /// The word without bytes. It takes no memory.
+    /// The empty word. Takes no memory.
     pub fn empty(alloc: Global) -> Word
         ensures { result ≡ [] }
     {

@@ -13,7 +13,7 @@ use Rattle.sha2.specs.Sha256.{sha256}
 use Rattle.ledger_spec.specs.declared.Kept.{Kept}
 use Rattle.ledger_spec.specs.LedgerMap.{IsKeptAt, IsLedgerMap}
 use Rattle.entry_map.specs.declared.slot.Slot.{Slot}
-use Rattle.entry_map.specs.Slots.{pair_of, pairs_of, map_of, AreSorted, AreSlots, IsPlace, is_last}
+use Rattle.entry_map.specs.Slots.{pair_of, pairs_of, map_of, AreSorted, AreSlots, IsIndexOf, is_last}
 use Rattle.std.proofs.lemmas.Cmp.{tied_itself}
 use Rattle.std.proofs.lemmas.Option.{get_or_from_slice_get, slice_get_within}
 use Rattle.std.proofs.lemmas.List.{length-set, length-append}
@@ -47,7 +47,7 @@ ledger_map slots s = record {
   few = rw (len_of slots s.sorted) s.few;
 }
 
--- ---- what is found at a place
+-- ---- what is found at a index
 
 first_of_two : (a b : Bool) → (a && b) ≡ true → a ≡ true
 first_of_two true b e = refl
@@ -120,47 +120,47 @@ slots_after slots i slot kept s at is = record {
   few = rw (length-set slots i (record slot { kept = kept })) s.few;
 }
 
--- ---- what is found and raised, by the place that a search gave
+-- ---- what is found and raised, by the index that a search gave
 
-pub found_at : (slots : List Slot) (place : ℕ) (key : List ℕ) (read : Slot) → AreSorted slots → IsPlace slots place key → read ≡ get_or slots place read
+pub found_at : (slots : List Slot) (index : ℕ) (key : List ℕ) (read : Slot) → AreSorted slots → IsIndexOf slots index key → read ≡ get_or slots index read
     → get (map_of slots) key ≡ Some read.kept
-found_at slots place key read s is h =
-    let same : is.slot ≡ read = sym (get_or_from_slice_get slots place is.slot read is.there) ∙ sym h in
+found_at slots index key read s is h =
+    let same : is.slot ≡ read = sym (get_or_from_slice_get slots index is.slot read is.there) ∙ sym h in
     found_in slots key s
     ∙ ap (λ (k : List ℕ). find order k (pairs_of slots)) (sym is.keyed)
-    ∙ find_there slots place is.slot s is.there
+    ∙ find_there slots index is.slot s is.there
     ∙ ap (λ (x : Slot). Some x.kept) same
 
 -- that the hash is the key's has one proof
 one_proof : (slot : Slot) → IsProp (slot.key_hash.0 ≡ sha256 slot.key)
 one_proof slot = hlevel props
 
--- the slot at the place, living longer
+-- the slot at the index, living longer
 abbrev pub raised_slot : (slot : Slot) → ℕ → slot.key_hash.0 ≡ sha256 slot.key → Slot
 raised_slot slot live_until hashed = record slot { kept = record { entry = slot.kept.entry; live_until = live_until }; hashed = hashed }
 
 still_kept : (bytes : List ℕ) (kept : Kept) (live_until : ℕ) → IsKeptAt bytes kept → live_until < 2 ^ 32 → IsKeptAt bytes (record { entry = kept.entry; live_until = live_until })
 still_kept bytes kept live_until k lt = record { fits = k.fits; numbered = lt; keyed = k.keyed; hashed = k.hashed }
 
-pub raised_slots : (slots : List Slot) (place : ℕ) (key : List ℕ) (read : Slot) (life : ℕ) (hashed : read.key_hash.0 ≡ sha256 read.key) → AreSlots slots → IsPlace slots place key → read ≡ get_or slots place read → life < 2 ^ 32
-    → AreSlots (set slots place (raised_slot read life hashed))
-raised_slots slots place key read life hashed s is h lt =
-    let same : is.slot ≡ read = sym (get_or_from_slice_get slots place is.slot read is.there) ∙ sym h in
-    let there : slice_get slots place ≡ Some read = is.there ∙ ap (λ (x : Slot). Some x) same in
-    let within = slice_get_within slots place read there in
-    let kept = subst (λ (x : Slot). IsKeptAt x.key x.kept) (sym h) (s.each place read within) in
-    subst (λ (p : read.key_hash.0 ≡ sha256 read.key). AreSlots (set slots place (raised_slot read life p))) (one_proof read read.hashed hashed)
-    (slots_after slots place read (record { entry = read.kept.entry; live_until = life }) s there (still_kept read.key read.kept life kept lt))
+pub raised_slots : (slots : List Slot) (index : ℕ) (key : List ℕ) (read : Slot) (life : ℕ) (hashed : read.key_hash.0 ≡ sha256 read.key) → AreSlots slots → IsIndexOf slots index key → read ≡ get_or slots index read → life < 2 ^ 32
+    → AreSlots (set slots index (raised_slot read life hashed))
+raised_slots slots index key read life hashed s is h lt =
+    let same : is.slot ≡ read = sym (get_or_from_slice_get slots index is.slot read is.there) ∙ sym h in
+    let there : slice_get slots index ≡ Some read = is.there ∙ ap (λ (x : Slot). Some x) same in
+    let within = slice_get_within slots index read there in
+    let kept = subst (λ (x : Slot). IsKeptAt x.key x.kept) (sym h) (s.each index read within) in
+    subst (λ (p : read.key_hash.0 ≡ sha256 read.key). AreSlots (set slots index (raised_slot read life p))) (one_proof read read.hashed hashed)
+    (slots_after slots index read (record { entry = read.kept.entry; live_until = life }) s there (still_kept read.key read.kept life kept lt))
 
-pub raised_map : (slots : List Slot) (place : ℕ) (key : List ℕ) (read : Slot) (life : ℕ) (hashed : read.key_hash.0 ≡ sha256 read.key) → AreSorted slots → IsPlace slots place key → read ≡ get_or slots place read
-    → insert (map_of slots) key (raised_slot read life hashed).kept ≡ map_of (set slots place (raised_slot read life hashed))
-raised_map slots place key read life hashed s is h =
-    let same : is.slot ≡ read = sym (get_or_from_slice_get slots place is.slot read is.there) ∙ sym h in
-    let there : slice_get slots place ≡ Some read = is.there ∙ ap (λ (x : Slot). Some x) same in
+pub raised_map : (slots : List Slot) (index : ℕ) (key : List ℕ) (read : Slot) (life : ℕ) (hashed : read.key_hash.0 ≡ sha256 read.key) → AreSorted slots → IsIndexOf slots index key → read ≡ get_or slots index read
+    → insert (map_of slots) key (raised_slot read life hashed).kept ≡ map_of (set slots index (raised_slot read life hashed))
+raised_map slots index key read life hashed s is h =
+    let same : is.slot ≡ read = sym (get_or_from_slice_get slots index is.slot read is.there) ∙ sym h in
+    let there : slice_get slots index ≡ Some read = is.there ∙ ap (λ (x : Slot). Some x) same in
     let bytes : read.key ≡ key = ap (λ (x : Slot). x.key) (sym same) ∙ is.keyed in
-    subst (λ (k : List ℕ). insert (map_of slots) k (raised_slot read life hashed).kept ≡ map_of (set slots place (raised_slot read life hashed))) bytes
-    (insert_there slots place read (record { entry = read.kept.entry; live_until = life }) s there
-    ∙ ap (λ (p : read.key_hash.0 ≡ sha256 read.key). map_of (set slots place (raised_slot read life p))) (one_proof read read.hashed hashed))
+    subst (λ (k : List ℕ). insert (map_of slots) k (raised_slot read life hashed).kept ≡ map_of (set slots index (raised_slot read life hashed))) bytes
+    (insert_there slots index read (record { entry = read.kept.entry; live_until = life }) s there
+    ∙ ap (λ (p : read.key_hash.0 ≡ sha256 read.key). map_of (set slots index (raised_slot read life p))) (one_proof read read.hashed hashed))
 
 no_entries_in : (es : List (List ℕ × Kept)) → length es ≡ 0 → es ≡ []
 no_entries_in [] e = refl

@@ -10,7 +10,7 @@ use Rattle.std.proofs.Common.{◌≡◌, ℕ, get_or, zero, suc, ◌+◌, ◌<�
 use Rattle.std.proofs.lemmas.Bool.{cases_lt}
 use Rattle.std.proofs.lemmas.Option.{slice_get_read}
 use Rattle.entry_map.specs.declared.slot.Slot.{Slot}
-use Rattle.entry_map.specs.Slots.{pairs_of, AreSorted, IsPlace}
+use Rattle.entry_map.specs.Slots.{pairs_of, AreSorted, IsIndexOf}
 
 abbrev pub order : List ℕ → List ℕ → Ordering
 order a b = slice_cmp nat_cmp a b
@@ -42,7 +42,7 @@ greater_not_equal o p q = cc
 less_not_equal : (o : Ordering) → o ≡ Less → o ≡ Equal → ⊥
 less_not_equal o p q = cc
 
--- ---- places in order
+-- ---- indices in order
 
 later : (key : List ℕ) (slots : List Slot) (j : ℕ) (b : Slot) → below_all order key (pairs_of slots) ≡ true → slice_get slots j ≡ Some b → order key b.key ≡ Less
 later key [] j b h at = cc
@@ -67,11 +67,11 @@ greater_turned a b e = nat_list_cmp_total.antisymm b a ∙ ap ordering_reverse e
 less_turned : (a b : List ℕ) → order a b ≡ Greater → order b a ≡ Less
 less_turned a b e = nat_list_cmp_total.antisymm b a ∙ ap ordering_reverse e
 
--- the key is above each slot before this place
+-- the key is above each slot before this index
 abbrev pub AllBelow : List Slot → ℕ → List ℕ → Type 0
 AllBelow slots low key = (j : ℕ) (slot : Slot) → j < low → slice_get slots j ≡ Some slot → order key slot.key ≡ Greater
 
--- and below each from this place on
+-- and below each from this index on
 abbrev pub AllAbove : List Slot → ℕ → List ℕ → Type 0
 AllAbove slots high key = (j : ℕ) (slot : Slot) → high ≤ j → slice_get slots j ≡ Some slot → order key slot.key ≡ Less
 
@@ -83,8 +83,8 @@ below_middle slots i a key s at above j b lt there =
       | inl earlier ↦
           greater_turned b.key key (nat_list_cmp_total.trans b.key a.key key (rising slots j i b a s earlier there at) (less_turned key a.key above))
       | inr same ↦
-          let place : j ≡ i = omega arith in
-          let slot : b ≡ a = some_is b a (sym there ∙ ap (slice_get slots) place ∙ at) in
+          let index : j ≡ i = omega arith in
+          let slot : b ≡ a = some_is b a (sym there ∙ ap (slice_get slots) index ∙ at) in
           ap (λ (y : Slot). order key y.key) slot ∙ above
     ]
 
@@ -93,8 +93,8 @@ above_middle slots i a key s at below j b le there =
     elim (cases_lt i j) [
       | inl later ↦ nat_list_cmp_total.trans key a.key b.key below (rising slots i j a b s later at there)
       | inr same ↦
-          let place : j ≡ i = omega arith in
-          let slot : b ≡ a = some_is b a (sym there ∙ ap (slice_get slots) place ∙ at) in
+          let index : j ≡ i = omega arith in
+          let slot : b ≡ a = some_is b a (sym there ∙ ap (slice_get slots) index ∙ at) in
           ap (λ (y : Slot). order key y.key) slot ∙ below
     ]
 
@@ -115,23 +115,23 @@ absent slots low high key met below above =
 
 -- ---- the slot that is looked at
 
--- a slot that was read at a place, where its key was compared
-pub record Looks (slots : List Slot) (place : ℕ) (key : List ℕ) (answer : Ordering) : Type 0 where
+-- a slot that was read at a index, where its key was compared
+pub record Looks (slots : List Slot) (index : ℕ) (key : List ℕ) (answer : Ordering) : Type 0 where
   pub slot : Slot
-  pub there : slice_get slots place ≡ Some slot
+  pub there : slice_get slots index ≡ Some slot
   pub answered : order key slot.key ≡ answer
 
-pub looks : (slots : List Slot) (place : ℕ) (slot : Slot) (key bytes : List ℕ) (result answer : Ordering) → place < length slots
-    → slot ≡ get_or slots place slot → bytes ≡ (get_or slots place slot).key → result ≡ order key bytes → result ≡ answer
-    → Looks slots place key answer
-looks slots place slot key bytes result answer within read text compared is = record {
+pub looks : (slots : List Slot) (index : ℕ) (slot : Slot) (key bytes : List ℕ) (result answer : Ordering) → index < length slots
+    → slot ≡ get_or slots index slot → bytes ≡ (get_or slots index slot).key → result ≡ order key bytes → result ≡ answer
+    → Looks slots index key answer
+looks slots index slot key bytes result answer within read text compared is = record {
   slot = slot;
-  there = slice_get_read slots (length slots) place slot refl within read;
+  there = slice_get_read slots (length slots) index slot refl within read;
   answered = ap (λ (s : Slot). order key s.key) read ∙ ap (order key) (sym text) ∙ sym compared ∙ is;
 }
 
-pub found : (slots : List Slot) (place : ℕ) (key : List ℕ) → Looks slots place key Equal → IsPlace slots place key
-found slots place key l = record {
+pub found : (slots : List Slot) (index : ℕ) (key : List ℕ) → Looks slots index key Equal → IsIndexOf slots index key
+found slots index key l = record {
   slot = l.slot;
   there = l.there;
   keyed = sym (slice_cmp-IsAntisymmetric nat_cmp-IsAntisymmetric key l.slot.key l.answered);

@@ -1,4 +1,4 @@
-//! Ledger entries in the order of their keys' XDR bytes.
+//! The entries of a ledger, sorted by their keys' XDR bytes.
 #![tactic(auto)]
 
 mod map;
@@ -7,6 +7,3 @@ mod slot;
 
 pub use map::EntryMap;
 pub use slot::Slot;
-
-#[cfg(test)]
-mod tests;

@@ -8,7 +8,7 @@ ghost use Rattle.ledger_spec.specs.LedgerMap.{find as find_in, IsLedgerMap, IsKe
 ghost use Rattle.ledger_spec.specs.Changes.{raise as raise_in};
 ghost use Rattle.entry_map.specs.Slots.{pairs_of, is_last};
 
-use crate::search::place_of;
+use crate::search::index_of;
 use crate::slot::Slot;
 use ledger_spec::Kept;
 use ledger_types::LedgerKey;
@@ -16,8 +16,8 @@ use std::alloc::Global;
 use std::marker::Model;
 use xdr_core::NoMemory;
 
-/// The entries of a ledger in the order of their keys' XDR bytes, which are kept beside them. A look-up takes as many
-/// comparisons as the number of entries has binary digits, and no memory.
+/// The entries of a ledger, sorted by their keys' XDR bytes, which the map keeps beside them. A look-up takes O(log n)
+/// comparisons and no memory.
 #[derive(Drop)]
 pub struct EntryMap {
     slots: Vec<Slot>,
@@ -40,7 +40,7 @@ impl Model for EntryMap {
     ghost invariant = { λ m. AreSlots m.slots.items };
 }
 
-/// The later of the last ledgers of two lives.
+/// Returns the later of two live-until ledgers.
 fn later(one: u32, other: u32) -> u32
     ensures { result ≡ max one other }
 {
@@ -48,7 +48,7 @@ fn later(one: u32, other: u32) -> u32
 }
 
 impl EntryMap {
-    /// Without entries.
+    /// Makes a map without entries.
     pub fn new(alloc: Global) -> EntryMap
         ensures { result ≡ empty }
     {
@@ -57,7 +57,7 @@ impl EntryMap {
         }
     }
 
-    /// The entries and the bytes of their keys, in order.
+    /// Returns the entries with the bytes of their keys, sorted by these bytes.
     pub fn as_slice(&self) -> &[Slot]
         ensures slots { pairs_of result.now ≡ entries self.now }
         ensures entries { IsLedgerMap self.now }
@@ -65,7 +65,7 @@ impl EntryMap {
         &self.slots
     }
 
-    /// Whether a count can tell one entry more.
+    /// Whether the map has as many entries as a 32-bit count can hold.
     pub fn is_full(&self) -> bool
         ensures { IsTrue result ↔ (2 ^ 32 ≤ len self.now + 1) }
     {
@@ -73,7 +73,7 @@ impl EntryMap {
         slots.len() >= 4_294_967_295
     }
 
-    /// Adds an entry whose key comes after all others.
+    /// Adds an entry whose key is above all others.
     pub fn push(&mut self, slot: Slot) -> Result<(), NoMemory>
         requires last { IsTrue (is_last self.old slot.key) }
         requires kept { IsKeptAt slot.key slot.kept }
@@ -85,25 +85,25 @@ impl EntryMap {
         Ok(())
     }
 
-    /// What is kept at a key.
+    /// Finds the entry at a key.
     pub fn find(&self, key: &LedgerKey) -> Option<&Kept>
         requires { key_format.fits key.now }
         ensures found { option_copied result ≡ find_in self.now key.now }
         ensures map { IsLedgerMap self.now }
     {
-        match place_of(&self.slots, key) {
-            Some(place) => Some(&self.slots[place].kept),
+        match index_of(&self.slots, key) {
+            Some(index) => Some(&self.slots[index].kept),
             None => None,
         }
     }
 
-    /// Lets what is kept at a key, if it is there, live at least until a ledger.
+    /// Raises the live-until ledger of the entry at a key, if there is one, to at least this ledger.
     pub fn raise(&mut self, key: &LedgerKey, live_until: u32)
         requires { key_format.fits key.now }
         ensures { self.new ≡ raise_in self.old key.now live_until }
     {
-        if let Some(place) = place_of(&self.slots, key) {
-            let kept = &mut self.slots[place].kept;
+        if let Some(index) = index_of(&self.slots, key) {
+            let kept = &mut self.slots[index].kept;
             kept.live_until = later(kept.live_until, live_until);
         }
     }

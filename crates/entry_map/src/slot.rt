@@ -1,4 +1,4 @@
-//! What a map keeps of one entry.
+//! One entry of a map.
 
 ghost use Rattle.std.specs.Prelude.{◌≡◌};
 ghost use Rattle.sha2.specs.Sha256.{sha256};
@@ -6,8 +6,8 @@ ghost use Rattle.sha2.specs.Sha256.{sha256};
 use ledger_spec::Kept;
 use value_types::{Blob, Hash};
 
-/// The bytes of a key, their SHA-256, and what is kept there. A ledger's file and the lines that show it tell the hash of
-/// each key, so it is kept, and computed once.
+/// The bytes of a key, their SHA-256, and the entry there. The ledger's file and the lines of `show` contain the hash of
+/// each key, so the map keeps it.
 #[derive(Drop)]
 pub struct Slot {
     pub key: Blob,

@@ -1,52 +1,29 @@
--- An asset: the number of a type, and then what that type wants (XDR file Stellar-ledger-entries, `AssetType` and `Asset`).
-use Rattle.std.specs.Prelude.{◌≡◌, ◌<◌, ◌^◌, List, [], ◌∷◌, ℕ, Option, Some, None}
-use Rattle.std.proofs.Common.{refl, ap, arith}
-use Rattle.xdr_spec.specs.Format.{Format, pair, arm, nothing, union, enumeration, find_kind}
+-- An asset: the number of a type, and the body of that type (XDR file Stellar-ledger-entries, `AssetType` and `Asset`).
+use Rattle.std.specs.Prelude.{◌≡◌, Bool, true, false, Option, Some, None}
+use Rattle.std.proofs.Common.{refl, ap}
+use Rattle.xdr_spec.specs.Format.{Format, pair, arm, nothing, never, union_among}
 use Rattle.xdr_spec.specs.Laws.{IsFormat}
 use Rattle.xdr_spec.proofs.Pairs.{pair_lawful, nothing_lawful}
 use Rattle.xdr_spec.proofs.Remade.{arm_lawful, arm_kind}
-use Rattle.xdr_spec.proofs.Derived.{union_lawful, enumeration_lawful, find_kind-back}
+use Rattle.xdr_spec.proofs.Derived.{find_kind-back}
+use Rattle.xdr_spec.proofs.Among.{some_kinds_lawful}
 use Rattle.value_types.specs.AccountId.{account_id_format, account_id_lawful}
 use Rattle.value_types.specs.declared.account_id.AccountId.{AccountId}
 use Rattle.ledger_types.specs.AssetCode.{code4_format, code4_lawful, code12_format, code12_lawful}
 use Rattle.ledger_types.specs.declared.asset.AssetCode4.{AssetCode4}
 use Rattle.ledger_types.specs.declared.asset.AssetCode12.{AssetCode12}
-use Rattle.invoke_types.specs.declared.asset.AssetType.{AssetType}
-use Rattle.invoke_types.specs.declared.asset.AssetType.TheVariants as types
+use Rattle.ledger_types.specs.TrustLineAsset.{number, all, kind_of, small, there}
+use Rattle.ledger_types.specs.declared.asset.AssetType.{AssetType}
+use Rattle.ledger_types.specs.declared.asset.AssetType.TheVariants as types
 use Rattle.invoke_types.specs.declared.asset.Asset.{Asset}
 use Rattle.invoke_types.specs.declared.asset.Asset.TheVariants as assets
 
--- ---- the types
-
-abbrev pub number : AssetType → ℕ
-number types.Native = 0
-number types.CreditAlphanum4 = 1
-number types.CreditAlphanum12 = 2
-
-abbrev pub all : List AssetType
-all = types.Native ∷ types.CreditAlphanum4 ∷ types.CreditAlphanum12 ∷ []
-
-abbrev pub kind_of : ℕ → Option AssetType
-kind_of = find_kind number all
-
-unfoldable pub type_format : Format AssetType
-type_format = enumeration number kind_of
-
-small : (k : AssetType) → number k < 2 ^ 32
-small types.Native = omega arith
-small types.CreditAlphanum4 = omega arith
-small types.CreditAlphanum12 = omega arith
-
-pub there : (k : AssetType) → kind_of (number k) ≡ Some k
-there types.Native = refl
-there types.CreditAlphanum4 = refl
-there types.CreditAlphanum12 = refl
-
-pub type_lawful : IsFormat type_format
-unfolding type_format
-type_lawful = enumeration_lawful number kind_of types.Native small there (find_kind-back number all)
-
--- ---- the assets
+-- every type but shares of pools
+abbrev pub is_asset : AssetType → Bool
+is_asset types.Native = true
+is_asset types.CreditAlphanum4 = true
+is_asset types.CreditAlphanum12 = true
+is_asset types.PoolShare = false
 
 abbrev pub kind : Asset → AssetType
 kind assets.Native = types.Native
@@ -71,9 +48,10 @@ abbrev pub arms : AssetType → Format Asset
 arms types.Native = nothing assets.Native
 arms types.CreditAlphanum4 = arm alphanum4_of as_alphanum4 (pair code4_format account_id_format)
 arms types.CreditAlphanum12 = arm alphanum12_of as_alphanum12 (pair code12_format account_id_format)
+arms types.PoolShare = never
 
 unfoldable pub asset_format : Format Asset
-asset_format = union number kind_of kind arms
+asset_format = union_among is_asset number kind_of kind arms
 
 back_alphanum4 : (v : Asset) (x : AssetCode4 × AccountId) → as_alphanum4 v ≡ Some x → alphanum4_of x ≡ v
 back_alphanum4 (assets.CreditAlphanum4 code issuer) x e = cc
@@ -83,20 +61,23 @@ back_alphanum12 : (v : Asset) (x : AssetCode12 × AccountId) → as_alphanum12 v
 back_alphanum12 (assets.CreditAlphanum12 code issuer) x e = cc
 back_alphanum12 _ x e = absurd cc
 
-arms_lawful : (k : AssetType) → IsFormat (arms k)
-arms_lawful types.Native = nothing_lawful assets.Native
-arms_lawful types.CreditAlphanum4 = arm_lawful alphanum4_of as_alphanum4 _ (λ x. refl) back_alphanum4 (pair_lawful _ _ code4_lawful account_id_lawful)
-arms_lawful types.CreditAlphanum12 = arm_lawful alphanum12_of as_alphanum12 _ (λ x. refl) back_alphanum12 (pair_lawful _ _ code12_lawful account_id_lawful)
+arms_lawful : (k : AssetType) → is_asset k ≡ true → IsFormat (arms k)
+arms_lawful types.Native e = nothing_lawful assets.Native
+arms_lawful types.CreditAlphanum4 e = arm_lawful alphanum4_of as_alphanum4 _ (λ x. refl) back_alphanum4 (pair_lawful _ _ code4_lawful account_id_lawful)
+arms_lawful types.CreditAlphanum12 e = arm_lawful alphanum12_of as_alphanum12 _ (λ x. refl) back_alphanum12 (pair_lawful _ _ code12_lawful account_id_lawful)
+arms_lawful types.PoolShare e = absurd cc
 
-coherent : (k : AssetType) (v : Asset) → (arms k).fits v → kind v ≡ k
-coherent types.Native v h = ap kind h
-coherent types.CreditAlphanum4 v h = arm_kind kind types.CreditAlphanum4 alphanum4_of as_alphanum4 (pair code4_format account_id_format) (λ x. refl) back_alphanum4 v h
-coherent types.CreditAlphanum12 v h = arm_kind kind types.CreditAlphanum12 alphanum12_of as_alphanum12 (pair code12_format account_id_format) (λ x. refl) back_alphanum12 v h
+coherent : (k : AssetType) (v : Asset) → is_asset k ≡ true → (arms k).fits v → kind v ≡ k
+coherent types.Native v e h = ap kind h
+coherent types.CreditAlphanum4 v e h = arm_kind kind types.CreditAlphanum4 alphanum4_of as_alphanum4 (pair code4_format account_id_format) (λ x. refl) back_alphanum4 v h
+coherent types.CreditAlphanum12 v e h = arm_kind kind types.CreditAlphanum12 alphanum12_of as_alphanum12 (pair code12_format account_id_format) (λ x. refl) back_alphanum12 v h
+coherent types.PoolShare v e h = absurd cc
 
 pub asset_lawful : IsFormat asset_format
 unfolding asset_format
-asset_lawful = union_lawful number kind_of kind arms (record {
+asset_lawful = some_kinds_lawful is_asset number kind_of kind arms (record {
   some = types.Native;
+  some_allowed = refl;
   small = small;
   there = there;
   back = find_kind-back number all;

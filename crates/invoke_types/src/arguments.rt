@@ -1,4 +1,4 @@
-//! What contracts are called with, and what they are made of.
+//! The arguments of calls and creates.
 
 ghost use Rattle.std.specs.Prelude.{◌≡◌, ⊤};
 ghost use Rattle.invoke_types.specs.Arguments.{invoke_format, invoke_lawful, create_format, create_lawful, create_v2_format, create_v2_lawful};
@@ -10,7 +10,7 @@ use value_types::{Bytes, Executable, Items, ScAddress, ScVal};
 use value_xdr::Xdr;
 use xdr_core::{Cursor, NoMemory, Out, ReadXdr, add_sizes};
 
-/// The call of a function of a contract (the XDR files' `InvokeContractArgs`).
+/// A call of a contract's function (the XDR files' `InvokeContractArgs`).
 #[derive(Drop)]
 pub struct InvokeContractArgs {
     pub contract: ScAddress,
@@ -62,12 +62,12 @@ impl Xdr for InvokeContractArgs {
     ghost lawful = { invoke_lawful };
 }
 
-/// A contract to be made (the XDR files' `CreateContractArgs`).
+/// A create without a constructor (the XDR files' `CreateContractArgs`).
 #[derive(Debug, PartialEq, Eq)]
 pub struct CreateContractArgs {
-    /// What its id is made of.
+    /// The preimage of the contract's id.
     pub preimage: Preimage,
-    /// What it runs.
+    /// The executable of the contract.
     pub executable: Executable,
 }
 
@@ -108,12 +108,12 @@ impl Xdr for CreateContractArgs {
     ghost lawful = { create_lawful };
 }
 
-/// A contract to be made, and what its constructor is called with (the XDR files' `CreateContractArgsV2`).
+/// A create with arguments for the constructor (the XDR files' `CreateContractArgsV2`).
 #[derive(Drop)]
 pub struct CreateContractArgsV2 {
-    /// What its id is made of.
+    /// The preimage of the contract's id.
     pub preimage: Preimage,
-    /// What it runs.
+    /// The executable of the contract.
     pub executable: Executable,
     pub constructor_args: Items<ScVal, 4294967295>,
 }

@@ -1,71 +1,14 @@
 //! Assets.
 
-ghost use Rattle.std.specs.Prelude.{◌≡◌, ⊤};
+ghost use Rattle.std.specs.Prelude.{◌≡◌, ⊤, true};
 ghost use Rattle.xdr_core.specs.Reads.{Reads};
-ghost use Rattle.invoke_types.specs.Asset.{number, kind_of, kind, type_format, type_lawful, arms, asset_format, asset_lawful};
+ghost use Rattle.invoke_types.specs.Asset.{is_asset, kind, arms, asset_format, asset_lawful};
 
-use ledger_types::{AssetCode4, AssetCode12};
+use ledger_types::{AssetCode4, AssetCode12, AssetType};
 use std::alloc::{AllocError, Global};
 use value_types::AccountId;
 use value_xdr::Xdr;
 use xdr_core::{Cursor, NoMemory, Out, ReadXdr, Why, XdrErr, add_sizes};
-
-/// What an asset is (the XDR files' `AssetType`, without shares of pools).
-#[derive(Clone, Copy, Debug, PartialEq, Eq)]
-pub enum AssetType {
-    Native,
-    CreditAlphanum4,
-    CreditAlphanum12,
-}
-
-impl AssetType {
-    /// The constant of this number, if there is one (RFC 4506, section 4.3).
-    pub fn from_number(number: u32) -> Option<AssetType>
-        ensures { result ≡ kind_of number }
-    {
-        match number {
-            0 => Some(AssetType::Native),
-            1 => Some(AssetType::CreditAlphanum4),
-            2 => Some(AssetType::CreditAlphanum12),
-            _ => None,
-        }
-    }
-
-    /// Its number (RFC 4506, section 4.3).
-    pub fn number(self) -> u32
-        ensures { result ≡ number self }
-    {
-        match self {
-            AssetType::Native => 0,
-            AssetType::CreditAlphanum4 => 1,
-            AssetType::CreditAlphanum12 => 2,
-        }
-    }
-}
-
-#[tactic(auto, unfolding(crate::specs::Asset::type_format, xdr_core::specs::Sizes::capped))]
-impl Xdr for AssetType {
-    ghost format = { type_format };
-
-    fn read_parts(_alloc: Global, input: &mut Cursor<'_>) -> Result<AssetType, ReadXdr> {
-        let place = input.place();
-        let number = input.u32()?;
-        AssetType::from_number(number).ok_or(ReadXdr::Bad(XdrErr {
-            at: place,
-            why: Why::Tag,
-        }))
-    }
-
-    fn write_parts(&self, out: &mut Out) -> Result<(), NoMemory> {
-        out.put_u32(self.number())
-    }
-
-    fn size(&self) -> u64 {
-        4
-    }
-
-    ghost lawful = { type_lawful };
-}
 
 /// An asset of the network (the XDR files' `Asset`).
 #[derive(Debug, PartialEq, Eq)]
@@ -97,7 +40,7 @@ impl Clone for Asset {
 impl Copy for Asset {}
 
 impl Asset {
-    /// Which arm it is (RFC 4506, section 4.15).
+    /// The discriminant of the union (RFC 4506, section 4.15).
     pub fn kind(self) -> AssetType
         ensures { result ≡ kind self }
     {
@@ -110,6 +53,7 @@ impl Asset {
 }
 
 fn read_arm(alloc: Global, input: &mut Cursor<'_>, kind: AssetType) -> Result<Asset, ReadXdr>
+    requires { is_asset kind ≡ true }
     ensures { Reads (arms kind).read input.old input.new result }
 {
     match kind {
@@ -124,15 +68,23 @@ fn read_arm(alloc: Global, input: &mut Cursor<'_>, kind: AssetType) -> Result<As
             let issuer = AccountId::read(alloc, input)?;
             Ok(Asset::CreditAlphanum12 { code, issuer })
         }
+        AssetType::PoolShare => unreachable!(),
     }
 }
 
-#[tactic(auto, unfolding(crate::specs::Asset::asset_format, crate::specs::Asset::type_format, xdr_core::specs::Sizes::capped))]
+#[tactic(auto, unfolding(crate::specs::Asset::asset_format, ledger_types::specs::TrustLineAsset::type_format, xdr_core::specs::Sizes::capped))]
 impl Xdr for Asset {
     ghost format = { asset_format };
 
     fn read_parts(alloc: Global, input: &mut Cursor<'_>) -> Result<Asset, ReadXdr> {
+        let place = input.place();
         let kind = AssetType::read(alloc, input)?;
+        if kind == AssetType::PoolShare {
+            return Err(ReadXdr::Bad(XdrErr {
+                at: place,
+                why: Why::Tag,
+            }));
+        }
         read_arm(alloc, input, kind)
     }
 

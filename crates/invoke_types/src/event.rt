@@ -9,16 +9,16 @@ use value_types::{Hash, Items, ScVal};
 use value_xdr::{Xdr, read_head};
 use xdr_core::{Cursor, NoMemory, Out, ReadXdr, Why, XdrErr, add_sizes};
 
-/// The number of an extension point that has nothing.
+/// The number of an empty extension point.
 const NO_EXTENSION: u32 = 0;
 
 /// The number of the only form of an event's body.
 const BODY: u32 = 0;
 
-/// How many bytes the two numbers have.
+/// The length of the two numbers in bytes.
 const HEADS_SIZE: u64 = 8;
 
-/// Whose event it is (the XDR files' `ContractEventType`).
+/// The types of events (the XDR files' `ContractEventType`).
 #[derive(Clone, Copy, Debug, PartialEq, Eq)]
 pub enum ContractEventType {
     System,
@@ -27,7 +27,7 @@ pub enum ContractEventType {
 }
 
 impl ContractEventType {
-    /// The constant of this number, if there is one (RFC 4506, section 4.3).
+    /// The variant with this number, or `None` if no variant has it (RFC 4506, section 4.3).
     pub fn from_number(number: u32) -> Option<ContractEventType>
         ensures { result ≡ kind_of number }
     {
@@ -39,7 +39,7 @@ impl ContractEventType {
         }
     }
 
-    /// Its number (RFC 4506, section 4.3).
+    /// The number of the variant (RFC 4506, section 4.3).
     pub fn number(self) -> u32
         ensures { result ≡ number self }
     {

@@ -1,4 +1,4 @@
-//! What an authorisation lets happen.
+//! Authorised functions.
 
 ghost use Rattle.std.specs.Prelude.{◌≡◌};
 ghost use Rattle.xdr_core.specs.Reads.{Reads};
@@ -9,7 +9,7 @@ use std::alloc::{AllocError, Global};
 use value_xdr::Xdr;
 use xdr_core::{Cursor, NoMemory, Out, ReadXdr, Why, XdrErr, add_sizes};
 
-/// What kind of thing an authorisation lets happen (the XDR files' `SorobanAuthorizedFunctionType`).
+/// The types of authorised functions (the XDR files' `SorobanAuthorizedFunctionType`).
 #[derive(Clone, Copy, Debug, PartialEq, Eq)]
 pub enum FunctionType {
     ContractFn,
@@ -18,7 +18,7 @@ pub enum FunctionType {
 }
 
 impl FunctionType {
-    /// The constant of this number, if there is one (RFC 4506, section 4.3).
+    /// The variant with this number, or `None` if no variant has it (RFC 4506, section 4.3).
     pub fn from_number(number: u32) -> Option<FunctionType>
         ensures { result ≡ kind_of number }
     {
@@ -30,7 +30,7 @@ impl FunctionType {
         }
     }
 
-    /// Its number (RFC 4506, section 4.3).
+    /// The number of the variant (RFC 4506, section 4.3).
     pub fn number(self) -> u32
         ensures { result ≡ number self }
     {
@@ -66,14 +66,14 @@ impl Xdr for FunctionType {
     ghost lawful = { type_lawful };
 }
 
-/// What an authorisation lets happen (the XDR files' `SorobanAuthorizedFunction`).
+/// The function that a node of an authorisation allows (the XDR files' `SorobanAuthorizedFunction`).
 #[derive(Drop)]
 pub enum Function {
     /// 0: a call of a function of a contract.
     ContractFn(InvokeContractArgs),
-    /// 1: the making of a contract.
+    /// 1: a create.
     CreateContract(CreateContractArgs),
-    /// 2: the making of a contract with a constructor.
+    /// 2: a create with a constructor.
     CreateContractV2(CreateContractArgsV2),
 }
 
@@ -90,7 +90,7 @@ impl Clone for Function {
 }
 
 impl Function {
-    /// Which arm it is (RFC 4506, section 4.15).
+    /// The discriminant of the union (RFC 4506, section 4.15).
     pub fn kind(&self) -> FunctionType
         ensures { result ≡ kind self.now }
     {

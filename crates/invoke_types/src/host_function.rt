@@ -1,4 +1,4 @@
-//! What a transaction has the host do.
+//! Host functions: what an operation calls.
 
 ghost use Rattle.std.specs.Prelude.{◌≡◌};
 ghost use Rattle.xdr_core.specs.Reads.{Reads};
@@ -10,7 +10,7 @@ use value_types::Blob;
 use value_xdr::{Xdr, read_blob, size_of_blob, write_blob};
 use xdr_core::{Cursor, NoMemory, Out, ReadXdr, Why, XdrErr, add_sizes};
 
-/// What kind of thing the host does (the XDR files' `HostFunctionType`).
+/// The types of host functions (the XDR files' `HostFunctionType`).
 #[derive(Clone, Copy, Debug, PartialEq, Eq)]
 pub enum HostFunctionType {
     InvokeContract,
@@ -20,7 +20,7 @@ pub enum HostFunctionType {
 }
 
 impl HostFunctionType {
-    /// The constant of this number, if there is one (RFC 4506, section 4.3).
+    /// The variant with this number, or `None` if no variant has it (RFC 4506, section 4.3).
     pub fn from_number(number: u32) -> Option<HostFunctionType>
         ensures { result ≡ kind_of number }
     {
@@ -33,7 +33,7 @@ impl HostFunctionType {
         }
     }
 
-    /// Its number (RFC 4506, section 4.3).
+    /// The number of the variant (RFC 4506, section 4.3).
     pub fn number(self) -> u32
         ensures { result ≡ number self }
     {
@@ -70,16 +70,16 @@ impl Xdr for HostFunctionType {
     ghost lawful = { type_lawful };
 }
 
-/// What a transaction has the host do (the XDR files' `HostFunction`).
+/// The host function that an operation calls (the XDR files' `HostFunction`).
 #[derive(Drop)]
 pub enum HostFunction {
     /// 0: calls a function of a contract.
     InvokeContract(InvokeContractArgs),
-    /// 1: makes a contract.
+    /// 1: creates a contract.
     CreateContract(CreateContractArgs),
     /// 2: uploads a WebAssembly module.
     UploadContractWasm(Blob),
-    /// 3: makes a contract and calls its constructor.
+    /// 3: creates a contract and calls its constructor.
     CreateContractV2(CreateContractArgsV2),
 }
 
@@ -101,7 +101,7 @@ impl Clone for HostFunction {
 }
 
 impl HostFunction {
-    /// Which arm it is (RFC 4506, section 4.15).
+    /// The discriminant of the union (RFC 4506, section 4.15).
     pub fn kind(&self) -> HostFunctionType
         ensures { result ≡ kind self.now }
     {

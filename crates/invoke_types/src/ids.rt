@@ -17,7 +17,7 @@ use value_types::Hash;
 use value_xdr::Xdr;
 use xdr_core::{NoMemory, Out};
 
-/// The number of what is hashed for the id of a contract (ENVELOPE_TYPE_CONTRACT_ID).
+/// The envelope type of a contract id's preimage (ENVELOPE_TYPE_CONTRACT_ID).
 const ENVELOPE_TYPE_CONTRACT_ID: u32 = 8;
 
 /// The id of the contract on the network with this id: the SHA-256 of the envelope type, the network's id and the preimage.
@@ -35,7 +35,7 @@ pub fn contract_id(alloc: Global, network: &Hash, preimage: &Preimage) -> Result
     Ok(Hash(Sha256::digest(payload.as_slice())))
 }
 
-/// How many bytes are hashed for the id of a contract that an account deploys, and for one that a contract deploys.
+/// The number of hashed bytes: 112 if an account deploys the contract, 108 if a contract does.
 pub fn contract_id_lengths()
     ensures account { (network : HashData) (deployer : AccountId) (salt : HashData) → hash_format.fits network
         → account_id_format.fits deployer → hash_format.fits salt

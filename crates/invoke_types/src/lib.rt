@@ -1,5 +1,4 @@
-//! What a contract transaction invokes and what comes of it, and how it is spelled: host functions, events and the ids of
-//! contracts (the Stellar XDR files, under RFC 4506).
+//! Host functions, contract events and the ids of contracts, with their codecs (the Stellar XDR files, under RFC 4506).
 #![tactic(auto)]
 
 mod arguments;
@@ -13,7 +12,7 @@ mod success;
 mod values;
 
 pub use arguments::{CreateContractArgs, CreateContractArgsV2, InvokeContractArgs};
-pub use asset::{Asset, AssetType};
+pub use asset::Asset;
 pub use event::{ContractEvent, ContractEventType};
 pub use function::{Function, FunctionType};
 pub use host_function::{HostFunction, HostFunctionType};
@@ -21,6 +20,3 @@ pub use ids::{contract_id, contract_id_lengths};
 pub use preimage::{Preimage, PreimageType};
 pub use success::SuccessPreimage;
 pub use values::clone_values;
-
-#[cfg(test)]
-mod tests;

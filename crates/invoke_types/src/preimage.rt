@@ -1,4 +1,4 @@
-//! What the ids of contracts are made of.
+//! Preimages of contract ids.
 
 ghost use Rattle.std.specs.Prelude.{◌≡◌, ⊤};
 ghost use Rattle.xdr_core.specs.Reads.{Reads};
@@ -10,7 +10,7 @@ use value_types::{Hash, ScAddress};
 use value_xdr::Xdr;
 use xdr_core::{Cursor, NoMemory, Out, ReadXdr, Why, XdrErr, add_sizes};
 
-/// What the id of a contract comes from (the XDR files' `ContractIDPreimageType`).
+/// The types of preimages of contract ids (the XDR files' `ContractIDPreimageType`).
 #[derive(Clone, Copy, Debug, PartialEq, Eq)]
 pub enum PreimageType {
     FromAddress,
@@ -18,7 +18,7 @@ pub enum PreimageType {
 }
 
 impl PreimageType {
-    /// The constant of this number, if there is one (RFC 4506, section 4.3).
+    /// The variant with this number, or `None` if no variant has it (RFC 4506, section 4.3).
     pub fn from_number(number: u32) -> Option<PreimageType>
         ensures { result ≡ kind_of number }
     {
@@ -29,7 +29,7 @@ impl PreimageType {
         }
     }
 
-    /// Its number (RFC 4506, section 4.3).
+    /// The number of the variant (RFC 4506, section 4.3).
     pub fn number(self) -> u32
         ensures { result ≡ number self }
     {
@@ -64,12 +64,12 @@ impl Xdr for PreimageType {
     ghost lawful = { type_lawful };
 }
 
-/// What the id of a contract is made of (the XDR files' `ContractIDPreimage`).
+/// The preimage of a contract's id (the XDR files' `ContractIDPreimage`).
 #[derive(Debug, PartialEq, Eq)]
 pub enum Preimage {
-    /// 0: who deploys the contract, and 32 bytes of their choice.
+    /// 0: the address of the deployer, and 32 bytes of its choice.
     FromAddress { address: ScAddress, salt: Hash },
-    /// 1: the asset whose contract it is.
+    /// 1: the asset that the contract is for.
     FromAsset(Asset),
 }
 
@@ -86,7 +86,7 @@ impl Clone for Preimage {
 impl Copy for Preimage {}
 
 impl Preimage {
-    /// Which arm it is (RFC 4506, section 4.15).
+    /// The discriminant of the union (RFC 4506, section 4.15).
     pub fn kind(self) -> PreimageType
         ensures { result ≡ kind self }
     {

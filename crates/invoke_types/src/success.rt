@@ -1,4 +1,4 @@
-//! What becomes of a host function that succeeded.
+//! Success preimages.
 
 ghost use Rattle.std.specs.Prelude.{◌≡◌, IfOk};
 ghost use Rattle.invoke_types.specs.Success.{success_format, success_lawful};
@@ -9,14 +9,15 @@ use value_types::{Items, ScVal};
 use value_xdr::Xdr;
 use xdr_core::{Cursor, NoMemory, Out, ReadXdr, add_sizes};
 
-/// What is hashed into the result of a host function that succeeded (the XDR files' `InvokeHostFunctionSuccessPreImage`).
+/// The preimage of the hash in the result of a successful host function (the XDR files' `InvokeHostFunctionSuccessPreImage`):
+/// its return value and its events.
 #[derive(Drop)]
 pub struct SuccessPreimage {
     pub return_value: ScVal,
     pub events: Items<ContractEvent, 4294967295>,
 }
 
-/// The same events.
+/// Clones the events.
 fn clone_events(
     events: &Items<ContractEvent, 4294967295>,
 ) -> Result<Items<ContractEvent, 4294967295>, AllocError>

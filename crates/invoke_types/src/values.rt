@@ -1,11 +1,11 @@
-//! Values in a row.
+//! Lists of values.
 
 ghost use Rattle.std.specs.Prelude.{◌≡◌, IfOk};
 
 use std::alloc::AllocError;
 use value_types::{Items, ScVal};
 
-/// The same values.
+/// Clones the values.
 pub fn clone_values(
     values: &Items<ScVal, 4294967295>,
 ) -> Result<Items<ScVal, 4294967295>, AllocError>

@@ -58,16 +58,16 @@ answer-after (r ∷ rest) (x ∷ bytes) =
 
 -- ---- many bytes at once
 
-pub after-within : (front rest bytes : List ℕ) → length bytes ≡ length front
-    → after (record { rest = front ++ rest; order = Equal }) bytes ≡ met rest (slice_cmp nat_cmp bytes front)
+pub after-within : (prefix rest bytes : List ℕ) → length bytes ≡ length prefix
+    → after (record { rest = prefix ++ rest; order = Equal }) bytes ≡ met rest (slice_cmp nat_cmp bytes prefix)
 unfolding after
 after-within [] rest [] e = refl
 after-within [] rest (x ∷ bytes) e = absurd (omega arith)
-after-within (f ∷ front) rest [] e = absurd (omega arith)
-after-within (f ∷ front) rest (x ∷ bytes) e =
-    elim (nat_cmp x f) as (λ o. after (met (front ++ rest) o) bytes ≡ met rest (ordering_then o (slice_cmp nat_cmp bytes front))) [
+after-within (f ∷ prefix) rest [] e = absurd (omega arith)
+after-within (f ∷ prefix) rest (x ∷ bytes) e =
+    elim (nat_cmp x f) as (λ o. after (met (prefix ++ rest) o) bytes ≡ met rest (ordering_then o (slice_cmp nat_cmp bytes prefix))) [
       | Less ↦ after-less [] bytes
-      | Equal ↦ after-within front rest bytes (omega arith)
+      | Equal ↦ after-within prefix rest bytes (omega arith)
       | Greater ↦ after-greater [] bytes
     ]
 

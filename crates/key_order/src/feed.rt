@@ -1,4 +1,4 @@
-//! Types whose spellings come to a matcher.
+//! Types whose XDR bytes a matcher compares.
 
 ghost use Rattle.std.specs.Prelude.{◌≡◌};
 ghost use Rattle.key_order.specs.Matched.{after};
@@ -7,9 +7,9 @@ use crate::matcher::Matcher;
 use value_types::{Bytes, Hash};
 use value_xdr::Xdr;
 
-/// A type whose spelling can come to a matcher.
+/// A type whose XDR bytes a matcher can compare.
 pub trait Feed: Xdr {
-    /// The value's spelling comes.
+    /// Compares the value's XDR bytes.
     fn feed(&self, to: &mut Matcher<'_>)
         requires { Self.format.fits self.now }
         ensures { to.new ≡ after to.old (Self.format.spell self.now) };

@@ -96,7 +96,7 @@ impl Feed for LedgerKey {
     }
 }
 
-/// How a key's spelling compares with the bytes of another's. It takes no memory.
+/// Compares a key's XDR bytes with those of another key. It takes no memory.
 pub fn compare_key(key: &LedgerKey, bytes: &[u8]) -> Ordering
     requires { key_format.fits key.now }
     ensures { result ≡ slice_cmp nat_cmp (key_format.spell key.now) bytes.now }

@@ -1,4 +1,4 @@
-//! How a ledger key compares with the bytes of another, found without spelling it and without memory.
+//! Compares a ledger key with the XDR bytes of another, without writing its own bytes and without memory.
 #![tactic(auto)]
 
 mod feed;
@@ -10,6 +10,3 @@ mod values;
 pub use feed::Feed;
 pub use keys::compare_key;
 pub use matcher::Matcher;
-
-#[cfg(test)]
-mod tests;

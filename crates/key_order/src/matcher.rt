@@ -1,4 +1,4 @@
-//! Bytes that are compared with others as they come.
+//! Compares bytes with others, piece by piece.
 
 ghost use Rattle.std.specs.Prelude.{◌≡◌, ◌<◌, ◌≤◌, ◌^◌, ◌++◌, [], drop, length};
 ghost use Rattle.std.specs.Int.{w32, w64, to_be_bytes};
@@ -12,7 +12,7 @@ use std::marker::Model;
 
 const ZEROS: [u8; 4] = [0; 4];
 
-/// What is left of the bytes to compare with, and how those before compared.
+/// The comparison so far, and the bytes that are left to compare with.
 #[derive(Drop)]
 pub struct Matcher<'a> {
     rest: &'a [u8],
@@ -27,8 +27,8 @@ impl<'a> Model for Matcher<'a> {
     ghost view = { λ m. record { rest = m.rest.now; order = m.order } };
 }
 
-/// How bytes compare with what is left, and how many of that no longer count.
-fn front_order(bytes: &[u8], rest: &[u8]) -> (Ordering, usize)
+/// Compares bytes with the rest. Also returns how many bytes of the rest are used up.
+fn prefix_order(bytes: &[u8], rest: &[u8]) -> (Ordering, usize)
     ensures order { record { rest = drop result.1 rest.now; order = result.0 } ≡ after (record { rest = rest.now; order = Ordering.Equal }) bytes.now }
     ensures within { result.1 ≤ length rest.now }
 {
@@ -45,7 +45,7 @@ fn front_order(bytes: &[u8], rest: &[u8]) -> (Ordering, usize)
 }
 
 impl<'a> Matcher<'a> {
-    /// Nothing has come yet.
+    /// Starts a comparison with these bytes.
     pub fn new(bytes: &'a [u8]) -> Matcher<'a>
         ensures { result ≡ record { rest = bytes.now; order = Ordering.Equal } }
     {
@@ -55,32 +55,32 @@ impl<'a> Matcher<'a> {
         }
     }
 
-    /// Some bytes come.
+    /// Compares the next bytes.
     pub fn put(&mut self, bytes: &[u8])
         ensures { self.new ≡ after self.old bytes.now }
     {
         if self.order == Ordering::Equal {
-            let (order, used) = front_order(bytes, self.rest);
+            let (order, used) = prefix_order(bytes, self.rest);
             self.order = order;
             self.rest = &self.rest[used..];
         }
     }
 
-    /// A word comes.
+    /// Compares the next four bytes.
     pub fn put_u32(&mut self, number: u32)
         ensures { self.new ≡ after self.old (to_be_bytes w32 number) }
     {
         self.put(&number.to_be_bytes());
     }
 
-    /// Two words come.
+    /// Compares the next eight bytes.
     pub fn put_u64(&mut self, number: u64)
         ensures { self.new ≡ after self.old (to_be_bytes w64 number) }
     {
         self.put(&number.to_be_bytes());
     }
 
-    /// Bytes come behind their number, and the zeros that fill their last word.
+    /// Compares an opaque of variable length: its length, its bytes and its padding.
     #[tactic(auto, using(crate::proofs::Coming::after_append))]
     pub fn put_opaque(&mut self, bytes: &[u8])
         requires { length bytes.now < 2 ^ 32 }
@@ -91,7 +91,7 @@ impl<'a> Matcher<'a> {
         self.put(&ZEROS[..(4 - bytes.len() % 4) % 4]);
     }
 
-    /// How all bytes that came compare with those to compare with.
+    /// Returns how all bytes so far compare with the bytes that `new` got.
     pub fn finish(&self) -> Ordering
         ensures { result ≡ ordering_then self.now.order (slice_cmp nat_cmp [] self.now.rest) }
     {

@@ -20,7 +20,7 @@ fn feed_blob(blob: &Blob, to: &mut Matcher<'_>)
     to.put_opaque(blob.as_slice());
 }
 
-/// The number of the value's type comes, and what follows it.
+/// Compares the number of the value's type, and then its body.
 #[cycle(feed)]
 #[tactic(auto, using(crate::proofs::Coming::after_append, crate::proofs::Coming::after_word))]
 pub fn feed_value(value: &ScVal, to: &mut Matcher<'_>)

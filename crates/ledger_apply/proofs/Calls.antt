@@ -21,7 +21,7 @@ use Rattle.tx_results.specs.declared.results.TransactionOutcome.{TransactionOutc
 use Rattle.tx_results.specs.declared.results.TransactionResultPair.{TransactionResultPair}
 use Rattle.apply_spec.specs.Checks.{footprint_of, refusal_of, checks_of, first_failed}
 use Rattle.apply_spec.specs.Enforced.{Enforced, enforced, unless_refused, first_performed, performed, may_extend}
-use Rattle.apply_spec.specs.Runs.{Running, before, run_transaction, run_cluster, run_next_cluster, run_stage, run_set, running_header, success_preimages}
+use Rattle.apply_spec.specs.Runs.{RunState, before, run_transaction, run_cluster, run_next_cluster, run_stage, run_set, running_header, success_preimages}
 use Rattle.tx_xdr.specs.Stages.{stages_of}
 use Rattle.ledger_apply.proofs.On.{recursion_append}
 
@@ -61,24 +61,24 @@ enforced_nothing header entries tx =
 abbrev PairCallsNothing : TransactionResultPair → Type 0
 PairCallsNothing pair = CallsNothing pair.result.outcome
 
-abbrev Quiet : Running → Type 0
+abbrev Quiet : RunState → Type 0
 Quiet running = AllByRecursion PairCallsNothing running.results
 
 fold_keeps : {A B : Type 0} (P : B → Type 0) (f : B → A → B) → ((b : B) (x : A) → P b → P (f b x)) → (b : B) (xs : List A) → P b → P (fold f b xs)
 fold_keeps P f keeps b [] h = h
 fold_keeps P f keeps b (x ∷ xs) h = fold_keeps P f keeps (f b x) xs (keeps b x h)
 
-transaction_quiet : (header : Header) (running : Running) (envelope : Envelope) → Quiet running → Quiet (run_transaction header running envelope)
+transaction_quiet : (header : Header) (running : RunState) (envelope : Envelope) → Quiet running → Quiet (run_transaction header running envelope)
 transaction_quiet header running envelope h =
     recursion_append PairCallsNothing running.results _ h (enforced_nothing header (before envelope.tx running).entries envelope.tx, tt)
 
 cluster_quiet : (header : Header) (entries : LedgerMap) (cluster : Cluster) → Quiet (run_cluster header entries cluster)
 cluster_quiet header entries cluster = fold_keeps Quiet (run_transaction header) (transaction_quiet header) _ cluster.envelopes tt
 
-next_quiet : (header : Header) (running : Running) (cluster : Cluster) → Quiet running → Quiet (run_next_cluster header running cluster)
+next_quiet : (header : Header) (running : RunState) (cluster : Cluster) → Quiet running → Quiet (run_next_cluster header running cluster)
 next_quiet header running cluster h = recursion_append PairCallsNothing running.results _ h (cluster_quiet header running.entries cluster)
 
-stage_quiet : (header : Header) (running : Running) (stage : Stage) → Quiet running → Quiet (run_stage header running stage)
+stage_quiet : (header : Header) (running : RunState) (stage : Stage) → Quiet running → Quiet (run_stage header running stage)
 stage_quiet header running stage h = fold_keeps Quiet (run_next_cluster header) (next_quiet header) running stage.clusters h
 
 set_quiet : (header : Header) (entries : LedgerMap) (set : TxSet) (close_time : ℕ) → Quiet (run_set header entries set close_time)

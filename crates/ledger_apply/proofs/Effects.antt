@@ -7,7 +7,7 @@ use Rattle.ledger_types.specs.declared.key.LedgerKey.{LedgerKey}
 use Rattle.ledger_types.specs.declared.header.Header.{Header}
 use Rattle.ledger_spec.specs.LedgerMap.{LedgerMap}
 use Rattle.ledger_spec.specs.Seen.{Seen, live, absent, archived, seen}
-use Rattle.tx_xdr.specs.Limits.{today}
+use Rattle.tx_xdr.specs.SetBounds.{today}
 use Rattle.tx_results.specs.Results.{outcome_format}
 use Rattle.tx_results.proofs.Fits.{extend_fits, not_supported_fits, success_fits, failed_fits, too_early_fits, too_late_fits, missing_operation_fits, malformed_fits, soroban_invalid_fits}
 use Rattle.tx_xdr.specs.Transaction.{transaction_format}

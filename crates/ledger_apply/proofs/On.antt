@@ -7,8 +7,8 @@ use Rattle.std.proofs.Math.Seq.{take-length}
 use Rattle.std.proofs.lemmas.List.Sums.{fold-append}
 use Rattle.ledger_types.specs.declared.header.Header.{Header}
 use Rattle.tx_results.specs.declared.results.TransactionResultPair.{TransactionResultPair}
-use Rattle.ledger_apply.specs.declared.running.Running.{Running as State}
-use Rattle.ledger_apply.specs.declared.running.RunningCluster.{RunningCluster as ClusterState}
+use Rattle.ledger_apply.specs.declared.running.SetRun.{SetRun as State}
+use Rattle.ledger_apply.specs.declared.running.ClusterRun.{ClusterRun as ClusterState}
 use Rattle.ledger_apply.specs.State.{IsOn, IsOnInCluster}
 
 -- on one header, and so on an equal one

@@ -5,7 +5,7 @@ use Rattle.std.proofs.lemmas.List.Elements.{All-from_recursion, All-nil}
 use Rattle.xdr_spec.specs.Format.{list}
 use Rattle.ledger_types.specs.Key.{key_format}
 use Rattle.ledger_types.specs.declared.key.LedgerKey.{LedgerKey}
-use Rattle.tx_xdr.specs.Limits.{today, takes_operation}
+use Rattle.tx_xdr.specs.SetBounds.{today, takes_operation}
 use Rattle.tx_xdr.specs.Operation.{kind, body_format, operation_format}
 use Rattle.tx_xdr.specs.Soroban.{footprint_format, soroban_format}
 use Rattle.tx_xdr.specs.Ext.{ext_format}

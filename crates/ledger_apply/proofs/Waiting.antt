@@ -47,12 +47,12 @@ module _ (look new : Awaiting) (bytes : List ℕ) (is : (q : List ℕ) → new q
   abbrev others : Extension → Bool
   others e = not (has_bytes bytes e)
 
-  awaited_new : (e : Extension) (place : ℕ) → is_awaited (new (key_bytes e.key)) place ≡ cond (has_bytes bytes e) false (is_awaited (look (key_bytes e.key)) place)
-  awaited_new e place =
-      ap (λ o. is_awaited o place) (is (key_bytes e.key) ∙ ap (λ b. cond b None (look (key_bytes e.key))) (symmetric bytes (key_bytes e.key)))
+  awaited_new : (e : Extension) (index : ℕ) → is_awaited (new (key_bytes e.key)) index ≡ cond (has_bytes bytes e) false (is_awaited (look (key_bytes e.key)) index)
+  awaited_new e index =
+      ap (λ o. is_awaited o index) (is (key_bytes e.key) ∙ ap (λ b. cond b None (look (key_bytes e.key))) (symmetric bytes (key_bytes e.key)))
       ∙ pushed (has_bytes bytes e)
     where
-      pushed : (b : Bool) → is_awaited (cond b None (look (key_bytes e.key))) place ≡ cond b false (is_awaited (look (key_bytes e.key)) place)
+      pushed : (b : Bool) → is_awaited (cond b None (look (key_bytes e.key))) index ≡ cond b false (is_awaited (look (key_bytes e.key)) index)
       pushed true = refl
       pushed false = refl
 
@@ -63,11 +63,11 @@ module _ (look new : Awaiting) (bytes : List ℕ) (is : (q : List ℕ) → new q
   step false true e old left here same = ap (λ l. e ∷ l) same ∙ sym (ap (λ x. cond (not x) (e ∷ filter others old) (filter others old)) here)
   step false false e old left here same = same
 
-  pub taken_out : (place : ℕ) (row : List Extension) → still_pending new place row ≡ filter others (still_pending look place row)
-  taken_out place [] = refl
-  taken_out place (e ∷ row) =
-      ap (λ b. cond b (e ∷ still_pending new (place + 1) row) (still_pending new (place + 1) row)) (awaited_new e place)
-      ∙ step (has_bytes bytes e) (is_awaited (look (key_bytes e.key)) place) e _ _ refl (taken_out (place + 1) row)
+  pub taken_out : (index : ℕ) (row : List Extension) → still_pending new index row ≡ filter others (still_pending look index row)
+  taken_out index [] = refl
+  taken_out index (e ∷ row) =
+      ap (λ b. cond b (e ∷ still_pending new (index + 1) row) (still_pending new (index + 1) row)) (awaited_new e index)
+      ∙ step (has_bytes bytes e) (is_awaited (look (key_bytes e.key)) index) e _ _ refl (taken_out (index + 1) row)
 
   -- those of another key are the same
   kept_step : (q : List ℕ) (e : Extension) (a b : Bool) (old new : List Extension) → has_bytes q e ≡ a → has_bytes bytes e ≡ b → (a ≡ true → b ≡ false) → filter (has_bytes q) new ≡ filter (has_bytes q) old
@@ -108,36 +108,36 @@ module _ (look new : Awaiting) (bytes : List ℕ) (is : (q : List ℕ) → new q
 
 -- ---- nothing of a key is pending where nothing is kept for it
 
-pub none_of : (look : Awaiting) (bytes : List ℕ) → look bytes ≡ None → (place : ℕ) (row : List Extension) → filter (has_bytes bytes) (still_pending look place row) ≡ []
-none_of look bytes none place [] = refl
-none_of look bytes none place (e ∷ row) =
-    none_step (is_awaited (look (key_bytes e.key)) place) (has_bytes bytes e) refl
-    (λ here. ap (λ o. is_awaited o place) (ap look ((bytes_eq-Decides (key_bytes e.key) bytes).0 here) ∙ none)) (none_of look bytes none (place + 1) row)
+pub none_of : (look : Awaiting) (bytes : List ℕ) → look bytes ≡ None → (index : ℕ) (row : List Extension) → filter (has_bytes bytes) (still_pending look index row) ≡ []
+none_of look bytes none index [] = refl
+none_of look bytes none index (e ∷ row) =
+    none_step (is_awaited (look (key_bytes e.key)) index) (has_bytes bytes e) refl
+    (λ here. ap (λ o. is_awaited o index) (ap look ((bytes_eq-Decides (key_bytes e.key) bytes).0 here) ∙ none)) (none_of look bytes none (index + 1) row)
   where
-    none_step : (c b : Bool) → has_bytes bytes e ≡ b → (b ≡ true → c ≡ false) → filter (has_bytes bytes) (still_pending look (place + 1) row) ≡ []
-        → filter (has_bytes bytes) (cond c (e ∷ still_pending look (place + 1) row) (still_pending look (place + 1) row)) ≡ []
+    none_step : (c b : Bool) → has_bytes bytes e ≡ b → (b ≡ true → c ≡ false) → filter (has_bytes bytes) (still_pending look (index + 1) row) ≡ []
+        → filter (has_bytes bytes) (cond c (e ∷ still_pending look (index + 1) row) (still_pending look (index + 1) row)) ≡ []
     none_step true true here never rest = let f : true ≡ false = never refl in absurd cc
-    none_step true false here never rest = ap (λ x. cond x (e ∷ filter (has_bytes bytes) (still_pending look (place + 1) row)) (filter (has_bytes bytes) (still_pending look (place + 1) row))) here ∙ rest
+    none_step true false here never rest = ap (λ x. cond x (e ∷ filter (has_bytes bytes) (still_pending look (index + 1) row)) (filter (has_bytes bytes) (still_pending look (index + 1) row))) here ∙ rest
     none_step false b here never rest = rest
 
 -- ---- one more that is pending
 
-append_pending : (look : Awaiting) (place : ℕ) (row : List Extension) (x : Extension)
-    → still_pending look place (row ++ x ∷ []) ≡ still_pending look place row ++ cond (is_awaited (look (key_bytes x.key)) (place + length row)) (x ∷ []) []
-append_pending look place [] x = ap (λ p. cond (is_awaited (look (key_bytes x.key)) p) (x ∷ []) []) (place_is place)
+append_pending : (look : Awaiting) (index : ℕ) (row : List Extension) (x : Extension)
+    → still_pending look index (row ++ x ∷ []) ≡ still_pending look index row ++ cond (is_awaited (look (key_bytes x.key)) (index + length row)) (x ∷ []) []
+append_pending look index [] x = ap (λ p. cond (is_awaited (look (key_bytes x.key)) p) (x ∷ []) []) (index_is index)
   where
-    place_is : (p : ℕ) → p ≡ p + 0
-    place_is p = omega arith
-append_pending look place (e ∷ row) x =
-    append_step (is_awaited (look (key_bytes e.key)) place) e _ _ _
-    (append_pending look (place + 1) row x ∙ ap (λ p. still_pending look (place + 1) row ++ cond (is_awaited (look (key_bytes x.key)) p) (x ∷ []) []) (place_after place (length row)))
+    index_is : (p : ℕ) → p ≡ p + 0
+    index_is p = omega arith
+append_pending look index (e ∷ row) x =
+    append_step (is_awaited (look (key_bytes e.key)) index) e _ _ _
+    (append_pending look (index + 1) row x ∙ ap (λ p. still_pending look (index + 1) row ++ cond (is_awaited (look (key_bytes x.key)) p) (x ∷ []) []) (index_after index (length row)))
   where
-    place_after : (p n : ℕ) → (p + 1) + n ≡ p + suc n
-    place_after p n = omega arith
+    index_after : (p n : ℕ) → (p + 1) + n ≡ p + suc n
+    index_after p n = omega arith
 
-    append_step : (b : Bool) (e : Extension) (whole front back : List Extension) → whole ≡ front ++ back → cond b (e ∷ whole) whole ≡ cond b (e ∷ front) front ++ back
-    append_step true e whole front back h = ap (λ l. e ∷ l) h
-    append_step false e whole front back h = h
+    append_step : (b : Bool) (e : Extension) (whole prefix back : List Extension) → whole ≡ prefix ++ back → cond b (e ∷ whole) whole ≡ cond b (e ∷ prefix) prefix ++ back
+    append_step true e whole prefix back h = ap (λ l. e ∷ l) h
+    append_step false e whole prefix back h = h
 
 longest_append : (xs : List Extension) (x : Extension) → longest (xs ++ x ∷ []) ≡ max (longest xs) x.live_until
 longest_append [] x = grind arith
@@ -149,27 +149,27 @@ longest_append (e ∷ xs) x = ap (max e.live_until) (longest_append xs x) ∙ jo
 -- what is kept of a key from then on
 pub record Joins (look : Awaiting) (row : List Extension) (x : Extension) (w : Awaited) : Type 0 where
   pub early : w.since ≤ length row
-  pub same : (place : ℕ) → place < length row → is_awaited (Some w) place ≡ is_awaited (look (key_bytes x.key)) place
+  pub same : (index : ℕ) → index < length row → is_awaited (Some w) index ≡ is_awaited (look (key_bytes x.key)) index
   pub life : w.live_until ≡ max (longest (filter (has_bytes (key_bytes x.key)) (still_pending look 0 row))) x.live_until
 
 pub joins_none : (look : Awaiting) (row : List Extension) (x : Extension) (w : Awaited) → look (key_bytes x.key) ≡ None → w.since ≡ length row → w.live_until ≡ x.live_until → Joins look row x w
 joins_none look row x w none since life = record {
   early = omega arith;
-  same = λ place lt. later place (leb w.since place) refl lt ∙ sym (ap (λ o. is_awaited o place) none);
+  same = λ index lt. later index (leb w.since index) refl lt ∙ sym (ap (λ o. is_awaited o index) none);
   life = life ∙ zero_max x.live_until ∙ sym (ap (λ l. max (longest l) x.live_until) (none_of look (key_bytes x.key) none 0 row));
 }
   where
     zero_max : (a : ℕ) → a ≡ max 0 a
     zero_max a = omega arith
 
-    later : (place : ℕ) (b : Bool) → leb w.since place ≡ b → place < length row → b ≡ false
-    later place true e lt = let le : w.since ≤ place = leb-true _ _ e in absurd (omega arith)
-    later place false e lt = refl
+    later : (index : ℕ) (b : Bool) → leb w.since index ≡ b → index < length row → b ≡ false
+    later index true e lt = let le : w.since ≤ index = leb-true _ _ e in absurd (omega arith)
+    later index false e lt = refl
 
 pub joins_some : (look : Awaiting) (row : List Extension) (x : Extension) (w old : Awaited) → IsAwaiting look row → look (key_bytes x.key) ≡ Some old → w.since ≡ old.since → w.live_until ≡ max old.live_until x.live_until → Joins look row x w
 joins_some look row x w old a some since life = record {
   early = let le : old.since ≤ length row = a.since (key_bytes x.key) old some in omega arith;
-  same = λ place lt. ap (λ s. leb s place) since ∙ sym (ap (λ o. is_awaited o place) some);
+  same = λ index lt. ap (λ s. leb s index) since ∙ sym (ap (λ o. is_awaited o index) some);
   life = life ∙ ap (λ n. max n x.live_until) (a.longest_life (key_bytes x.key) old some);
 }
 
@@ -183,17 +183,17 @@ module _ (look new : Awaiting) (row : List Extension) (x : Extension) (w : Await
   itself : bytes_eq (key_bytes x.key) (key_bytes x.key) ≡ true
   itself = (bytes_eq-Decides (key_bytes x.key) (key_bytes x.key)).1 refl
 
-  same_awaited : (q : List ℕ) (place : ℕ) → place < length row → is_awaited (new q) place ≡ is_awaited (look q) place
-  same_awaited q place lt = ap (λ o. is_awaited o place) (is q) ∙ chosen (bytes_eq (key_bytes x.key) q) refl
+  same_awaited : (q : List ℕ) (index : ℕ) → index < length row → is_awaited (new q) index ≡ is_awaited (look q) index
+  same_awaited q index lt = ap (λ o. is_awaited o index) (is q) ∙ chosen (bytes_eq (key_bytes x.key) q) refl
     where
-      chosen : (b : Bool) → bytes_eq (key_bytes x.key) q ≡ b → is_awaited (cond b (Some w) (look q)) place ≡ is_awaited (look q) place
-      chosen true here = joins.same place lt ∙ ap (λ (k : List ℕ). is_awaited (look k) place) ((bytes_eq-Decides (key_bytes x.key) q).0 here)
+      chosen : (b : Bool) → bytes_eq (key_bytes x.key) q ≡ b → is_awaited (cond b (Some w) (look q)) index ≡ is_awaited (look q) index
+      chosen true here = joins.same index lt ∙ ap (λ (k : List ℕ). is_awaited (look k) index) ((bytes_eq-Decides (key_bytes x.key) q).0 here)
       chosen false here = refl
 
-  same_row : (place : ℕ) (xs : List Extension) → place + length xs ≤ length row → still_pending new place xs ≡ still_pending look place xs
-  same_row place [] le = refl
-  same_row place (e ∷ xs) le =
-      ap₂ (λ (b : Bool) (l : List Extension). cond b (e ∷ l) l) (same_awaited (key_bytes e.key) place (omega arith)) (same_row (place + 1) xs (omega arith))
+  same_row : (index : ℕ) (xs : List Extension) → index + length xs ≤ length row → still_pending new index xs ≡ still_pending look index xs
+  same_row index [] le = refl
+  same_row index (e ∷ xs) le =
+      ap₂ (λ (b : Bool) (l : List Extension). cond b (e ∷ l) l) (same_awaited (key_bytes e.key) index (omega arith)) (same_row (index + 1) xs (omega arith))
 
   last_awaited : is_awaited (new (key_bytes x.key)) (0 + length row) ≡ true
   last_awaited = ap (λ o. is_awaited o (0 + length row)) (is (key_bytes x.key) ∙ ap (λ b. cond b (Some w) (look (key_bytes x.key))) itself) ∙ le-leb _ _ (early (length row) joins.early)
@@ -248,15 +248,15 @@ pub pending_more : (look : Awaiting) (yielded : List Extension) (e : Extension) 
 pending_more look yielded e before after awaited so_far here is =
     is ∙ ap (λ l. cond awaited (l ++ e ∷ []) l) so_far
     ∙ pushed awaited (still_pending look 0 yielded)
-    ∙ ap (λ b. still_pending look 0 yielded ++ cond b (e ∷ []) []) (here ∙ ap (is_awaited (look (key_bytes e.key))) (place_is (length yielded)))
+    ∙ ap (λ b. still_pending look 0 yielded ++ cond b (e ∷ []) []) (here ∙ ap (is_awaited (look (key_bytes e.key))) (index_is (length yielded)))
     ∙ sym (append_pending look 0 yielded e)
   where
     pushed : (b : Bool) (l : List Extension) → cond b (l ++ e ∷ []) l ≡ l ++ cond b (e ∷ []) []
     pushed true l = refl
     pushed false l = sym (append-nil l)
 
-    place_is : (n : ℕ) → n ≡ 0 + n
-    place_is n = omega arith
+    index_is : (n : ℕ) → n ≡ 0 + n
+    index_is n = omega arith
 
 -- what holds of each that is left holds of the next, and of those behind it
 pub next_of : (P : Extension → Type 0) (left : List Extension) (x : Extension) (rest : List Extension) → left ≡ x ∷ rest → All P left → P x

@@ -8,7 +8,7 @@ use Rattle.tx_results.specs.declared.results.TransactionResultPair.{TransactionR
 use Rattle.tx_xdr.specs.declared.transaction.Transaction.{Transaction}
 use Rattle.apply_spec.specs.declared.Extension.{Extension}
 use Rattle.apply_spec.specs.Checks.{footprint_of, has_key, is_key}
-use Rattle.apply_spec.specs.Runs.{Running, before, put_all_in}
+use Rattle.apply_spec.specs.Runs.{RunState, before, put_all_in}
 use Rattle.ledger_apply.proofs.Raising.{either, neither, put_in_either, left_by_neither}
 
 -- the extension's key is one of these
@@ -68,8 +68,8 @@ put_for_more keys i key lt is entries before after pending one two so_far put le
 -- what is written was put in, and the others are still pending
 pub before_is : (tx : Transaction) (keys : List LedgerKey) (entries after : LedgerMap) (pending left : List Extension) (results : List TransactionResultPair)
     → keys ≡ (footprint_of tx).read_write → PutFor keys entries after pending left
-    → (let s : Running = record { entries = after; pending = left; results = results } in s) ≡ before tx (record { entries = entries; pending = pending; results = results })
+    → (let s : RunState = record { entries = after; pending = left; results = results } in s) ≡ before tx (record { entries = entries; pending = pending; results = results })
 before_is tx keys entries after pending left results e put =
-    ap₂ (λ (x : LedgerMap) (y : List Extension). let s : Running = record { entries = x; pending = y; results = results } in s)
+    ap₂ (λ (x : LedgerMap) (y : List Extension). let s : RunState = record { entries = x; pending = y; results = results } in s)
     (put.entered ∙ ap (λ (ks : List LedgerKey). put_all_in entries (filter (written ks) pending)) e)
     (put.kept ∙ ap (λ (ks : List LedgerKey). filter (neither (written ks)) pending) e)

@@ -1,5 +1,5 @@
--- Extensions that are pending in a cluster, as they are kept: all that came, and for each key that has some pending the
--- place from which on they are pending and the longest life among them (own).
+-- How a cluster's pending extensions are kept (own): the list of all extensions so far, and for each key with pending
+-- extensions the index of the first one and the greatest live-until ledger among them.
 use Rattle.std.specs.Prelude.{◌≡◌, ◌≤◌, ◌+◌, ℕ, Vec, Bool, false, List, [], ◌∷◌, All, length, filter, max, Option, Some, None, nat_le, if◌then◌else◌}
 use Rattle.std.specs.BTreeMap.{BTreeMap, get_by}
 use Rattle.std.specs.Cmp.Lexicographic.{slice_cmp}
@@ -11,7 +11,7 @@ use Rattle.ledger_spec.specs.LedgerMap.{key_bytes}
 use Rattle.apply_spec.specs.declared.Extension.{Extension}
 use Rattle.ledger_apply.specs.declared.pending.Awaited.{Awaited}
 
--- what is pending of the key with a spelling
+-- the pending extensions of the key with these bytes
 abbrev pub Awaiting : Type 0
 Awaiting = List ℕ → Option Awaited
 
@@ -19,15 +19,15 @@ abbrev pub awaiting : {Z : Type 0} → BTreeMap (Vec ℕ Z) Awaited → Awaiting
 awaiting by_key bytes = get_by (λ k. slice_cmp nat_cmp bytes k.items) by_key
 
 abbrev pub is_awaited : Option Awaited → ℕ → Bool
-is_awaited None place = false
-is_awaited (Some awaited) place = nat_le awaited.since place
+is_awaited None index = false
+is_awaited (Some awaited) index = nat_le awaited.since index
 
--- those of a row, from a place on, that are still pending
+-- the extensions of a list that are still pending, where `index` is that of the first
 abbrev pub still_pending : Awaiting → ℕ → List Extension → List Extension
-still_pending look place [] = []
-still_pending look place (extension ∷ row) =
-    if is_awaited (look (key_bytes extension.key)) place then extension ∷ still_pending look (place + 1) row
-    else still_pending look (place + 1) row
+still_pending look index [] = []
+still_pending look index (extension ∷ row) =
+    if is_awaited (look (key_bytes extension.key)) index then extension ∷ still_pending look (index + 1) row
+    else still_pending look (index + 1) row
 
 abbrev pub has_bytes : List ℕ → Extension → Bool
 has_bytes bytes extension = bytes_eq (key_bytes extension.key) bytes
@@ -36,7 +36,7 @@ abbrev pub longest : List Extension → ℕ
 longest [] = 0
 longest (extension ∷ rest) = max extension.live_until (longest rest)
 
--- what is kept of a row for its keys
+-- what is kept for the keys of a list of extensions
 pub record IsAwaiting (look : Awaiting) (row : List Extension) : Type 0 where
   pub spelled : All (λ e. key_format.fits e.key) row
   pub since : (bytes : List ℕ) → ForSome (look bytes) (λ awaited. awaited.since ≤ length row)

@@ -1,6 +1,6 @@
--- Sets of transactions that run today (own).
+-- Clusters and stages within the XDR formats of today's sets (own).
 use Rattle.std.specs.Prelude.{All}
-use Rattle.tx_xdr.specs.Limits.{today}
+use Rattle.tx_xdr.specs.SetBounds.{today}
 use Rattle.tx_xdr.specs.Transaction.{transaction_format}
 use Rattle.tx_xdr.specs.declared.set.Cluster.{Cluster}
 use Rattle.tx_xdr.specs.declared.set.Stage.{Stage}

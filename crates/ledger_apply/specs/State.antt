@@ -1,22 +1,22 @@
--- What the code holds, as what the meaning of a set speaks of (own).
+-- The state of the code in the terms of the definitions (own).
 use Rattle.std.specs.Prelude.{◌≡◌, ◌<◌, ◌^◌, IsTrue, All, length}
 use Rattle.std.specs.List.{AllByRecursion}
 use Rattle.ledger_types.specs.Key.{key_format}
 use Rattle.ledger_types.specs.declared.header.Header.{Header}
 use Rattle.ledger_spec.specs.LedgerFile.{are_settings, has_next}
 use Rattle.tx_results.specs.Results.{pair_format}
-use Rattle.apply_spec.specs.Runs.{Running}
-use Rattle.ledger_apply.specs.declared.running.Running.{Running as State}
-use Rattle.ledger_apply.specs.declared.running.RunningCluster.{RunningCluster as ClusterState}
+use Rattle.apply_spec.specs.Runs.{RunState}
+use Rattle.ledger_apply.specs.declared.running.SetRun.{SetRun as State}
+use Rattle.ledger_apply.specs.declared.running.ClusterRun.{ClusterRun as ClusterState}
 
-abbrev pub running_of : State → Running
+abbrev pub running_of : State → RunState
 running_of state = record { entries = state.ledger.entries; pending = state.pending.items; results = state.results.items }
 
-abbrev pub running_in_cluster : ClusterState → Running
+abbrev pub running_in_cluster : ClusterState → RunState
 running_in_cluster state = record { entries = state.ledger.entries; pending = state.pending; results = state.results.items }
 
--- The ledger has this header, another ledger may follow it, what is pending has keys that are spelled, and the results
--- have a spelling.
+-- The state has this header, and another ledger may follow it. The keys of pending extensions and the results are within
+-- their XDR formats.
 pub record IsOn (header : Header) (state : State) : Type 0 where
   pub settings : IsTrue (are_settings header.settings)
   pub next : IsTrue (has_next header)

@@ -1,30 +1,30 @@
-//! Clusters and stages.
+//! Runs clusters and stages.
 
 ghost use Rattle.std.specs.Prelude.{◌≡◌, [], All, IfOk, IsTrue};
 ghost use Rattle.ledger_spec.specs.LedgerFile.{are_settings, has_next};
-ghost use Rattle.tx_xdr.specs.Limits.{today};
+ghost use Rattle.tx_xdr.specs.SetBounds.{today};
 ghost use Rattle.tx_xdr.specs.Transaction.{transaction_format};
 ghost use Rattle.apply_spec.specs.Runs.{run_cluster as run_cluster_in, run_next_cluster as run_next_cluster_in, run_stage as run_stage_in};
 ghost use Rattle.ledger_apply.specs.State.{running_of, IsOn};
 ghost use Rattle.ledger_apply.specs.Spelled.{IsCluster, IsStage};
 
 use crate::pending::{Pending, put_all};
-use crate::running::{MOST_RESULTS, Running, RunningCluster};
+use crate::running::{ClusterRun, MOST_RESULTS, SetRun};
 use crate::step::run_transaction;
 use ledger_file::Ledger;
 use std::alloc::Global;
 use tx_xdr::{Cluster, Stage};
 use xdr_core::NoMemory;
 
-/// Runs the transactions of a cluster, one after the other, with nothing pending before.
-pub fn run_cluster(alloc: Global, ledger: Ledger, cluster: &Cluster) -> Result<Running, NoMemory>
+/// Runs the transactions of a cluster in order. A cluster starts without pending extensions.
+pub fn run_cluster(alloc: Global, ledger: Ledger, cluster: &Cluster) -> Result<SetRun, NoMemory>
     requires fits { IsCluster cluster.now }
     requires settings { IsTrue (are_settings ledger.header.settings) }
     requires next { IsTrue (has_next ledger.header) }
     ensures run { IfOk result (λ r. running_of r ≡ run_cluster_in ledger.header ledger.entries cluster.now) }
     ensures on { IfOk result (IsOn ledger.header) }
 {
-    let mut running = RunningCluster {
+    let mut running = ClusterRun {
         ledger,
         pending: Pending::new(alloc),
         results: Vec::new(alloc),
@@ -33,27 +33,27 @@ pub fn run_cluster(alloc: Global, ledger: Ledger, cluster: &Cluster) -> Result<R
     for envelope in envelopes {
         running = run_transaction(alloc, running, envelope)?;
     }
-    let RunningCluster {
+    let ClusterRun {
         ledger,
         pending,
         results,
     } = running;
     let pending = pending.into_vec(alloc)?;
-    Ok(Running {
+    Ok(SetRun {
         ledger,
         pending,
         results,
     })
 }
 
-/// Runs one more cluster of a stage.
-fn run_next_cluster(alloc: Global, running: Running, cluster: &Cluster) -> Result<Running, NoMemory>
+/// Runs the next cluster of a stage.
+fn run_next_cluster(alloc: Global, running: SetRun, cluster: &Cluster) -> Result<SetRun, NoMemory>
     requires fits { IsCluster cluster.now }
     requires on { IsOn running.ledger.header running }
     ensures run { IfOk result (λ r. running_of r ≡ run_next_cluster_in running.ledger.header (running_of running) cluster.now) }
     ensures on { IfOk result (IsOn running.ledger.header) }
 {
-    let Running {
+    let SetRun {
         ledger,
         mut pending,
         mut results,
@@ -65,15 +65,15 @@ fn run_next_cluster(alloc: Global, running: Running, cluster: &Cluster) -> Resul
     }
     pending.append(&mut done.pending)?;
     results.append(&mut done.results)?;
-    Ok(Running {
+    Ok(SetRun {
         ledger: done.ledger,
         pending,
         results,
     })
 }
 
-/// Runs the clusters of a stage, and puts in what is pending then.
-pub fn run_stage(alloc: Global, running: Running, stage: &Stage) -> Result<Running, NoMemory>
+/// Runs the clusters of a stage in order, and then puts in all pending extensions.
+pub fn run_stage(alloc: Global, running: SetRun, stage: &Stage) -> Result<SetRun, NoMemory>
     requires fits { IsStage stage.now }
     requires on { IsOn running.ledger.header running }
     ensures run { IfOk result (λ r. running_of r ≡ run_stage_in running.ledger.header (running_of running) stage.now) }
@@ -84,7 +84,7 @@ pub fn run_stage(alloc: Global, running: Running, stage: &Stage) -> Result<Runni
     for cluster in clusters {
         running = run_next_cluster(alloc, running, cluster)?;
     }
-    let Running {
+    let SetRun {
         ledger,
         pending,
         results,
@@ -94,7 +94,7 @@ pub fn run_stage(alloc: Global, running: Running, stage: &Stage) -> Result<Runni
         mut entries,
     } = ledger;
     put_all(&mut entries, &pending);
-    Ok(Running {
+    Ok(SetRun {
         ledger: Ledger { header, entries },
         pending: Vec::new(alloc),
         results,

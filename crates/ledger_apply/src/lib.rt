@@ -1,4 +1,4 @@
-//! What becomes of a transaction set over a ledger: stages, clusters and transactions one after the other.
+//! Applies a transaction set to a ledger: stages, clusters and transactions, one after the other.
 #![tactic(auto)]
 
 mod cluster;
@@ -11,9 +11,6 @@ mod step;
 pub use cluster::run_cluster;
 pub use laws::preimages_stand_with_calls;
 pub use pending::Pending;
-pub use running::{Running, RunningCluster};
+pub use running::{ClusterRun, SetRun};
 pub use set::{Applied, apply_set};
 pub use step::run_transaction;
-
-#[cfg(test)]
-mod tests;

@@ -1,4 +1,4 @@
-//! Extensions that are pending in a cluster, and their putting in by maximum.
+//! The pending extensions of a cluster.
 
 ghost use Rattle.std.specs.Prelude.{◌≡◌, ◌∷◌, ◌++◌, [], not, max, All, IfOk, OnOk, OnErr, filter, if◌then◌else◌};
 ghost use Rattle.std.specs.Option.{option_map_or};
@@ -16,15 +16,15 @@ use std::marker::Model;
 use value_xdr::encode;
 use xdr_core::NoMemory;
 
-/// What is pending of a key: the place in the row of all extensions from which on those of the key are pending, and the
-/// longest life among them.
+/// The pending extensions of one key: the index of the first one in the list of all extensions, and the greatest
+/// live-until ledger among them.
 #[derive(Clone, Copy, Debug, PartialEq, Eq)]
 pub struct Awaited {
     pub since: usize,
     pub live_until: u32,
 }
 
-/// What is pending of a key after one more, which comes at the end of the row.
+/// Adds one more extension of a key, at the end of the list.
 fn awaited_with(before: Option<Awaited>, end: usize, live_until: u32) -> Awaited
     ensures since { result.since ≡ option_map_or (λ a. a.since) before end }
     ensures life { result.live_until ≡ option_map_or (λ a. max a.live_until live_until) before live_until }
@@ -41,25 +41,25 @@ fn awaited_with(before: Option<Awaited>, end: usize, live_until: u32) -> Awaited
     }
 }
 
-/// Whether the extension at a place of the row is still pending.
-fn is_awaited(awaited: Option<Awaited>, place: usize) -> bool
-    ensures { result ≡ is_awaited_in awaited place }
+/// Whether the extension at an index of the list is still pending.
+fn is_awaited(awaited: Option<Awaited>, index: usize) -> bool
+    ensures { result ≡ is_awaited_in awaited index }
 {
     match awaited {
-        Some(awaited) => awaited.since <= place,
+        Some(awaited) => awaited.since <= index,
         None => false,
     }
 }
 
-/// The extensions that are pending, in the order in which they came. To add one, or to put in those of a key, takes as
-/// many comparisons of keys as the number of keys has binary digits.
+/// The pending extensions of a cluster, in the order in which they came. Adding one takes O(log n) comparisons of keys,
+/// and so does putting in all extensions of a key.
 ///
-/// Contracts see it as the list.
+/// Contracts see the list of the pending extensions.
 #[derive(Drop)]
 pub struct Pending {
-    /// All that came, those that were put in since included.
+    /// All extensions so far, also those that were put in.
     row: Vec<Extension>,
-    /// By a key's spelling. A key of which nothing is pending is not there.
+    /// By the XDR bytes of a key. A key without pending extensions is absent.
     by_key: BTreeMap<Vec<u8>, Awaited>,
 }
 
@@ -80,7 +80,7 @@ impl Model for Pending {
 }
 
 impl Pending {
-    /// Nothing is pending.
+    /// Makes an empty list.
     pub fn new(alloc: Global) -> Pending
         ensures { result ≡ [] }
     {
@@ -90,7 +90,7 @@ impl Pending {
         }
     }
 
-    /// One more.
+    /// Adds an extension.
     pub fn with(self, alloc: Global, extension: Extension) -> Result<Pending, NoMemory>
         requires { key_format.fits extension.key }
         ensures { IfOk result (λ p. p ≡ self ++ extension ∷ []) }
@@ -107,7 +107,7 @@ impl Pending {
         Ok(Pending { row, by_key })
     }
 
-    /// More of them, in order.
+    /// Adds extensions in their order.
     pub fn with_all(self, alloc: Global, extensions: Vec<Extension>) -> Result<Pending, NoMemory>
         requires { All (λ e. key_format.fits e.key) extensions.items }
         ensures { IfOk result (λ p. p ≡ self ++ extensions.items) }
@@ -119,7 +119,7 @@ impl Pending {
         Ok(pending)
     }
 
-    /// Puts in those of a key: what is there lives at least so long.
+    /// Puts in the pending extensions of a key: the greater live-until ledger stays.
     pub fn put_in(
         &mut self,
         alloc: Global,
@@ -138,25 +138,25 @@ impl Pending {
         Ok(())
     }
 
-    /// Those that are pending, in order.
+    /// Returns the pending extensions in order.
     pub fn into_vec(self, alloc: Global) -> Result<Vec<Extension>, NoMemory>
         ensures pending { IfOk result (λ v. v.items ≡ self) }
         ensures spelled { IfOk result (λ v. All (λ e. key_format.fits e.key) v.items) }
     {
         let Pending { row, by_key } = self;
         let mut pending = Vec::new(alloc);
-        let mut place = 0;
+        let mut index = 0;
         for extension in row {
             let key = encode(alloc, &extension.key)?;
-            let awaited = is_awaited(by_key.get(key.as_slice()).copied(), place);
+            let awaited = is_awaited(by_key.get(key.as_slice()).copied(), index);
             push_where(&mut pending, awaited, extension)?;
-            place += 1;
+            index += 1;
         }
         Ok(pending)
     }
 }
 
-/// Adds an extension where it is awaited.
+/// Adds an extension if it is still pending.
 fn push_where(
     pending: &mut Vec<Extension>,
     awaited: bool,
@@ -170,7 +170,7 @@ fn push_where(
     Ok(())
 }
 
-/// Puts extensions in: what is there lives at least so long.
+/// Puts in extensions: the greater live-until ledger stays.
 pub fn put_all(entries: &mut EntryMap, extensions: &[Extension])
     requires { All (λ e. key_format.fits e.key) extensions.now }
     ensures { entries.new ≡ put_all_in entries.old extensions.now }

@@ -1,26 +1,26 @@
-//! What has become of transactions so far.
+//! The state of a run.
 
 use crate::pending::Pending;
 use apply_spec::Extension;
 use ledger_file::Ledger;
 use tx_results::TransactionResultPair;
 
-/// The ledger so far, on the header that transactions run on; the extensions that are pending at the end of a stage; and
-/// the results.
+/// The state between clusters: the ledger so far, with the header that transactions run on; the pending extensions of the
+/// stage; and the results.
 #[derive(Drop)]
-pub struct Running {
+pub struct SetRun {
     pub ledger: Ledger,
     pub pending: Vec<Extension>,
     pub results: Vec<TransactionResultPair>,
 }
 
-/// The same within a cluster, where what is pending is found by its keys.
+/// The state between the transactions of a cluster. Its pending extensions can be found by key.
 #[derive(Drop)]
-pub struct RunningCluster {
+pub struct ClusterRun {
     pub ledger: Ledger,
     pub pending: Pending,
     pub results: Vec<TransactionResultPair>,
 }
 
-/// More results than a count can tell find no room.
+/// As many results as a 32-bit count can hold. A run with more is out of memory.
 pub const MOST_RESULTS: usize = 4_294_967_295;

@@ -1,10 +1,10 @@
-//! Transaction sets.
+//! Applies transaction sets.
 
 ghost use Rattle.std.specs.Prelude.{◌≡◌, [], All, IfOk, IsTrue, None, fold, length, map};
 ghost use Rattle.xdr_spec.specs.Format.{optional};
 ghost use Rattle.invoke_types.specs.Success.{success_format};
 ghost use Rattle.ledger_spec.specs.LedgerFile.{are_settings, has_next};
-ghost use Rattle.tx_xdr.specs.Limits.{today};
+ghost use Rattle.tx_xdr.specs.SetBounds.{today};
 ghost use Rattle.tx_xdr.specs.Set.{set_format, phase_format};
 ghost use Rattle.tx_results.specs.Results.{result_set_format};
 ghost use Rattle.apply_spec.specs.Runs.{run_stage as run_stage_in, run_set, new_header, success_preimages};
@@ -13,7 +13,7 @@ ghost use Rattle.ledger_apply.specs.State.{running_of, IsOn};
 ghost use Rattle.ledger_apply.specs.Spelled.{IsStage};
 
 use crate::cluster::run_stage;
-use crate::running::Running;
+use crate::running::SetRun;
 use invoke_types::SuccessPreimage;
 use ledger_file::Ledger;
 use ledger_types::Header;
@@ -23,16 +23,16 @@ use tx_xdr::{Phase, Stage, TxSet};
 use value_types::Items;
 use xdr_core::NoMemory;
 
-/// The ledger after a set, and in the set's order the results and what calls of contracts gave.
+/// The ledger after a set, and the results and success preimages in the set's order.
 #[derive(Drop)]
 pub struct Applied {
     pub ledger: Ledger,
     pub results: ResultSet,
-    /// For each result, where the transaction called a contract and that ended well.
+    /// One for each result: the success preimage, if the transaction called a contract and succeeded.
     pub successes: Items<Option<SuccessPreimage>, 4294967295>,
 }
 
-/// What calls of contracts gave, for each result: nothing, since none is called today.
+/// Makes the success preimages of results: none, since no set of today calls a contract.
 fn no_successes(
     alloc: Global,
     results: &[TransactionResultPair],
@@ -48,7 +48,7 @@ fn no_successes(
     Ok(successes)
 }
 
-/// The stages of a phase that runs today, which are its own.
+/// Returns the stages of a phase. A phase of today has all its stages in the list of its own.
 fn stages_of(phase: &Phase) -> &[Stage]
     requires { (phase_format today).fits phase.now }
     ensures { result.now ≡ stages_in phase.now }
@@ -56,7 +56,7 @@ fn stages_of(phase: &Phase) -> &[Stage]
     phase.stages()
 }
 
-fn run_stages(alloc: Global, running: Running, stages: &[Stage]) -> Result<Running, NoMemory>
+fn run_stages(alloc: Global, running: SetRun, stages: &[Stage]) -> Result<SetRun, NoMemory>
     requires fits { All IsStage stages.now }
     requires on { IsOn running.ledger.header running }
     ensures run { IfOk result (λ r. running_of r ≡ fold (run_stage_in running.ledger.header) (running_of running) stages.now) }
@@ -69,7 +69,7 @@ fn run_stages(alloc: Global, running: Running, stages: &[Stage]) -> Result<Runni
     Ok(running)
 }
 
-/// The ledger that follows a ledger by a set, with the close time of the new one in seconds since 1970.
+/// Applies a set to a ledger. `close_time` is that of the new ledger, in seconds since 1970.
 pub fn apply_set(
     alloc: Global,
     ledger: Ledger,
@@ -84,7 +84,7 @@ pub fn apply_set(
     ensures results { IfOk result (λ a. a.results.pairs ≡ (run_set ledger.header ledger.entries set.now close_time).results) }
     ensures successes { IfOk result (λ a. a.successes ≡ success_preimages (run_set ledger.header ledger.entries set.now close_time)) }
 
-    // So they can be written.
+    // The results and the success preimages can be written.
     ensures spelled { IfOk result (λ a. result_set_format.fits a.results) }
     ensures successes_spelled { IfOk result (λ a. All (λ s. (optional success_format).fits s) a.successes) }
     ensures each { IfOk result (λ a. length a.successes ≡ length a.results.pairs) }
@@ -94,7 +94,7 @@ pub fn apply_set(
         close_time,
         ..header
     };
-    let mut running = Running {
+    let mut running = SetRun {
         ledger: Ledger {
             header: running_header,
             entries,
@@ -106,7 +106,7 @@ pub fn apply_set(
     for phase in phases {
         running = run_stages(alloc, running, stages_of(phase))?;
     }
-    let Running {
+    let SetRun {
         ledger,
         results,
         ..

@@ -1,12 +1,12 @@
-//! One transaction in its cluster.
+//! Runs one transaction in its cluster.
 
 ghost use Rattle.std.specs.Prelude.{◌≡◌, IfOk};
-ghost use Rattle.tx_xdr.specs.Limits.{today};
+ghost use Rattle.tx_xdr.specs.SetBounds.{today};
 ghost use Rattle.tx_xdr.specs.Transaction.{transaction_format};
 ghost use Rattle.apply_spec.specs.Runs.{before, run_transaction as run_transaction_in};
 ghost use Rattle.ledger_apply.specs.State.{running_in_cluster, IsOnInCluster};
 
-use crate::running::{MOST_RESULTS, RunningCluster};
+use crate::running::{ClusterRun, MOST_RESULTS};
 use ledger_file::Ledger;
 use std::alloc::Global;
 use tx_apply::{enforce, read_write_of};
@@ -14,18 +14,14 @@ use tx_results::{TransactionResult, TransactionResultPair};
 use tx_xdr::{Envelope, Transaction, tx_hash};
 use xdr_core::NoMemory;
 
-/// Puts in what is pending of the keys that a transaction declares read-write.
-fn put_written(
-    alloc: Global,
-    running: RunningCluster,
-    tx: &Transaction,
-) -> Result<RunningCluster, NoMemory>
+/// Puts in the pending extensions of the keys that a transaction declares read-write.
+fn put_written(alloc: Global, running: ClusterRun, tx: &Transaction) -> Result<ClusterRun, NoMemory>
     requires fits { (transaction_format today).fits tx.now }
     requires on { IsOnInCluster running.ledger.header running }
     ensures run { IfOk result (λ r. running_in_cluster r ≡ before tx.now (running_in_cluster running)) }
     ensures on { IfOk result (IsOnInCluster running.ledger.header) }
 {
-    let RunningCluster {
+    let ClusterRun {
         ledger,
         mut pending,
         results,
@@ -38,28 +34,29 @@ fn put_written(
     for key in keys {
         pending.put_in(alloc, &mut entries, key)?;
     }
-    Ok(RunningCluster {
+    Ok(ClusterRun {
         ledger: Ledger { header, entries },
         pending,
         results,
     })
 }
 
-/// Runs a transaction on what its cluster has become: what it writes is put in before it, its extensions are pending
-/// after it, and its result comes last. Beside the transaction itself, this takes as many steps as it declares keys,
-/// each with as many comparisons as the number of pending keys has binary digits.
+/// Runs a transaction in its cluster.
+///
+/// Before it runs, the pending extensions of its read-write keys are put in, even if it fails. Its own extensions are
+/// pending afterwards. Both take O(log n) comparisons for each of its keys, where n is the number of pending keys.
 pub fn run_transaction(
     alloc: Global,
-    running: RunningCluster,
+    running: ClusterRun,
     envelope: &Envelope,
-) -> Result<RunningCluster, NoMemory>
+) -> Result<ClusterRun, NoMemory>
     requires fits { (transaction_format today).fits envelope.now.tx }
     requires on { IsOnInCluster running.ledger.header running }
     ensures run { IfOk result (λ r. running_in_cluster r ≡ run_transaction_in running.ledger.header (running_in_cluster running) envelope.now) }
     ensures on { IfOk result (IsOnInCluster running.ledger.header) }
 {
     let tx = &envelope.tx;
-    let RunningCluster {
+    let ClusterRun {
         ledger,
         pending,
         mut results,
@@ -78,7 +75,7 @@ pub fn run_transaction(
             outcome: done.outcome,
         },
     })?;
-    Ok(RunningCluster {
+    Ok(ClusterRun {
         ledger,
         pending,
         results,

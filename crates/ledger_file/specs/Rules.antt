@@ -1,4 +1,4 @@
--- What is wrong with a ledger's header (own).
+-- The first fault of a ledger's header (own).
 use Rattle.std.specs.Prelude.{Bool, ◌&&◌, not, Option, Some, None, if◌then◌else◌}
 use Rattle.ledger_types.specs.declared.header.Header.{Header}
 use Rattle.ledger_spec.specs.LedgerFile.{are_settings, has_next, refusal}

@@ -1,4 +1,4 @@
-//! Why no ledger was read.
+//! Errors of reading a ledger.
 
 ghost use Rattle.std.specs.Prelude.{◌≡◌};
 ghost use Rattle.ledger_file.specs.declared.error.LedgerErr.TheVariants.{NoMemory as OutOfMemory};
@@ -6,12 +6,12 @@ ghost use Rattle.ledger_file.specs.declared.error.LedgerErr.TheVariants.{NoMemor
 use ledger_spec::LedgerRefusal;
 use xdr_core::NoMemory;
 
-/// Why no ledger was read.
+/// Why a ledger was not read.
 #[derive(Clone, Copy, Debug, PartialEq, Eq)]
 pub enum LedgerErr {
-    /// The file is not that of a ledger.
+    /// The file is rejected.
     Refused(LedgerRefusal),
-    /// Memory ran out.
+    /// Out of memory.
     NoMemory,
 }
 

@@ -1,4 +1,4 @@
-//! Ledgers.
+//! A ledger in memory.
 
 ghost use Rattle.std.specs.Prelude.{◌≡◌};
 
@@ -6,7 +6,7 @@ use contract_storage::{Found, Ground};
 use entry_map::EntryMap;
 use ledger_types::{Header, LedgerKey};
 
-/// A ledger: what holds of it as a whole, and its entries.
+/// A ledger: its header and its entries.
 #[derive(Drop)]
 pub struct Ledger {
     pub header: Header,

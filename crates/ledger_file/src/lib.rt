@@ -1,4 +1,4 @@
-//! Ledgers in memory and in files, and the files of verdicts.
+//! Ledgers in memory, ledger files and verdict files.
 #![tactic(auto)]
 
 mod error;
@@ -16,6 +16,3 @@ pub use ledger::Ledger;
 pub use reading::read_ledger;
 pub use verdicts::read_verdicts;
 pub use writing::write_ledger;
-
-#[cfg(test)]
-mod tests;

@@ -1,4 +1,4 @@
-//! Ledgers read from bytes.
+//! Reads ledgers from bytes.
 
 ghost use Rattle.std.specs.Prelude.{◌≡◌, Bool, Ok, IfOk, IfErr};
 ghost use Rattle.xdr_spec.specs.Decoded.{decoded};
@@ -17,7 +17,7 @@ use std::alloc::Global;
 use value_xdr::decode;
 use xdr_core::ReadXdr;
 
-/// What a file spells.
+/// Decodes a file.
 fn read_file(alloc: Global, bytes: &[u8]) -> Result<LedgerFile, LedgerErr>
     ensures file { IfOk result (λ file. decoded file_format bytes.now ≡ Ok file) }
     ensures fits { IfOk result file_format.fits }
@@ -33,15 +33,15 @@ fn read_file(alloc: Global, bytes: &[u8]) -> Result<LedgerFile, LedgerErr>
     }
 }
 
-/// The ledger that a file holds. `follows` asks that another ledger may follow it.
+/// Reads the ledger of a file. `follows` asks that another ledger may follow it.
 ///
-/// All bytes are read first. Then the settings are judged, then the number where `follows` asks for it, then the
-/// records, one after the other, of which the first at fault decides.
+/// All bytes are decoded first. The settings are tested next, then the ledger's number if `follows` is true, and then the
+/// records in their order. The first fault decides.
 pub fn read_ledger(alloc: Global, bytes: &[u8], follows: bool) -> Result<Ledger, LedgerErr>
     ensures ledger { IfOk result (λ ledger. ledger_of follows bytes.now ≡ Ok (ledger.header, ledger.entries)) }
     ensures refused { IfErr result (IsRefusalUnlessMemory (ledger_of follows bytes.now)) }
 
-    // So it can be written again.
+    // The ledger can be written again.
     ensures header { IfOk result (λ ledger. header_format.fits ledger.header) }
 {
     let LedgerFile { header, records } = read_file(alloc, bytes)?;

@@ -1,4 +1,4 @@
-//! The records of a file, put into a map.
+//! Makes a map of a file's records.
 
 ghost use Rattle.std.specs.Prelude.{◌≡◌, ◌+◌, ◌<◌, ◌^◌, None, Ok, Err, [], ◌∷◌, ◌++◌, length, OnOk, IfOk, IfErr};
 ghost use Rattle.std.specs.FinMap.{entries as entries_of, len};
@@ -19,7 +19,7 @@ use std::alloc::Global;
 use value_types::Blob;
 use xdr_core::{NoMemory, Out};
 
-/// The spelling of the key of an entry.
+/// Writes the XDR bytes of an entry's key.
 fn spelled_key(alloc: Global, entry: &LedgerEntry) -> Result<Blob, NoMemory>
     requires { entry_format.fits entry.now }
     ensures { IfOk result (λ key. key ≡ key_bytes (key_of entry.now)) }
@@ -29,7 +29,7 @@ fn spelled_key(alloc: Global, entry: &LedgerEntry) -> Result<Blob, NoMemory>
     Ok(Blob::from_vec(out.into_vec()))
 }
 
-/// Whether the bytes of a key come after those of all entries.
+/// Whether the bytes of a key are above those of all entries.
 fn is_above(entries: &EntryMap, key: &[u8]) -> bool
     ensures { result ≡ is_above_key (last_key (entries_of entries.now)) key.now }
 {
@@ -39,7 +39,7 @@ fn is_above(entries: &EntryMap, key: &[u8]) -> bool
     }
 }
 
-/// The bytes of the key of the record that follows those of the map, unless it is at fault.
+/// Tests the record that follows those of the map, and returns the bytes of its key.
 fn judged_key(alloc: Global, entries: &EntryMap, item: &LedgerRecord) -> Result<Blob, LedgerErr>
     requires { record_format.fits item.now }
     ensures good { OnOk result (fault_of (last_key (entries_of entries.now)) item.now ≡ None) }
@@ -57,7 +57,7 @@ fn judged_key(alloc: Global, entries: &EntryMap, item: &LedgerRecord) -> Result<
     }
 }
 
-/// The value beside what was made of it.
+/// Pairs a value with the result of another call. An error drops the value.
 fn beside<T: Drop, U, E>(value: T, made: Result<U, E>) -> Result<(T, U), E>
     ensures ok { IfOk result (λ pair. (pair.0 ≡ value) × (made ≡ Ok pair.1)) }
     ensures err { IfErr result (λ e. made ≡ Err e) }
@@ -68,7 +68,7 @@ fn beside<T: Drop, U, E>(value: T, made: Result<U, E>) -> Result<(T, U), E>
     }
 }
 
-/// Adds the record that follows those of the map, unless it is at fault.
+/// Tests and adds the record that follows those of the map.
 fn push_record(alloc: Global, entries: &mut EntryMap, item: LedgerRecord) -> Result<(), LedgerErr>
     requires fits { record_format.fits item }
     requires few { len entries.old + 1 < 2 ^ 32 }
@@ -78,7 +78,7 @@ fn push_record(alloc: Global, entries: &mut EntryMap, item: LedgerRecord) -> Res
 {
     let judged = judged_key(alloc, entries, &item);
     let (item, key) = beside(item, judged)?;
-    // The record was judged by the hash of its key.
+    // `judged_key` has compared the record's hash with that of the key.
     entries.push(Slot {
         key,
         key_hash: item.ttl.key_hash,
@@ -90,7 +90,7 @@ fn push_record(alloc: Global, entries: &mut EntryMap, item: LedgerRecord) -> Res
     Ok(())
 }
 
-/// The map of records, of which the first at fault decides.
+/// Makes the map of a file's records, or returns the first record's fault.
 pub fn map_of_records(alloc: Global, records: Vec<LedgerRecord>) -> Result<EntryMap, LedgerErr>
     requires few { length records.items < 2 ^ 32 }
     requires fits { AllByRecursion record_format.fits records.items }

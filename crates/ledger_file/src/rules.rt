@@ -1,4 +1,4 @@
-//! What a ledger's file has to keep beyond its layout.
+//! The rules of a ledger file beyond its layout.
 
 ghost use Rattle.std.specs.Prelude.{◌≡◌, ℕ, List, Option};
 ghost use Rattle.ledger_spec.specs.LedgerFile.{are_settings, fault_of, has_code_hash, record_key, is_above as is_above_key};
@@ -8,13 +8,13 @@ use ledger_spec::{LedgerRefusal, LedgerWhy};
 use ledger_types::{Header, LedgerEntryData, LedgerRecord, Settings};
 use sha2::{Digest, Sha256};
 
-/// The most that the greatest life may be.
+/// The greatest `max_entry_ttl`.
 const GREATEST_LIFE: u32 = 200_000_000;
 
-/// The first number that no other ledger may follow.
+/// The first ledger number that no other ledger may follow.
 const LAST_SEQ: u32 = 4_000_000_000;
 
-/// Whether the settings are within their bounds.
+/// Whether the settings are within their ranges.
 fn are_settings(settings: &Settings) -> bool
     ensures { result ≡ are_settings settings.now }
 {
@@ -29,7 +29,7 @@ fn are_settings(settings: &Settings) -> bool
         && 1 <= settings.terms.wasm_insn_exec.instructions.constant
 }
 
-/// What is wrong with a header. `follows` asks that another ledger may follow.
+/// Returns the first fault of a header. `follows` asks that another ledger may follow.
 pub fn header_refusal(header: &Header, follows: bool) -> Option<LedgerRefusal>
     ensures { result ≡ header_refusal follows header.now }
 {
@@ -43,7 +43,7 @@ pub fn header_refusal(header: &Header, follows: bool) -> Option<LedgerRefusal>
     Some(LedgerRefusal { why, at: 0 })
 }
 
-/// Whether the hash of a code entry is that of its code.
+/// Whether the hash of a code entry is the hash of its code.
 fn has_code_hash(body: &LedgerEntryData) -> bool
     ensures { result ≡ has_code_hash body.now }
 {
@@ -56,7 +56,8 @@ fn has_code_hash(body: &LedgerEntryData) -> bool
     }
 }
 
-/// What is wrong with a record, by the bytes of its key, and by whether they come after the key before it.
+/// Returns the first fault of a record. `key` is the bytes of its key, and `is_above` says whether it is above the key
+/// before it.
 pub fn record_fault(is_above: bool, key: &[u8], item: &LedgerRecord) -> Option<LedgerWhy>
     requires { key.now ≡ record_key item.now }
     ensures { (before : Option (List ℕ)) → is_above ≡ is_above_key before key.now → result ≡ fault_of before item.now }

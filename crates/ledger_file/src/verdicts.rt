@@ -1,4 +1,4 @@
-//! Verdicts read from bytes.
+//! Reads verdicts from bytes.
 
 ghost use Rattle.std.specs.Prelude.{IfOk, IfErr};
 ghost use Rattle.xdr_spec.specs.Refusal.{Spells};
@@ -11,13 +11,13 @@ use std::alloc::Global;
 use value_xdr::decode;
 use xdr_core::ReadXdr;
 
-/// The verdicts that a file holds: all of its bytes.
+/// Reads the verdicts of a file, which has no bytes after them.
 pub fn read_verdicts(alloc: Global, bytes: &[u8]) -> Result<Verdicts, ReadXdr>
-    // What is read is spelled so.
+    // The bytes are the XDR of the verdicts.
     ensures found { IfOk result (λ v. Spells verdicts_format v bytes.now) }
-    // What is spelled so is read, unless memory runs out.
+    // Verdicts with these bytes are read, unless memory runs out.
     ensures only { (v : VerdictList) → Spells verdicts_format v bytes.now → IsValueUnlessMemory v result }
-    // What is refused goes wrong there, for that reason.
+    // Other bytes are rejected, with the offset and reason of the first fault.
     ensures refused { IfErr result (λ e. IsRefusal verdicts_format bytes.now e) }
 {
     decode::<Verdicts>(alloc, bytes)

@@ -1,4 +1,4 @@
-//! Ledgers written as bytes.
+//! Writes ledgers as bytes.
 
 ghost use Rattle.std.specs.Prelude.{◌≡◌, ◌++◌, All, OnOk, OnErr, IfOk};
 ghost use Rattle.std.specs.List.{flat_map};
@@ -44,7 +44,7 @@ fn write_records(slots: &[Slot], out: &mut Out) -> Result<(), NoMemory>
     Ok(())
 }
 
-/// The one file of a ledger.
+/// Writes the file of a ledger.
 pub fn write_ledger(alloc: Global, ledger: &Ledger) -> Result<Blob, NoMemory>
     requires { header_format.fits ledger.now.header }
     ensures { IfOk result (λ file. file ≡ ledger_bytes ledger.now.header ledger.now.entries) }

@@ -1,4 +1,4 @@
--- What is seen of a change of a ledger's map by those who made it (own).
+-- Terms of the laws of puts, deletes, extensions and raises (own).
 use Rattle.std.specs.Prelude.{◌≡◌, ◌≢◌, ◌<◌, ◌≤◌, ℕ, ◌+◌, ◌-◌, Option, IsSomeAnd}
 use Rattle.ledger_types.specs.Entry.{key_of}
 use Rattle.ledger_types.specs.declared.key.LedgerKey.{LedgerKey}
@@ -17,24 +17,24 @@ abbrev pub IsTemporary : LedgerEntryData → Type 0
 IsTemporary (ContractData entry) = entry.durability ≡ Temporary
 IsTemporary (ContractCode entry) = ⊥
 
--- the last of so many ledgers, of which n is the first
+-- the last of this many ledgers, counted from n on
 abbrev pub last_of : ℕ → ℕ → ℕ
 last_of n ledgers = n + ledgers - 1
 
--- what is kept, with this last ledger
+-- the same entry with another live-until ledger
 abbrev pub living_until : ℕ → Kept → Kept
 living_until live_until kept = record kept { live_until = live_until }
 
--- keys with other bytes than those of this key find what they found
+-- the entries at all keys but this one stay
 abbrev pub OthersStay : LedgerKey → LedgerMap → LedgerMap → Type 0
 OthersStay changed before after = (key : LedgerKey) → key_bytes key ≢ key_bytes changed → find after key ≡ find before key
 
--- There is a map, and in ledger n the entry is live there, as modified in ledger n, with this last ledger.
+-- The put succeeded. In ledger n the entry is live in the new map until this ledger, with n as its last modified ledger.
 abbrev pub IsPut : ℕ → LedgerEntry → ℕ → Option LedgerMap → Type 0
 IsPut n entry live_until after =
     IsSomeAnd after (λ map. seen n map (key_of entry) ≡ live (record { entry = record entry { last_modified_ledger_seq = n }; live_until = live_until }))
 
--- where an extension has this reason to be refused: the threshold is judged first, then what is seen, then the life
+-- An extension fails for this reason. The threshold is tested first, then what the access finds, then the requested life.
 abbrev pub IsReason : Unextended → Settings → ℕ → LedgerMap → LedgerKey → ℕ → ℕ → Type 0
 IsReason backward settings n map key threshold extend_to = extend_to < threshold
 IsReason missing settings n map key threshold extend_to = (threshold ≤ extend_to) × (seen n map key ≡ absent)

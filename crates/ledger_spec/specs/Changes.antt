@@ -1,4 +1,4 @@
--- How a ledger's map changes in ledger n (own, after CAP-0046-12: state archival).
+-- Changes of a ledger's map in ledger n (own, after CAP-0046-12: state archival).
 use Rattle.std.specs.Prelude.{ℕ, ◌+◌, ◌-◌, ◌&&◌, Option, Some, None, Result, Ok, Err, max, nat_lt, nat_le, if◌then◌else◌}
 use Rattle.std.specs.FinMap.{insert, remove}
 use Rattle.ledger_types.specs.Entry.{key_of}
@@ -9,24 +9,24 @@ use Rattle.ledger_spec.specs.declared.Kept.{Kept}
 use Rattle.ledger_spec.specs.LedgerMap.{LedgerMap, find, key_bytes}
 use Rattle.ledger_spec.specs.Seen.{Seen, live, absent, archived, seen, is_temporary}
 
--- the least life of a new entry, in ledgers
+-- the TTL of a new entry, in ledgers
 abbrev pub least_life : Settings → LedgerEntry → ℕ
 least_life settings entry = if is_temporary entry.data then settings.min_temporary_ttl else settings.min_persistent_ttl
 
--- the last ledger of a new entry's first life
+-- the live-until ledger of a new entry
 abbrev pub first_life : Settings → ℕ → LedgerEntry → ℕ
 first_life settings n entry = n + least_life settings entry - 1
 
--- the last ledger that an extension may reach
+-- the last ledger that an extension may reach, counted from n
 abbrev pub furthest : Settings → ℕ → ℕ
 furthest settings n = n + settings.max_entry_ttl - 1
 
--- an entry as it is written in ledger n
+-- the entry, last modified in ledger n
 abbrev pub written : ℕ → LedgerEntry → LedgerEntry
 written n entry = record entry { last_modified_ledger_seq = n }
 
--- A put writes an entry at its key: what is live there keeps its life, and what is absent begins one, in place of a
--- temporary entry whose life ended. There is no map where the entry is archived: that access ends the run.
+-- A put writes an entry at its key. A live entry keeps its live-until ledger. An absent one gets its first life, which
+-- replaces an expired temporary entry. If the key is archived, there is no map: that access ends the run.
 abbrev pub put_seen : Seen → Settings → ℕ → LedgerMap → LedgerEntry → Option LedgerMap
 put_seen (live kept) settings n map entry =
     Some (insert map (key_bytes (key_of entry)) (record { entry = written n entry; live_until = kept.live_until }))
@@ -34,62 +34,62 @@ put_seen absent settings n map entry =
     Some (insert map (key_bytes (key_of entry)) (record { entry = written n entry; live_until = first_life settings n entry }))
 put_seen archived settings n map entry = None
 
--- a put in ledger n, by what is seen at the entry's key
+-- a put in ledger n, by what the access finds at the entry's key
 abbrev pub put : Settings → ℕ → LedgerMap → LedgerEntry → Option LedgerMap
 put settings n map entry = put_seen (seen n map (key_of entry)) settings n map entry
 
--- A delete takes away what is live, so the record of a temporary entry whose life ended stays.
+-- A delete removes a live entry. The record of an expired temporary entry stays, since that key is absent already.
 abbrev pub delete_seen : Seen → LedgerMap → LedgerKey → Option LedgerMap
 delete_seen (live kept) map key = Some (remove map (key_bytes key))
 delete_seen absent map key = Some map
 delete_seen archived map key = None
 
--- a delete in ledger n, by what is seen at the key
+-- a delete in ledger n, by what the access finds at the key
 abbrev pub delete : ℕ → LedgerMap → LedgerKey → Option LedgerMap
 delete n map key = delete_seen (seen n map key) map key
 
--- why a life is not extended
+-- why an extension fails
 pub data Unextended : Type 0 where
   backward : Unextended  -- the threshold is above extend_to: (STORAGE, INVALID_INPUT)
   missing : Unextended  -- there is no live entry: (STORAGE, MISSING_VALUE)
   too_far : Unextended  -- a temporary entry would live beyond the furthest, whatever the threshold says: (STORAGE, INVALID_ACTION)
   in_archive : Unextended  -- the entry is archived: that access ends the run
 
--- the life that an extension asks for: a persistent entry or code stops at the furthest
+-- the live-until ledger that an extension asks for: persistent data and code are capped at the furthest
 abbrev pub asked_life : Settings → ℕ → LedgerEntry → ℕ → Option ℕ
 asked_life settings n entry extend_to =
     if nat_le (n + extend_to) (furthest settings n) then Some (n + extend_to)
     else if is_temporary entry.data then None
     else Some (furthest settings n)
 
--- a life is made longer where no more than the threshold is left of it
+-- the live-until ledger rises to this one, if it is below it and at most `threshold` ledgers are left
 abbrev pub longer : ℕ → Kept → ℕ → ℕ → Kept
 longer n kept threshold life =
     if nat_lt kept.live_until life && nat_le (kept.live_until - n) threshold then record kept { live_until = life } else kept
 
--- the extension of a live entry, where what is asked can be had
+-- the extension of a live entry, unless the requested life is too long
 abbrev pub extend_live : Option ℕ → ℕ → LedgerMap → LedgerKey → Kept → ℕ → Result LedgerMap Unextended
 extend_live None n map key kept threshold = Err too_far
 extend_live (Some life) n map key kept threshold = Ok (insert map (key_bytes key) (longer n kept threshold life))
 
--- an extension, by what is seen at the key
+-- an extension, by what the access finds at the key
 abbrev pub extend_seen : Seen → Settings → ℕ → LedgerMap → LedgerKey → ℕ → ℕ → Result LedgerMap Unextended
 extend_seen (live kept) settings n map key threshold extend_to =
     extend_live (asked_life settings n kept.entry extend_to) n map key kept threshold
 extend_seen absent settings n map key threshold extend_to = Err missing
 extend_seen archived settings n map key threshold extend_to = Err in_archive
 
--- an extension in ledger n: where at most `threshold` ledgers are left, to `extend_to` ledgers from n on
+-- An extension in ledger n: if at most `threshold` ledgers are left, the entry is to live until ledger n + extend_to.
 abbrev pub extend : Settings → ℕ → LedgerMap → LedgerKey → ℕ → ℕ → Result LedgerMap Unextended
 extend settings n map key threshold extend_to =
     if nat_lt extend_to threshold then Err backward
     else extend_seen (seen n map key) settings n map key threshold extend_to
 
--- By maximum: an entry that is there lives at least until this ledger. The entry itself is not written.
+-- The greater live-until ledger stays. The entry itself is not written, and an absent key stays absent.
 abbrev pub raised : Option Kept → LedgerMap → LedgerKey → ℕ → LedgerMap
 raised None map key live_until = map
 raised (Some kept) map key live_until = insert map (key_bytes key) (record kept { live_until = max kept.live_until live_until })
 
--- the entry at a key, if there is one, lives at least until this ledger
+-- the entry at a key, if there is one, lives until this ledger at least
 abbrev pub raise : LedgerMap → LedgerKey → ℕ → LedgerMap
 raise map key live_until = raised (find map key) map key live_until

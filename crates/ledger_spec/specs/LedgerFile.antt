@@ -1,4 +1,4 @@
--- The file of a ledger (own): a header, and for each entry a record, in the order of the keys' XDR bytes.
+-- The file of a ledger (own): a header and one record for each entry, sorted by the keys' XDR bytes.
 use Rattle.std.specs.Prelude.{ℕ, ◌+◌, Bool, true, ◌&&◌, not, List, [], ◌∷◌, map, Option, Some, None, Result, Ok, Err, nat_lt, nat_le, if◌then◌else◌}
 use Rattle.std.specs.Ordering.{is_lt, nat_cmp}
 use Rattle.std.specs.FinMap.{from_sorted, values}
@@ -21,16 +21,16 @@ use Rattle.ledger_spec.specs.declared.LedgerWhy.TheVariants as why
 use Rattle.ledger_spec.specs.declared.LedgerRefusal.{LedgerRefusal}
 use Rattle.ledger_spec.specs.LedgerMap.{LedgerMap, key_bytes}
 
--- ---- what is written
+-- ---- writing
 
--- the record of an entry: itself, the hash of its key, and its last ledger
+-- the record of an entry: the entry, the hash of its key, and its live-until ledger
 abbrev pub record_of : Kept → LedgerRecord
 record_of kept = record {
   entry = kept.entry;
   ttl = record { key_hash = record { 0 = sha256 (key_bytes (key_of kept.entry)) }; live_until_ledger_seq = kept.live_until };
 }
 
--- the file of a ledger: its header, and its records in the order of the keys' bytes
+-- the file of a ledger: its header, and its records sorted by the keys' bytes
 abbrev pub file_of : Header → LedgerMap → LedgerFile
 file_of header entries = record { header = header; records = map record_of (values entries) }
 
@@ -38,23 +38,23 @@ file_of header entries = record { header = header; records = map record_of (valu
 abbrev pub ledger_bytes : Header → LedgerMap → List ℕ
 ledger_bytes header entries = file_format.spell (file_of header entries)
 
--- ---- what is read
+-- ---- reading
 
--- a life is from 1 to the greatest
+-- a minimum TTL is from 1 to the maximum TTL
 abbrev pub is_life : Settings → ℕ → Bool
 is_life settings life = nat_le 1 life && nat_le life settings.max_entry_ttl
 
--- each least life is from 1 to the greatest life, which is bounded, and an instruction costs something
+-- Both minimum TTLs are from 1 to the maximum TTL, which is bounded. The constant cost of an instruction is not 0.
 abbrev pub are_settings : Settings → Bool
 are_settings settings =
     is_life settings settings.min_temporary_ttl && is_life settings settings.min_persistent_ttl
     && nat_le settings.max_entry_ttl 200000000 && nat_le 1 settings.terms.wasm_insn_exec.instructions.constant
 
--- another ledger may follow
+-- another ledger may follow this one
 abbrev pub has_next : Header → Bool
 has_next header = nat_lt header.seq 4000000000
 
--- the key comes after the one before it
+-- the key is above the one before it
 abbrev pub is_above : Option (List ℕ) → List ℕ → Bool
 is_above None key = true
 is_above (Some before) key = is_lt (slice_cmp nat_cmp before key)
@@ -68,7 +68,7 @@ has_code_hash (ContractCode entry) = bytes_eq entry.hash.0 (sha256 entry.code)
 abbrev pub record_key : LedgerRecord → List ℕ
 record_key entry = key_bytes (key_of entry.entry)
 
--- what is wrong with a record, by the key before it
+-- the first fault of a record, given the key before it
 abbrev pub fault_of : Option (List ℕ) → LedgerRecord → Option LedgerWhy
 fault_of before entry =
     if not (is_above before (record_key entry)) then Some why.Order
@@ -76,26 +76,26 @@ fault_of before entry =
     else if not (has_code_hash entry.entry.data) then Some why.CodeHash
     else None
 
--- a refusal for this reason at this place
+-- a refusal for this reason at this index or offset
 abbrev pub refusal : LedgerWhy → ℕ → LedgerRefusal
 refusal reason at = record { why = reason; at = at }
 
--- a record's own fault comes before those of later records
+-- a record's own fault comes before the faults of later records
 abbrev pub fault_at : ℕ → Option LedgerWhy → Option LedgerRefusal → Option LedgerRefusal
 fault_at at None later = later
 fault_at at (Some reason) later = Some (refusal reason at)
 
--- the first record at fault, of those from a number on
+-- the first fault of records, the first of which has this index
 abbrev pub first_fault : ℕ → Option (List ℕ) → List LedgerRecord → Option LedgerRefusal
 first_fault at before [] = None
 first_fault at before (entry ∷ rest) =
     fault_at at (fault_of before entry) (first_fault (at + 1) (Some (record_key entry)) rest)
 
--- what a record says of its entry: itself, and its last ledger
+-- the entry of a record with its live-until ledger
 abbrev pub kept_of : LedgerRecord → Kept
 kept_of entry = record { entry = entry.entry; live_until = entry.ttl.live_until_ledger_seq }
 
--- the map of records that stand in order
+-- the map of sorted records
 abbrev pub map_of : List LedgerRecord → LedgerMap
 map_of records = from_sorted (map (λ entry. (record_key entry, kept_of entry)) records)
 
@@ -104,18 +104,19 @@ abbrev pub as_map : LedgerFile → Option LedgerRefusal → Result (Header × Le
 as_map file None = Ok (file.header, map_of file.records)
 as_map file (Some found) = Err found
 
--- The file is judged by its settings first, then by its number where a ledger is to follow, then record by record.
+-- The settings are tested first. If `follows` asks that another ledger may follow, the ledger's number comes next. Then
+-- the records are tested one by one.
 abbrev pub judged : Bool → LedgerFile → Result (Header × LedgerMap) LedgerRefusal
 judged follows file =
     if not (are_settings file.header.settings) then Err (refusal why.Settings 0)
     else if follows && not (has_next file.header) then Err (refusal why.SeqEnd 0)
     else as_map file (first_fault 0 None file.records)
 
--- the same of what was read, unless the bytes were refused
+-- the same for a file that was decoded, unless decoding failed
 abbrev pub judged_if : Bool → Result LedgerFile XdrErr → Result (Header × LedgerMap) LedgerRefusal
 judged_if follows (Ok file) = judged follows file
 judged_if follows (Err e) = Err (refusal why.Xdr e.at)
 
--- The header and the map of a file, or why it is none: all of its bytes are read first.
+-- The header and the map of a file, or why it is rejected. All of its bytes are decoded first.
 abbrev pub ledger_of : Bool → List ℕ → Result (Header × LedgerMap) LedgerRefusal
 ledger_of follows bytes = judged_if follows (decoded file_format bytes)

@@ -1,4 +1,4 @@
--- What a ledger's entries are in the ledger that is being made (own, after CAP-0046-12: state archival).
+-- What an access finds at a key in the ledger that is being made (own, after CAP-0046-12: state archival).
 use Rattle.std.specs.Prelude.{ℕ, Bool, true, false, Option, Some, None, nat_le, if◌then◌else◌}
 use Rattle.ledger_types.specs.declared.key.LedgerKey.{LedgerKey}
 use Rattle.ledger_types.specs.declared.durability.Durability.{Durability}
@@ -8,24 +8,24 @@ use Rattle.ledger_types.specs.declared.entry.LedgerEntryData.TheVariants.{Contra
 use Rattle.ledger_spec.specs.declared.Kept.{Kept}
 use Rattle.ledger_spec.specs.LedgerMap.{LedgerMap, find}
 
--- what an access finds at a key
+-- the three states of a key
 pub data Seen : Type 0 where
   live : Kept → Seen
   absent : Seen
   archived : Seen
 
--- of the two durabilities, temporary
+-- the durability is temporary
 abbrev pub is_temporary_at : Durability → Bool
 is_temporary_at Temporary = true
 is_temporary_at Persistent = false
 
--- only contract data may be temporary: code is not
+-- contract data may be temporary, code is not
 abbrev pub is_temporary : LedgerEntryData → Bool
 is_temporary (ContractData entry) = is_temporary_at entry.durability
 is_temporary (ContractCode entry) = false
 
--- In ledger n an entry is live up to and in its last ledger; after it a temporary one is as absent, and any other is
--- archived.
+-- An entry is live up to and including its live-until ledger. After that ledger a temporary entry counts as absent, and
+-- any other is archived.
 abbrev pub seen_of : ℕ → Option Kept → Seen
 seen_of n None = absent
 seen_of n (Some kept) =

@@ -1,4 +1,4 @@
-//! What is seen of a ledger's map, also after it changed.
+//! Laws of what an access finds in a ledger's map, before and after a change.
 
 ghost use Rattle.std.specs.Prelude.{◌≡◌, ◌↔◌, ◌<◌, ◌≤◌, ℕ, ◌+◌, min, max, Some, None, Ok, Err, IsSomeAnd, IsTrue};
 ghost use Rattle.std.specs.Option.{option_map};
@@ -13,79 +13,82 @@ ghost use Rattle.ledger_spec.specs.Seen.{seen, live, absent, archived};
 ghost use Rattle.ledger_spec.specs.Changes.{put, delete, extend, raise, Unextended};
 ghost use Rattle.ledger_spec.specs.ChangeLaws.{IsTemporary, last_of, living_until, OthersStay, IsPut, IsReason};
 
-/// What is seen in ledger n is what is there, by its last ledger; else the key is absent.
+/// What an access finds in ledger n depends on the entry's live-until ledger; a key that is neither live nor archived is
+/// absent.
 pub fn seen_by_life()
-    // live is what is there up to and in its last ledger
+    // an entry is live up to and including its live-until ledger
     ensures lives { (n : ℕ) (map : LedgerMap) (key : LedgerKey) (kept : Kept)
         → (seen n map key ≡ live kept) ↔ ((find map key ≡ Some kept) × (n ≤ kept.live_until)) }
-    // archived is what is there after its last ledger, unless it is temporary
+    // after that ledger it is archived, unless it is temporary
     ensures is_archived { (n : ℕ) (map : LedgerMap) (key : LedgerKey)
         → (seen n map key ≡ archived) ↔ IsSomeAnd (find map key) (λ kept. (kept.live_until < n) × ¬ (IsTemporary kept.entry.data)) }
 {}
 
-/// What is put in ledger n is live there, as modified in ledger n.
+/// An entry that is put in ledger n is live there, with n as its last modified ledger.
 pub fn put_is_seen()
-    // what was live keeps its life
+    // a live entry keeps its live-until ledger
     ensures keeps_life { (settings : Settings) (n : ℕ) (map : LedgerMap) (entry : LedgerEntry) (kept : Kept)
         → seen n map (key_of entry) ≡ live kept → IsPut n entry kept.live_until (put settings n map entry) }
-    // what was absent begins its least life, this ledger included: a temporary entry
+    // temporary data that was absent gets the minimum temporary TTL, which counts ledger n
     ensures temporary_begins { (settings : Settings) (n : ℕ) (map : LedgerMap) (entry : LedgerEntry)
         → IsTrue (are_settings settings) → seen n map (key_of entry) ≡ absent → IsTemporary entry.data
         → IsPut n entry (last_of n settings.min_temporary_ttl) (put settings n map entry) }
-    // and any other
+    // other data and code that was absent gets the minimum persistent TTL
     ensures persistent_begins { (settings : Settings) (n : ℕ) (map : LedgerMap) (entry : LedgerEntry)
         → IsTrue (are_settings settings) → seen n map (key_of entry) ≡ absent → ¬ (IsTemporary entry.data)
         → IsPut n entry (last_of n settings.min_persistent_ttl) (put settings n map entry) }
-    // there is no map exactly where the entry is archived
+    // a put fails exactly if the key is archived
     ensures refused { (settings : Settings) (n : ℕ) (map : LedgerMap) (entry : LedgerEntry)
         → (put settings n map entry ≡ None) ↔ (seen n map (key_of entry) ≡ archived) }
-    // other keys find what they found
+    // the entries at other keys stay
     ensures others { (settings : Settings) (n : ℕ) (map after : LedgerMap) (entry : LedgerEntry)
         → put settings n map entry ≡ Some after → OthersStay (key_of entry) map after }
 {}
 
-/// What is deleted is not seen.
+/// A key that is deleted in ledger n is absent afterwards.
 pub fn delete_is_absent()
-    // nothing is found where something was live
+    // the record of a live entry is removed
     ensures taken { (n : ℕ) (map : LedgerMap) (key : LedgerKey) (kept : Kept)
         → seen n map key ≡ live kept → IsSomeAnd (delete n map key) (λ after. find after key ≡ None) }
-    // where nothing was seen the map stays
+    // if the key was absent, the map stays
     ensures stays { (n : ℕ) (map : LedgerMap) (key : LedgerKey) → seen n map key ≡ absent → delete n map key ≡ Some map }
-    // there is no map exactly where the entry is archived
+    // a delete fails exactly if the key is archived
     ensures refused { (n : ℕ) (map : LedgerMap) (key : LedgerKey) → (delete n map key ≡ None) ↔ (seen n map key ≡ archived) }
-    // other keys find what they found
+    // the entries at other keys stay
     ensures others { (n : ℕ) (map after : LedgerMap) (key : LedgerKey)
         → delete n map key ≡ Some after → OthersStay key map after }
 {}
 
-/// What is extended lives as long as was asked, where little of its life was left.
+/// An extension never shortens a life. It lengthens the life of a live entry that has few ledgers left.
 pub fn extend_is_longer()
-    // where at most the threshold was left, the life is the greater of its own and what was asked, at most the furthest
+    // if at most `threshold` ledgers were left, the entry lives until the later of two ledgers: its own live-until ledger,
+    // and the requested one, capped at the furthest
     ensures little_left { (settings : Settings) (n : ℕ) (map after : LedgerMap) (key : LedgerKey) (threshold extend_to : ℕ) (kept : Kept)
         → extend settings n map key threshold extend_to ≡ Ok after → seen n map key ≡ live kept → kept.live_until ≤ n + threshold
         → find after key ≡ Some (living_until (max kept.live_until (min (n + extend_to) (last_of n settings.max_entry_ttl))) kept) }
-    // where more was left, nothing changes
+    // if more ledgers were left, the entry stays as it is
     ensures much_left { (settings : Settings) (n : ℕ) (map after : LedgerMap) (key : LedgerKey) (threshold extend_to : ℕ) (kept : Kept)
         → extend settings n map key threshold extend_to ≡ Ok after → seen n map key ≡ live kept → n + threshold < kept.live_until
         → find after key ≡ Some kept }
-    // so the entry stays, and its life ends no earlier than before, and not beyond the furthest unless it did
+    // in both cases the entry itself stays, and its live-until ledger does not fall; it is beyond the furthest only if it
+    // was before
     ensures bounded { (settings : Settings) (n : ℕ) (map after : LedgerMap) (key : LedgerKey) (threshold extend_to : ℕ) (kept : Kept)
         → extend settings n map key threshold extend_to ≡ Ok after → seen n map key ≡ live kept
         → IsSomeAnd (find after key) (λ later. (later.entry ≡ kept.entry) × (kept.live_until ≤ later.live_until)
         × (later.live_until ≤ max kept.live_until (last_of n settings.max_entry_ttl))) }
-    // each refusal comes exactly where its reason holds
+    // an extension fails for a reason exactly if that reason holds
     ensures refused { (why : Unextended) (settings : Settings) (n : ℕ) (map : LedgerMap) (key : LedgerKey) (threshold extend_to : ℕ)
         → (extend settings n map key threshold extend_to ≡ Err why) ↔ IsReason why settings n map key threshold extend_to }
-    // other keys find what they found
+    // the entries at other keys stay
     ensures others { (settings : Settings) (n : ℕ) (map after : LedgerMap) (key : LedgerKey) (threshold extend_to : ℕ)
         → extend settings n map key threshold extend_to ≡ Ok after → OthersStay key map after }
 {}
 
-/// What is raised lives to the later of two ledgers.
+/// A raised entry lives until the later of two ledgers: its own live-until ledger and the given one.
 pub fn raise_is_longest()
-    // what is found is what was there, with the later last ledger
+    // the entry itself stays, and an absent key stays absent
     ensures later { (map : LedgerMap) (key : LedgerKey) (live_until : ℕ)
         → find (raise map key live_until) key ≡ option_map (λ (kept : Kept). living_until (max kept.live_until live_until) kept) (find map key) }
-    // other keys find what they found
+    // the entries at other keys stay
     ensures others { (map : LedgerMap) (key : LedgerKey) (live_until : ℕ) → OthersStay key map (raise map key live_until) }
 {}

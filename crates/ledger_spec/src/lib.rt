@@ -1,4 +1,4 @@
-//! What a ledger is: a map from keys to entries and their lives, and the file that holds it.
+//! Definitions and laws of a ledger: the map from keys to entries with their live-until ledgers, and the ledger file.
 #![tactic(auto)]
 
 mod laws;
@@ -13,24 +13,24 @@ pub struct Kept {
     pub live_until: u32,
 }
 
-/// Why a ledger file is refused, with the number that is printed (own).
+/// Why a ledger file is rejected, with the number that is printed (own).
 #[derive(Clone, Copy, Debug, PartialEq, Eq)]
 pub enum LedgerWhy {
-    /// 1: the bytes spell no ledger file.
+    /// 1: the bytes are not the XDR of a ledger file.
     Xdr,
-    /// 2: a record's key does not come after the key before it.
+    /// 2: a record's key is not above the key before it.
     Order,
-    /// 3: a record's TTL entry is of another key.
+    /// 3: a record's TTL entry has the hash of another key.
     TtlHash,
-    /// 4: the hash of a code entry is not that of its code.
+    /// 4: the hash of a code entry is not the hash of its code.
     CodeHash,
-    /// 5: the settings are out of their ranges.
+    /// 5: a setting is out of its range.
     Settings,
-    /// 6: no ledger may follow one with this number.
+    /// 6: the ledger's number is too high for another ledger to follow.
     SeqEnd,
 }
 
-/// Why a ledger file is refused, and where: a place in the bytes for `Xdr`, the number of the record (from 0) for
+/// Why a ledger file is rejected, and where. `at` is an offset in the bytes for `Xdr`, the index of the record for
 /// `Order`, `TtlHash` and `CodeHash`, and 0 for the others.
 #[derive(Clone, Copy, Debug, PartialEq, Eq)]
 pub struct LedgerRefusal {

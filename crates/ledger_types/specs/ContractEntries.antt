@@ -1,4 +1,4 @@
--- What contracts store, behind an extension point that has nothing (XDR file Stellar-ledger-entries, `ContractDataEntry` and
+-- The entries of contracts, after an empty extension point (XDR file Stellar-ledger-entries, `ContractDataEntry` and
 -- `ContractCodeEntry`).
 use Rattle.std.specs.Prelude.{List, ℕ, refl}
 use Rattle.std.proofs.Common.{arith}

@@ -1,4 +1,4 @@
--- How long contract data is meant to live, by its number (XDR file Stellar-ledger-entries, `ContractDataDurability`).
+-- The durability of contract data (XDR file Stellar-ledger-entries, `ContractDataDurability`).
 use Rattle.std.specs.Prelude.{◌≡◌, ◌<◌, ◌^◌, List, [], ◌∷◌, ℕ, Option, Some}
 use Rattle.std.proofs.Common.{refl, arith}
 use Rattle.xdr_spec.specs.Format.{Format, enumeration, find_kind}

@@ -1,4 +1,4 @@
--- What a ledger entry is, by its number (XDR file Stellar-ledger-entries, `LedgerEntryType`).
+-- The types of ledger entries (XDR file Stellar-ledger-entries, `LedgerEntryType`).
 use Rattle.std.specs.Prelude.{◌≡◌, ◌<◌, ◌^◌, List, [], ◌∷◌, ℕ, Option, Some}
 use Rattle.std.proofs.Common.{refl, arith}
 use Rattle.xdr_spec.specs.Format.{Format, enumeration, find_kind}

@@ -1,4 +1,4 @@
--- What a ledger's file spells: the version 1, a header and records (own).
+-- The format of a ledger's file: the version 1, a header and records (own).
 use Rattle.std.specs.Prelude.{List, refl}
 use Rattle.std.proofs.Common.{arith}
 use Rattle.xdr_spec.specs.Format.{Format, via, pair, list}

@@ -1,5 +1,5 @@
--- The key of a ledger entry: the number of the entry's type, and then what names it among those of its type (XDR file
--- Stellar-ledger-entries, `LedgerKey`).
+-- The key of a ledger entry: the number of the entry's type, and the fields that identify the entry among those of its type (XDR
+-- file Stellar-ledger-entries, `LedgerKey`).
 use Rattle.std.specs.Prelude.{◌≡◌, List, ℕ, ℤ, Option, Some, None}
 use Rattle.std.proofs.Common.{refl, arith}
 use Rattle.xdr_spec.specs.Format.{Format, pair, arm, union, signed64, opaque}

@@ -5,7 +5,6 @@ pub mod EntryType
 pub mod Key
 pub mod ContractEntries
 pub mod Entry
-pub mod KeyLaws
 pub mod Record
 pub mod Terms
 pub mod Header

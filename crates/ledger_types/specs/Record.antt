@@ -1,4 +1,4 @@
--- An entry and how long it lives (XDR file Stellar-ledger-entries, `TTLEntry`; the record is own).
+-- An entry and its live-until ledger (XDR file Stellar-ledger-entries, `TTLEntry`; the record is own).
 use Rattle.std.specs.Prelude.{ℕ, refl}
 use Rattle.xdr_spec.specs.Format.{Format, via, pair, number32}
 use Rattle.xdr_spec.specs.Laws.{IsFormat}

@@ -1,4 +1,4 @@
--- The terms of all kinds of cost, in the order of the kinds' numbers: a row of four words each (own).
+-- The terms of all kinds of cost, in the order of the kinds' numbers: four words each (own).
 use Rattle.std.specs.Prelude.{ℕ, refl}
 use Rattle.xdr_spec.specs.Format.{Format, via, pair, number32}
 use Rattle.xdr_spec.specs.Laws.{IsFormat}

@@ -36,7 +36,7 @@ kind_of = find_kind number all
 unfoldable pub type_format : Format AssetType
 type_format = enumeration number kind_of
 
-small : (k : AssetType) → number k < 2 ^ 32
+pub small : (k : AssetType) → number k < 2 ^ 32
 small types.Native = omega arith
 small types.CreditAlphanum4 = omega arith
 small types.CreditAlphanum12 = omega arith

@@ -1,4 +1,4 @@
--- Which signatures are good: pairs of a key and the hash of a payload (own).
+-- The good signatures: pairs of a key and the hash of a payload (own).
 use Rattle.std.specs.Prelude.{List, refl}
 use Rattle.xdr_spec.specs.Format.{Format, via, pair, list}
 use Rattle.xdr_spec.specs.Laws.{IsFormat}

@@ -84,7 +84,7 @@ impl Xdr for AssetCode12 {
     ghost lawful = { code12_lawful };
 }
 
-/// What an asset is (`AssetType`).
+/// The types of assets (`AssetType`).
 #[derive(Clone, Copy, Debug, PartialEq, Eq)]
 pub enum AssetType {
     Native,
@@ -94,7 +94,7 @@ pub enum AssetType {
 }
 
 impl AssetType {
-    /// The constant of this number, if there is one (RFC 4506, section 4.3).
+    /// The variant with this number, or `None` if no variant has it (RFC 4506, section 4.3).
     pub fn from_number(number: u32) -> Option<AssetType>
         ensures { result ≡ kind_of number }
     {
@@ -107,7 +107,7 @@ impl AssetType {
         }
     }
 
-    /// Its number (RFC 4506, section 4.3).
+    /// The number of the variant (RFC 4506, section 4.3).
     pub fn number(self) -> u32
         ensures { result ≡ number self }
     {
@@ -176,7 +176,7 @@ impl Clone for TrustLineAsset {
 impl Copy for TrustLineAsset {}
 
 impl TrustLineAsset {
-    /// Which arm it is (RFC 4506, section 4.15).
+    /// The discriminant of the union (RFC 4506, section 4.15).
     pub fn kind(self) -> AssetType
         ensures { result ≡ kind self }
     {

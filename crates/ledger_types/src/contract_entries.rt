@@ -1,4 +1,4 @@
-//! What contracts store.
+//! The ledger entries of contracts.
 
 ghost use Rattle.std.specs.Prelude.{◌≡◌};
 ghost use Rattle.ledger_types.specs.ContractEntries.{data_format, data_lawful, code_format, code_lawful};
@@ -9,13 +9,13 @@ use value_types::{Blob, Hash, ScAddress, ScVal};
 use value_xdr::{Xdr, read_blob, read_head, size_of_blob, write_blob};
 use xdr_core::{Cursor, NoMemory, Out, ReadXdr, add_sizes};
 
-/// The number of an extension point that has nothing.
+/// The number of an empty extension point.
 pub const NO_EXTENSION: u32 = 0;
 
-/// How many bytes such a number has.
+/// The length of such a number in bytes.
 pub const EXTENSION_SIZE: u64 = 4;
 
-/// One value that a contract stores (`ContractDataEntry`).
+/// A value that a contract stores (`ContractDataEntry`).
 #[derive(Drop)]
 pub struct ContractDataEntry {
     pub contract: ScAddress,

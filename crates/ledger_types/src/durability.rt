@@ -1,4 +1,4 @@
-//! How long contract data is meant to live.
+//! The durability of contract data.
 
 ghost use Rattle.std.specs.Prelude.{◌≡◌};
 ghost use Rattle.ledger_types.specs.Durability.{number, kind_of, durability_format, durability_lawful};
@@ -7,17 +7,17 @@ use std::alloc::Global;
 use value_xdr::Xdr;
 use xdr_core::{Cursor, NoMemory, Out, ReadXdr, Why, XdrErr};
 
-/// How long contract data is meant to live (`ContractDataDurability`).
+/// The durability of contract data (`ContractDataDurability`).
 #[derive(Clone, Copy, Debug, PartialEq, Eq)]
 pub enum Durability {
-    /// 0: gone when its life ends.
+    /// 0: the entry is absent after its live-until ledger.
     Temporary,
-    /// 1: archived when its life ends.
+    /// 1: the entry is archived after its live-until ledger.
     Persistent,
 }
 
 impl Durability {
-    /// The constant of this number, if there is one (RFC 4506, section 4.3).
+    /// The variant with this number, or `None` if no variant has it (RFC 4506, section 4.3).
     pub fn from_number(number: u32) -> Option<Durability>
         ensures { result ≡ kind_of number }
     {
@@ -28,7 +28,7 @@ impl Durability {
         }
     }
 
-    /// Its number (RFC 4506, section 4.3).
+    /// The number of the variant (RFC 4506, section 4.3).
     pub fn number(self) -> u32
         ensures { result ≡ number self }
     {

@@ -9,7 +9,7 @@ use std::alloc::{AllocError, Global};
 use value_xdr::{Xdr, read_head};
 use xdr_core::{Cursor, NoMemory, Out, ReadXdr, Why, XdrErr, add_sizes};
 
-/// The types of the entries that this program's ledgers hold: those of `LedgerEntryType` that are a contract's.
+/// The types of entries in this program's ledgers: those of `LedgerEntryType` that belong to contracts.
 #[derive(Clone, Copy, Debug, PartialEq, Eq)]
 pub enum ContractEntryType {
     ContractData,
@@ -17,7 +17,7 @@ pub enum ContractEntryType {
 }
 
 impl ContractEntryType {
-    /// The constant of this number, if there is one (RFC 4506, section 4.3).
+    /// The variant with this number, or `None` if no variant has it (RFC 4506, section 4.3).
     pub fn from_number(number: u32) -> Option<ContractEntryType>
         ensures { result ≡ kind_of number }
     {
@@ -28,7 +28,7 @@ impl ContractEntryType {
         }
     }
 
-    /// Its number (RFC 4506, section 4.3).
+    /// The number of the variant (RFC 4506, section 4.3).
     pub fn number(self) -> u32
         ensures { result ≡ number self }
     {
@@ -63,7 +63,7 @@ impl Xdr for ContractEntryType {
     ghost lawful = { type_lawful };
 }
 
-/// What an entry has.
+/// The body of an entry.
 #[derive(Drop)]
 pub enum LedgerEntryData {
     /// 6.
@@ -88,7 +88,7 @@ impl Clone for LedgerEntryData {
 }
 
 impl LedgerEntryData {
-    /// Which arm it is (RFC 4506, section 4.15).
+    /// The discriminant of the union (RFC 4506, section 4.15).
     pub fn kind(&self) -> ContractEntryType
         ensures { result ≡ kind self.now }
     {
@@ -147,7 +147,7 @@ impl Xdr for LedgerEntryData {
 /// An entry of the ledger (`LedgerEntry`, without a sponsor).
 #[derive(Drop)]
 pub struct LedgerEntry {
-    /// The number of the ledger that wrote it last.
+    /// The number of the last ledger that modified the entry.
     pub last_modified_ledger_seq: u32,
     pub data: LedgerEntryData,
 }

@@ -7,7 +7,7 @@ use std::alloc::Global;
 use value_xdr::Xdr;
 use xdr_core::{Cursor, NoMemory, Out, ReadXdr, Why, XdrErr};
 
-/// What a ledger entry is (`LedgerEntryType`, without configuration settings).
+/// The types of ledger entries (`LedgerEntryType`, without configuration settings).
 #[derive(Clone, Copy, Debug, PartialEq, Eq)]
 pub enum LedgerEntryType {
     Account,
@@ -22,7 +22,7 @@ pub enum LedgerEntryType {
 }
 
 impl LedgerEntryType {
-    /// The constant of this number, if there is one (RFC 4506, section 4.3).
+    /// The variant with this number, or `None` if no variant has it (RFC 4506, section 4.3).
     pub fn from_number(number: u32) -> Option<LedgerEntryType>
         ensures { result ≡ kind_of number }
     {
@@ -40,7 +40,7 @@ impl LedgerEntryType {
         }
     }
 
-    /// Its number (RFC 4506, section 4.3).
+    /// The number of the variant (RFC 4506, section 4.3).
     pub fn number(self) -> u32
         ensures { result ≡ number self }
     {

@@ -12,10 +12,10 @@ use xdr_core::{Cursor, NoMemory, Out, ReadXdr, add_sizes};
 /// The version of the files that this program reads and writes.
 pub const LEDGER_FILE_VERSION: u32 = 1;
 
-/// How many bytes the version has.
+/// The length of the version in bytes.
 const VERSION_SIZE: u64 = 4;
 
-/// What a ledger's file spells (own): it is not judged whether it is that of a ledger.
+/// The content of a ledger's file (own), before it is checked to be a ledger.
 #[derive(Drop)]
 pub struct LedgerFile {
     pub header: Header,

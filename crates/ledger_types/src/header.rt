@@ -1,4 +1,4 @@
-//! What holds of a whole ledger.
+//! Settings and headers of ledgers.
 
 ghost use Rattle.std.specs.Prelude.{◌≡◌, ⊤};
 ghost use Rattle.ledger_types.specs.Header.{settings_format, settings_lawful, header_format, header_lawful};
@@ -13,15 +13,15 @@ use xdr_core::{Cursor, NoMemory, Out, ReadXdr, add_sizes};
 /// The settings that the host needs (own, after `ConfigSettingEntry`).
 #[derive(Debug, PartialEq, Eq)]
 pub struct Settings {
-    /// How many ledgers a new temporary entry lives, the first included.
+    /// The number of ledgers that a new temporary entry lives, with the first.
     pub min_temporary_ttl: u32,
-    /// How many ledgers a new persistent entry lives, the first included.
+    /// The number of ledgers that a new persistent entry lives, with the first.
     pub min_persistent_ttl: u32,
-    /// How many ledgers an entry may live from now on, the first included.
+    /// The maximum number of ledgers that an entry may live from the current one, with the current one.
     pub max_entry_ttl: u32,
-    /// How many bytes of memory a transaction may take.
+    /// The memory limit of a transaction, in bytes.
     pub memory_limit: u64,
-    /// What each kind of work costs.
+    /// The cost of each kind of work.
     pub terms: Terms,
 }
 
@@ -78,7 +78,7 @@ pub struct Header {
     pub network_id: Hash,
     /// The ledger's number.
     pub seq: u32,
-    /// Seconds since 1970.
+    /// The close time, in seconds since 1970.
     pub close_time: u64,
     pub settings: Settings,
 }

@@ -46,14 +46,14 @@ pub enum LedgerKey {
     },
     /// 7: the SHA-256 of the code.
     ContractCode(Hash),
-    /// 9: the SHA-256 of the key whose life it is.
+    /// 9: the SHA-256 of the key of the entry that it belongs to.
     Ttl(Hash),
 }
 
 /// The number of the only type of a claimable balance's id.
 const BALANCE_ID: u32 = 0;
 
-/// How many bytes that number has.
+/// The length of that number in bytes.
 const BALANCE_ID_SIZE: u64 = 4;
 
 impl Clone for LedgerKey {
@@ -92,7 +92,7 @@ impl Clone for LedgerKey {
 }
 
 impl LedgerKey {
-    /// The type of the entry that it is a key of.
+    /// The type of the entry that the key identifies.
     pub fn kind(&self) -> LedgerEntryType
         ensures { result ≡ kind self.now }
     {

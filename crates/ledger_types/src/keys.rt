@@ -1,4 +1,4 @@
-//! The key of an entry, and the hash of a key.
+//! Keys of entries and hashes of keys.
 
 ghost use Rattle.std.specs.Prelude.{◌≡◌, ◌++◌, OnOk, OnErr, IfOk};
 ghost use Rattle.sha2.specs.Sha256.{sha256};
@@ -16,7 +16,7 @@ use value_xdr::{Xdr, encode};
 use xdr_core::{NoMemory, Out};
 
 /// The key of an entry.
-#[tactic(auto, using(crate::specs::KeyLaws::key_of_fits))]
+#[tactic(auto, using(crate::proofs::KeyLaws::key_of_fits))]
 pub fn key_of(entry: &LedgerEntry) -> Result<LedgerKey, AllocError>
     ensures key { IfOk result (λ key. key ≡ key_of_entry entry.now) }
     ensures fits { entry_format.fits entry.now → IfOk result key_format.fits }
@@ -31,7 +31,7 @@ pub fn key_of(entry: &LedgerEntry) -> Result<LedgerKey, AllocError>
     }
 }
 
-/// Writes the spelling of the key of an entry. After an error bytes of unknown content may follow what was there.
+/// Writes the spelling of the key of an entry. After an error, bytes of unknown content may follow the old ones.
 #[tactic(auto, unfolding(crate::specs::Key::key_format, crate::specs::EntryType::type_format, crate::specs::Entry::entry_format, crate::specs::Entry::body_format, crate::specs::ContractEntries::data_format, crate::specs::ContractEntries::code_format))]
 pub fn write_key_of(entry: &LedgerEntry, out: &mut Out) -> Result<(), NoMemory>
     requires { entry_format.fits entry.now }
@@ -52,7 +52,7 @@ pub fn write_key_of(entry: &LedgerEntry, out: &mut Out) -> Result<(), NoMemory>
     }
 }
 
-/// The SHA-256 of a key's spelling, by which its life is kept.
+/// The SHA-256 of a key's spelling, which the TTL entry of the key holds.
 pub fn key_hash(alloc: Global, key: &LedgerKey) -> Result<Hash, NoMemory>
     requires { key_format.fits key.now }
     ensures { IfOk result (λ hash. hash.0 ≡ sha256 (key_format.spell key.now)) }

@@ -1,5 +1,4 @@
-//! What a ledger holds, and how it is spelled: keys, entries, lives, settings, and the files that
-//! hold them.
+//! The parts of a ledger with their codecs: keys, entries, lives, settings, and the files that hold them.
 #![tactic(auto)]
 
 mod asset;
@@ -26,6 +25,3 @@ pub use key::LedgerKey;
 pub use keys::{key_hash, key_of, write_key_of};
 pub use record::{LedgerRecord, TtlEntry};
 pub use verdicts::{Verdict, Verdicts};
-
-#[cfg(test)]
-mod tests;

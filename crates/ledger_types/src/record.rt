@@ -9,7 +9,7 @@ use value_types::Hash;
 use value_xdr::Xdr;
 use xdr_core::{Cursor, NoMemory, Out, ReadXdr, add_sizes};
 
-/// How long the entry of a key lives (`TTLEntry`).
+/// The live-until ledger of a key's entry (`TTLEntry`).
 #[derive(Debug, PartialEq, Eq)]
 pub struct TtlEntry {
     /// The SHA-256 of the key's XDR.

@@ -1,4 +1,4 @@
-//! The spelling of what each kind of cost costs.
+//! The codec of the terms of all kinds of cost.
 
 ghost use Rattle.std.specs.Prelude.{◌≡◌, ◌++◌, OnOk, OnErr};
 ghost use Rattle.xdr_core.specs.Reads.{Reads};
@@ -10,7 +10,7 @@ use std::alloc::Global;
 use value_xdr::Xdr;
 use xdr_core::{Cursor, NoMemory, Out, ReadXdr};
 
-/// How many bytes the terms of all kinds have: four words for each of eleven.
+/// The length of the terms of all kinds in bytes: four words for each of eleven kinds.
 pub const TERMS_SIZE: u64 = 176;
 
 #[tactic(auto, unfolding(crate::specs::Terms::row_format))]
@@ -55,7 +55,7 @@ fn write_row(terms: KindTerms, out: &mut Out) -> Result<(), NoMemory>
     result
 }
 
-/// Reads the rows of all kinds, in the order of their numbers.
+/// Reads the terms of all kinds, in the order of their numbers.
 #[tactic(auto, unfolding(crate::specs::Terms::terms_format))]
 pub fn read_terms(alloc: Global, input: &mut Cursor<'_>) -> Result<Terms, ReadXdr>
     ensures { Reads terms_format.read input.old input.new result }
@@ -75,7 +75,7 @@ pub fn read_terms(alloc: Global, input: &mut Cursor<'_>) -> Result<Terms, ReadXd
     })
 }
 
-/// Writes the rows of all kinds, in the order of their numbers.
+/// Writes the terms of all kinds, in the order of their numbers.
 #[tactic(auto, unfolding(crate::specs::Terms::terms_format))]
 pub fn write_terms(terms: &Terms, out: &mut Out) -> Result<(), NoMemory>
     requires { terms_format.fits terms.now }

@@ -1,4 +1,4 @@
-//! Which signatures are good.
+//! Verdicts: the good signatures.
 
 ghost use Rattle.std.specs.Prelude.{◌≡◌, ◌↔◌, ⊤, IsTrue, Contains};
 ghost use Rattle.ledger_types.specs.Verdicts.{verdict_of, verdict_format, verdict_lawful, verdicts_format, verdicts_lawful};
@@ -8,12 +8,12 @@ use value_types::{Hash, Items};
 use value_xdr::Xdr;
 use xdr_core::{Cursor, NoMemory, Out, ReadXdr, add_sizes};
 
-/// The signature that a key gave for a payload is good (own).
+/// A verdict (own): the signature of this key for this payload is good.
 #[derive(Debug, PartialEq, Eq)]
 pub struct Verdict {
     /// An ed25519 public key.
     pub key: Hash,
-    /// The SHA-256 of what was signed.
+    /// The SHA-256 of the signed bytes.
     pub payload: Hash,
 }
 
@@ -59,7 +59,7 @@ pub struct Verdicts {
 }
 
 impl Verdicts {
-    /// Whether the signature of the key for the payload is among them.
+    /// Whether the verdicts say that the key's signature for the payload is good.
     pub fn holds(&self, key: &Hash, payload: &Hash) -> bool
         ensures { IsTrue result ↔ Contains self.now.pairs (verdict_of (key.now, payload.now)) }
     {

@@ -1,4 +1,4 @@
--- What is said of bytes is exactly what is so.
+-- The defined verdict is exactly the true one.
 use Rattle.std.proofs.Common.{◌≡◌, ℕ, Bool, true, false, List, Option, Some, None, Result, Ok, Err, refl, sym, ap, ◌∙◌, subst}
 use Rattle.std.specs.Prelude.{◌&&◌, if◌then◌else◌}
 use Rattle.wasm_spec.specs.Binary.{ModuleBytes}
@@ -55,7 +55,7 @@ said : (bytes : List ℕ) → IsVerdict bytes (verdict_of bytes)
 unfolding verdict_of
 said bytes = said_of_module bytes (module_at bytes) refl
 
--- ---- what is so is said
+-- ---- the true verdict is the defined one
 
 none_of : (bytes : List ℕ) (o : Option Module) → module_at bytes ≡ o → ((m : Module) → ModuleBytes m bytes → ⊥) → judged_if o ≡ Err NotAModule
 none_of bytes None e none = refl

@@ -1,4 +1,4 @@
--- What is said of a module that the host takes (own).
+-- The line that reports an accepted module (own).
 use Rattle.std.specs.Prelude.{ℕ, List, ◌++◌, codes, decimal}
 use Rattle.module_vet.specs.declared.Sizes.{Sizes}
 

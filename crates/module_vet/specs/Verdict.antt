@@ -1,11 +1,11 @@
--- What is said of bytes that are to be a WebAssembly module (core sections 3 and 5; own where it is said which flaw is told).
+-- The verdict on bytes as a WebAssembly module (core sections 3 and 5; the order of flaws is own).
 use Rattle.std.specs.Prelude.{◌≡◌, ◌↔◌, ◌+◌, ◌&&◌, ℕ, suc, Bool, false, List, [], ◌∷◌, length, Option, Some, None, Result, Ok, Err, slice_get, option_map, is_some, nat_le, if◌then◌else◌, ⊤}
 use Rattle.wasm_spec.specs.Binary.{ModuleBytes, locals_count}
 use Rattle.wasm_spec.specs.Typing.{Typed, IsIll, MOST_LOCALS, body_context, result_of}
 use Rattle.wasm_spec.specs.declared.module.Module.{Module}
 use Rattle.wasm_spec.specs.declared.module.Function.{Function}
 use Rattle.wasm_spec.specs.declared.types.FuncType.{FuncType}
-use Rattle.wasm_spec.specs.declared.types.Limits.{Limits}
+use Rattle.wasm_spec.specs.declared.types.ResizableLimits.{ResizableLimits}
 use Rattle.wasm_read.specs.Reading.{module_at}
 use Rattle.wasm_check.specs.Check.{body_check}
 use Rattle.wasm_check.specs.Linking.{Linked, IsFirstUnlinked, host_functions, import_ok}
@@ -16,12 +16,12 @@ use Rattle.module_vet.specs.declared.Sizes.{Sizes}
 use Rattle.module_vet.specs.declared.VetErr.{VetErr}
 use Rattle.module_vet.specs.declared.VetErr.TheVariants.{Flawed, NoMemory}
 
--- the pages that a module's memory begins with
-abbrev pub least_pages : List Limits → ℕ
+-- the initial size of a module's memory, in pages
+abbrev pub least_pages : List ResizableLimits → ℕ
 least_pages [] = 0
 least_pages (first ∷ others) = first.min
 
--- how much is in a module
+-- the sizes of a module
 abbrev pub sizes_of : Module → Sizes
 sizes_of m = record {
   functions = length m.functions;
@@ -30,18 +30,18 @@ sizes_of m = record {
   pages = least_pages m.memories;
 }
 
--- ---- in the standard's words
+-- ---- by the standard's relations
 
--- what is so of the module that the bytes spell, or that they spell none
+-- the verdict is true of the module that the bytes encode, or they encode none
 abbrev pub IsVerdict : List ℕ → Result Sizes Flaw → Type 0
 IsVerdict bytes (Ok sizes) = (m : Module) × ModuleBytes m bytes × Typed m × Linked host_functions m × (sizes ≡ sizes_of m)
 IsVerdict bytes (Err NotAModule) = (m : Module) → ModuleBytes m bytes → ⊥
 IsVerdict bytes (Err (Ill func)) = (m : Module) × ModuleBytes m bytes × IsIll m func
 IsVerdict bytes (Err (Unlinked k)) = (m : Module) × ModuleBytes m bytes × Typed m × IsFirstUnlinked host_functions m k
 
--- ---- as a function: the first test that is not passed
+-- ---- as a function: the first test that fails
 
--- the place of the first item that does not pass
+-- the index of the first item that fails the test
 abbrev pub first_failing : {A : Type 0} → (A → Bool) → List A → Option ℕ
 first_failing passes [] = None
 first_failing passes (x ∷ xs) = if passes x then option_map suc (first_failing passes xs) else Some 0
@@ -64,7 +64,7 @@ abbrev pub by_function : Module → Option ℕ → Result Sizes Flaw
 by_function m None = by_import m (first_failing (import_ok host_functions m) m.imports)
 by_function m (Some i) = Err (Ill (Some (length m.imports + i)))
 
--- of a module
+-- the verdict on a module
 abbrev pub judged : Module → Result Sizes Flaw
 judged m =
     if rules_ok m && exports_differ m.exports then by_function m (first_failing (function_ok m) m.functions)
@@ -77,11 +77,11 @@ judged_if (Some m) = judged m
 unfoldable pub verdict_of : List ℕ → Result Sizes Flaw
 verdict_of bytes = judged_if (module_at bytes)
 
--- The function says exactly what is so.
+-- The function returns exactly the true verdict.
 abbrev pub IsExact : Type 0
 IsExact = (bytes : List ℕ) (verdict : Result Sizes Flaw) → (verdict_of bytes ≡ verdict) ↔ IsVerdict bytes verdict
 
--- ---- what the code gives
+-- ---- results of the code
 
 abbrev pub ReportsFlaw : List ℕ → VetErr → Type 0
 ReportsFlaw bytes (Flawed flaw) = IsVerdict bytes (Err flaw)
@@ -96,7 +96,7 @@ GivesVerdict verdict (Ok sizes) = verdict ≡ Ok sizes
 GivesVerdict verdict (Err (Flawed flaw)) = verdict ≡ Err flaw
 GivesVerdict verdict (Err NoMemory) = ⊤
 
--- a module is ill typed, as the error says
+-- the module is ill typed at the function that the error names
 abbrev pub ReportsIll : Module → VetErr → Type 0
 ReportsIll m (Flawed (Ill func)) = IsIll m func
 ReportsIll m (Flawed NotAModule) = ⊥

@@ -1,4 +1,4 @@
-//! WebAssembly modules judged from their bytes: which of them this host takes, and why it takes no others.
+//! The verdict on a WebAssembly module from its bytes: its sizes if this host accepts it, or else its first flaw.
 #![tactic(auto)]
 
 ghost use Rattle.std.specs.Prelude.{◌≡◌, IfOk, IfErr};
@@ -11,23 +11,21 @@ use std::alloc::{AllocError, Global};
 use text_lines::push_number;
 use wasm_check::{CheckErr, ValidModule, check, link};
 use wasm_read::{ReadModErr, read_module};
-use wasm_spec::{Limits, Module};
+use wasm_spec::{Module, ResizableLimits};
 
-#[cfg(test)]
-mod tests;
-
-/// Why the host does not take a module.
+/// Why the host rejects bytes as a module.
 #[derive(Clone, Copy, Debug, PartialEq, Eq)]
 pub enum Flaw {
-    /// The bytes spell no module.
+    /// The bytes encode no module.
     NotAModule,
-    /// The module is ill typed: the least function that is, imports counted, or none where a rule outside bodies is broken.
+    /// The module is ill typed: `func` is the index of the first ill-typed function, imports included, or `None` if a
+    /// rule outside function bodies is broken.
     Ill { func: Option<u32> },
-    /// The first import that the host does not have with its type.
+    /// `import` is the index of the first import that the host interface does not have with its type.
     Unlinked { import: u32 },
 }
 
-/// Why bytes are not taken.
+/// Why `vet` fails.
 #[derive(Debug, PartialEq, Eq, Drop)]
 pub enum VetErr {
     Flawed(Flaw),
@@ -35,23 +33,23 @@ pub enum VetErr {
     NoMemory,
 }
 
-/// How much is in a module that the host takes.
+/// The sizes of a module that the host accepts.
 #[derive(Clone, Copy, Debug, PartialEq, Eq)]
 pub struct Sizes {
-    /// The functions of its own.
+    /// The number of its functions, without imports.
     pub functions: usize,
     pub imports: usize,
     pub exports: usize,
-    /// The pages of 64 KiB that its memory begins with, 0 where it has none.
+    /// The initial size of its memory in pages of 64 KiB, 0 without a memory.
     pub pages: u32,
 }
 
-/// Whether the host takes the module that the bytes spell. They are read first, then types are checked, then imports are
-/// looked up: the first flaw is told.
+/// Reports the sizes of the module that the bytes encode, or its first flaw. The bytes are read first, then the module
+/// is validated, then its imports are linked.
 pub fn vet(alloc: Global, bytes: &[u8]) -> Result<Sizes, VetErr>
-    // What is said is so of the module that they spell.
+    // The verdict is true of the module that the bytes encode.
     ensures verdict { IsVerdictUnlessMemory bytes.now result }
-    // It is what the definition gives.
+    // The verdict is the defined one.
     ensures given { GivesVerdict (verdict_of bytes.now) result }
 {
     judged(alloc, bytes)
@@ -69,7 +67,7 @@ fn judged(alloc: Global, bytes: &[u8]) -> Result<Sizes, VetErr>
     }
 }
 
-/// The module that the bytes spell, which is valid.
+/// Reads and validates the module that the bytes encode.
 fn valid_module(alloc: Global, bytes: &[u8]) -> Result<ValidModule, VetErr>
     ensures spelled { IfOk result (λ m. ModuleBytes m bytes.now) }
     ensures valid { IfOk result Typed }
@@ -113,7 +111,7 @@ fn sizes_of(module: &Module) -> Sizes
     }
 }
 
-fn least_pages(memories: &[Limits]) -> u32
+fn least_pages(memories: &[ResizableLimits]) -> u32
     ensures { result ≡ least_pages memories.now }
 {
     match memories {
@@ -122,7 +120,7 @@ fn least_pages(memories: &[Limits]) -> u32
     }
 }
 
-/// The line that is said of a module that the host takes.
+/// Returns the line that reports an accepted module.
 pub fn valid_line(alloc: Global, sizes: &Sizes) -> Result<Vec<u8>, AllocError>
     ensures { IfOk result (λ v. v.items ≡ valid_line sizes.now) }
 {
@@ -134,7 +132,7 @@ pub fn valid_line(alloc: Global, sizes: &Sizes) -> Result<Vec<u8>, AllocError>
     Ok(line)
 }
 
-/// The definition of what is said of bytes says what is so, in the standard's words, and nothing else.
+/// The defined verdict on bytes is exactly the one that the standard's relations allow.
 pub fn verdict_is_exact()
     ensures { IsExact }
 {}

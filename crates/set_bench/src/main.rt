@@ -1,4 +1,4 @@
-//! Reads a transaction set and writes it again, as often as asked, so that both can be timed from outside.
+//! Reads a transaction set and writes it again, as often as asked, to be timed from outside.
 #![tactic(auto)]
 
 use edge_io::{Blob, RealFiles, Word, read_whole};
@@ -21,7 +21,8 @@ fn main(rt: HostRuntime) -> ExitCode {
     }
 }
 
-/// Reads and writes the set of the file so many times. How many bytes were written last, if they are those of the file.
+/// Reads and writes the set of the file the asked number of times. Returns the number of bytes written last, if they are those of
+/// the file.
 fn run<R: Runtime + AllocGlobal>(rt: &R) -> Option<usize> {
     let alloc = rt.alloc();
     let mut words = std::env::args(rt).ok()?.skip(1);

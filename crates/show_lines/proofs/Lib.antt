@@ -1,2 +1,2 @@
 mod Depths
-mod Told
+mod LineLaws

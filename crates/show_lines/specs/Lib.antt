@@ -1,1 +1,3 @@
-pub mod Lines
+pub mod LedgerLines
+pub mod Parts
+pub mod SetLines

@@ -1,4 +1,4 @@
-//! The program: its words, its files and its standard output are those of the process.
+//! The program: runs `soroban` on the process's words, over the operating system's files and standard output.
 #![tactic(auto)]
 
 use edge_io::{OpenGate, RealFiles, StdSay, Word};
@@ -28,7 +28,7 @@ fn run<R: Runtime + AllocGlobal + Threads + Sync>(rt: &R) -> Result<Status, Allo
     Ok(status)
 }
 
-/// The words behind the program's name. Words that are not text are wrong words.
+/// The words after the program's name. Words that are not text are wrong words.
 fn words(rt: &(impl Env + AllocGlobal)) -> Result<Vec<Word>, Status> {
     let args = match std::env::args(rt) {
         Ok(args) => args,

@@ -57,8 +57,8 @@ exact_here (Fault name) due files old new said_old said_new (inr h) none is = ab
 exact_here NoMemory due files old new said_old said_new cause none is = inr refl
 exact_here status due files old new said_old said_new cause none is = inl is
 
--- the same where the files are told
-pub exact_where_told : {M : Type 0} (told : Option M) (status : Status) (due : M → Status) (files : List File) (old new : ℕ → ℕ) (said_old said_new : ℕ) → HasCauseFor files old new said_old said_new status → IfSome told (λ m. UnlessFree status (status ≡ due m))
-    → IfSome told (λ m. NoneRose files old new said_old said_new → (status ≡ due m) ⊎ (status ≡ NoMemory))
-exact_where_told None status due files old new said_old said_new cause is = is
-exact_where_told (Some m) status due files old new said_old said_new cause is = λ none. exact_here status (due m) files old new said_old said_new cause none is
+-- the same where the files are known
+pub exact_where_known : {M : Type 0} (known : Option M) (status : Status) (due : M → Status) (files : List File) (old new : ℕ → ℕ) (said_old said_new : ℕ) → HasCauseFor files old new said_old said_new status → IfSome known (λ m. UnlessFree status (status ≡ due m))
+    → IfSome known (λ m. NoneRose files old new said_old said_new → (status ≡ due m) ⊎ (status ≡ NoMemory))
+exact_where_known None status due files old new said_old said_new cause is = is
+exact_where_known (Some m) status due files old new said_old said_new cause is = λ none. exact_here status (due m) files old new said_old said_new cause none is

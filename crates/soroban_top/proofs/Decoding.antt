@@ -6,6 +6,16 @@ use Rattle.xdr_spec.specs.Laws.{IsFormat}
 use Rattle.xdr_spec.specs.Refusal.{Refuses}
 use Rattle.xdr_spec.specs.declared.Why.{Why}
 use Rattle.xdr_spec.specs.declared.XdrErr.{XdrErr}
+use Rattle.xdr_core.specs.Reads.{IsRefusal}
+use Rattle.xdr_core.specs.declared.error.ReadXdr.{ReadXdr}
+use Rattle.xdr_core.specs.declared.error.ReadXdr.TheVariants as read_errors
+use Rattle.ledger_file.specs.Reading.{IsRefusalUnlessMemory}
+use Rattle.ledger_file.specs.declared.error.LedgerErr.{LedgerErr}
+use Rattle.ledger_file.specs.declared.error.LedgerErr.TheVariants as ledger_errors
+use Rattle.ledger_spec.specs.declared.LedgerRefusal.{LedgerRefusal}
+use Rattle.soroban_top.specs.Counts.{IsOfBytes}
+use Rattle.soroban_top.specs.Judged.{as_ledger, as_spelled, unread, unread_ledger}
+use Rattle.soroban_top.specs.Steps.{Gives}
 use Rattle.xdr_spec.proofs.Decoding.{decoded_refuses, decoded_spells}
 use Rattle.xdr_spec.proofs.Refused.{not_both, one_refusal}
 
@@ -23,3 +33,21 @@ by_outcome F lawful bytes e (Err d) fit refuses is =
 -- bytes that are refused are decoded as that refusal
 pub refuses_decoded : {V : Type 0} (F : Format V) (lawful : IsFormat F) (bytes : List ℕ) (e : XdrErr) → IsBytes bytes → Refuses F bytes e.at e.why → decoded F bytes ≡ Err e
 refuses_decoded F lawful bytes e fit refuses = by_outcome F lawful bytes e (decoded F bytes) fit refuses refl
+
+-- ---- an error of reading is the status that is due
+
+pub unread_due : {V : Type 0} (F : Format V) (lawful : IsFormat F) (bytes : List ℕ) (e : ReadXdr) → IsBytes bytes → IsRefusal F bytes e → Gives {X = V} {Y = V} (λ v. v) (Err (unread e)) (as_spelled (decoded F bytes))
+unread_due F lawful bytes (read_errors.Bad e) fit refuses = rw (refuses_decoded F lawful bytes e fit refuses) refl
+unread_due F lawful bytes read_errors.NoMemory fit refuses = tt
+
+pub unread_of_bytes : (e : ReadXdr) → IsOfBytes (unread e)
+unread_of_bytes (read_errors.Bad e) = tt
+unread_of_bytes read_errors.NoMemory = tt
+
+pub unread_ledger_due : {L A : Type 0} (view : L → A) (found : Result A LedgerRefusal) (e : LedgerErr) → IsRefusalUnlessMemory found e → Gives view (Err (unread_ledger e)) (as_ledger found)
+unread_ledger_due view found (ledger_errors.Refused r) is = rw is refl
+unread_ledger_due view found ledger_errors.NoMemory is = tt
+
+pub unread_ledger_of_bytes : (e : LedgerErr) → IsOfBytes (unread_ledger e)
+unread_ledger_of_bytes (ledger_errors.Refused r) = tt
+unread_ledger_of_bytes ledger_errors.NoMemory = tt

@@ -4,7 +4,7 @@ use Rattle.std.specs.Prelude.{nat_lt, if◌then◌else◌}
 use Rattle.base64_text.specs.Text.{bytes_in}
 use Rattle.ledger_types.specs.Verdicts.{verdicts_format}
 use Rattle.ledger_types.specs.declared.verdicts.Verdicts.{Verdicts}
-use Rattle.tx_xdr.specs.Limits.{today}
+use Rattle.tx_xdr.specs.SetBounds.{today}
 use Rattle.tx_xdr.specs.Set.{set_format}
 use Rattle.tx_xdr.specs.declared.set.TxSet.{TxSet}
 use Rattle.xdr_spec.specs.Decoded.{decoded}

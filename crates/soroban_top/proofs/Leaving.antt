@@ -3,7 +3,7 @@ use Rattle.std.proofs.Common.{◌≡◌, ℕ, List, [], ◌∷◌, Some, None, I
 use Rattle.edge_io.specs.Contents.{Contents, FileMap}
 use Rattle.soroban_top.specs.Counts.{HasCause, HasFaulted}
 use Rattle.soroban_top.specs.Product.{File, Job, Made}
-use Rattle.soroban_top.specs.Left.{IsNameOf, Leaves, StoresFront}
+use Rattle.soroban_top.specs.Left.{IsNameOf, Leaves, StoresPrefix}
 use Rattle.soroban_top.specs.Steps.{UnlessFault}
 use Rattle.soroban_top.specs.declared.status.Status.{Status}
 use Rattle.soroban_top.specs.declared.status.Status.TheVariants.{Done, Fault, NoMemory}
@@ -15,19 +15,19 @@ name_of_fault (file ∷ files) name old new (inl h) = inl h.0
 name_of_fault (file ∷ files) name old new (inr h) = inr (name_of_fault files name old new h)
 
 -- none of the stores is done
-front_none : (jobs : List Job) (old new : Contents) → new ≡ old → StoresFront jobs old new
-front_none [] old new e = e
-front_none (job ∷ jobs) old new e = inl e
+prefix_none : (jobs : List Job) (old new : Contents) → new ≡ old → StoresPrefix jobs old new
+prefix_none [] old new e = e
+prefix_none (job ∷ jobs) old new e = inl e
 
 leaves_all : (status : Status) (reads : List File) (outcome : Result Made Status) (old new : Contents) (counts later : ℕ → ℕ) → new ≡ old → HasCause reads counts later status → Leaves status reads outcome old new
 leaves_all Done reads outcome old new counts later e cause = absurd cause
 leaves_all (Fault name) reads (Ok made) old new counts later e cause = inl (name_of_fault reads name counts later cause, e)
 leaves_all (Fault name) reads (Err refusal) old new counts later e cause = (name_of_fault reads name counts later cause, e)
-leaves_all NoMemory reads (Ok made) old new counts later e cause = front_none made.stores old new e
+leaves_all NoMemory reads (Ok made) old new counts later e cause = prefix_none made.stores old new e
 leaves_all status reads outcome old new counts later e cause = e
 
 -- a command that stopped while it read leaves all as it was
-pub stopped_reading : (told old new : Contents) (status : Status) (reads : List File) (outcome : FileMap → Result Made Status) (counts later : ℕ → ℕ) → new ≡ old → HasCause reads counts later status → IfSome told (λ m. Leaves status reads (outcome m) old new)
+pub stopped_reading : (known old new : Contents) (status : Status) (reads : List File) (outcome : FileMap → Result Made Status) (counts later : ℕ → ℕ) → new ≡ old → HasCause reads counts later status → IfSome known (λ m. Leaves status reads (outcome m) old new)
 stopped_reading None old new status reads outcome counts later e cause = tt
 stopped_reading (Some m) old new status reads outcome counts later e cause = leaves_all status reads (outcome m) old new counts later e cause
 
@@ -36,6 +36,6 @@ second_unless_fault P Q (Fault name) h = h
 second_unless_fault P Q status h = h.1
 
 -- the second of two facts that hold where no fault is due
-pub second_where_told : (P Q : Type 0) (told : Contents) (due : FileMap → Status) → IfSome told (λ m. UnlessFault (due m) (P × Q)) → IfSome told (λ m. UnlessFault (due m) Q)
-second_where_told P Q None due h = h
-second_where_told P Q (Some m) due h = second_unless_fault P Q (due m) h
+pub second_where_known : (P Q : Type 0) (known : Contents) (due : FileMap → Status) → IfSome known (λ m. UnlessFault (due m) (P × Q)) → IfSome known (λ m. UnlessFault (due m) Q)
+second_where_known P Q None due h = h
+second_where_known P Q (Some m) due h = second_unless_fault P Q (due m) h

@@ -12,7 +12,7 @@ use Rattle.ledger_spec.specs.declared.LedgerWhy.{LedgerWhy}
 use Rattle.ledger_spec.specs.declared.LedgerWhy.TheVariants as ledger_why
 use Rattle.ledger_types.specs.File.{file_format}
 use Rattle.ledger_types.specs.declared.header.Header.{Header}
-use Rattle.show_lines.specs.Lines.{ledger_lines}
+use Rattle.show_lines.specs.LedgerLines.{ledger_lines}
 use Rattle.xdr_spec.specs.Format.{IsBytes}
 use Rattle.xdr_spec.specs.Refusal.{Refuses}
 use Rattle.xdr_spec.specs.declared.Why.{Why}

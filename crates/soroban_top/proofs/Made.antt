@@ -2,7 +2,7 @@
 use Rattle.std.proofs.Common.{◌≡◌, ℕ, ◌<◌, ◌^◌, List, Option, IsTrue, ◌∙◌, ap, ap₂, arith}
 use borrow.Author.Tests.{ltb-true}
 use Rattle.apply_spec.specs.Outputs.{outputs_after, outputs_with}
-use Rattle.apply_spec.specs.Runs.{Running, new_header, success_preimages}
+use Rattle.apply_spec.specs.Runs.{RunState, new_header, success_preimages}
 use Rattle.invoke_types.specs.declared.success.SuccessPreimage.{SuccessPreimage}
 use Rattle.ledger_spec.specs.LedgerFile.{has_next}
 use Rattle.ledger_types.specs.Header.{header_format}
@@ -19,12 +19,12 @@ new_header_fits header close_time fits next small =
     let below : header.seq < 4000000000 = ltb-true header.seq 4000000000 next in
     (fits.0, (omega arith, (small, fits.1.1.1)))
 
-pub report_made : (running : Running) (results : ResultSet) (successes : List (Option SuccessPreimage)) (report : List ℕ) → results.pairs ≡ running.results → successes ≡ success_preimages running → report ≡ report_bytes results successes
+pub report_made : (running : RunState) (results : ResultSet) (successes : List (Option SuccessPreimage)) (report : List ℕ) → results.pairs ≡ running.results → successes ≡ success_preimages running → report ≡ report_bytes results successes
     → report ≡ report_bytes (record { pairs = running.results }) (success_preimages running)
 report_made running results successes report same_results same_successes is =
     is ∙ ap₂ (λ pairs s. report_bytes (record { pairs = pairs }) s) same_results same_successes
 
-pub lines_made : (header given : Header) (running : Running) (pairs : List TransactionResultPair) (report ledger lines : List ℕ) → given ≡ header → pairs ≡ running.results → report ≡ (outputs_after header running).report → ledger ≡ (outputs_after header running).ledger
+pub lines_made : (header given : Header) (running : RunState) (pairs : List TransactionResultPair) (report ledger lines : List ℕ) → given ≡ header → pairs ≡ running.results → report ≡ (outputs_after header running).report → ledger ≡ (outputs_after header running).ledger
     → lines ≡ (outputs_with given.seq pairs report ledger).lines → lines ≡ (outputs_after header running).lines
 lines_made header given running pairs report ledger lines same_header same_pairs same_report same_ledger is =
     is

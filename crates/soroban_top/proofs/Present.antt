@@ -15,7 +15,7 @@ use Rattle.module_vet.specs.Verdict.{verdict_of}
 use Rattle.module_vet.specs.declared.Flaw.{Flaw}
 use Rattle.module_vet.specs.declared.Flaw.TheVariants as flaw
 use Rattle.module_vet.specs.declared.Sizes.{Sizes}
-use Rattle.tx_xdr.specs.Limits.{today, whole}
+use Rattle.tx_xdr.specs.SetBounds.{today, whole}
 use Rattle.tx_xdr.specs.Set.{set_format}
 use Rattle.tx_xdr.specs.Transaction.{envelope_format}
 use Rattle.value_types.specs.Formats.{scval_format}
@@ -123,6 +123,6 @@ unless P (Fault name) none h = absurd none
 unless P status none h = h
 
 -- what holds unless a fault is due, holds where the files are there
-pub where_present : (P : Type 0) (told : Contents) (asked : Option Request) → IfSome told (λ m. UnlessFault (due asked m) P) → IfSome told (λ m. AreThere (reads_named asked) m → P)
+pub where_present : (P : Type 0) (known : Contents) (asked : Option Request) → IfSome known (λ m. UnlessFault (due asked m) P) → IfSome known (λ m. AreThere (reads_named asked) m → P)
 where_present P None asked h = h
 where_present P (Some m) asked h = λ there. unless P (due asked m) (no_fault asked m there) h

@@ -5,10 +5,10 @@ use Rattle.std.proofs.Math.Seq.{take-append-add, take-append_seam}
 use Rattle.std.specs.Prelude.{⊤}
 use Rattle.edge_io.specs.Text.{extended}
 use Rattle.edge_io.specs.declared.failed.EdgeErr.{EdgeErr}
-use Rattle.soroban_top.specs.Lines.{SaysFront, SaysLines}
+use Rattle.soroban_top.specs.Lines.{SaysPrefix, SaysLines}
 
--- nothing was said, which is a front
-pub none_said : (old new : Option (List ℕ)) (lines : List ℕ) → new ≡ old → SaysFront lines old new
+-- nothing was said, which is a prefix
+pub none_said : (old new : Option (List ℕ)) (lines : List ℕ) → new ≡ old → SaysPrefix lines old new
 none_said None new lines e = (0, e)
 none_said (Some text) new lines e = (0, e ∙ ap Some (sym (append-nil text)))
 
@@ -16,13 +16,13 @@ extended_twice : (old : Option (List ℕ)) (a b : List ℕ) → extended (extend
 extended_twice None a b = refl
 extended_twice (Some text) a b = ap Some (append_assoc text a b)
 
--- a front of what is said first is a front of both
-pub front_first : (a b : List ℕ) (old new : Option (List ℕ)) → SaysFront a old new → SaysFront (a ++ b) old new
-front_first a b old new said =
+-- a prefix of what is said first is a prefix of both
+pub prefix_first : (a b : List ℕ) (old new : Option (List ℕ)) → SaysPrefix a old new → SaysPrefix (a ++ b) old new
+prefix_first a b old new said =
     let n = said.0 in
     let whole : take n a ++ (drop n a ++ b) ≡ a ++ b = sym (append_assoc (take n a) (drop n a) b) ∙ ap (λ l. l ++ b) (take-append-drop n a) in
-    let front : take (length (take n a)) (a ++ b) ≡ take n a = ap (take (length (take n a))) (sym whole) ∙ take-append_seam (take n a) (drop n a ++ b) in
-    (length (take n a), said.1 ∙ ap (extended old) (sym front))
+    let prefix : take (length (take n a)) (a ++ b) ≡ take n a = ap (take (length (take n a))) (sym whole) ∙ take-append_seam (take n a) (drop n a ++ b) in
+    (length (take n a), said.1 ∙ ap (extended old) (sym prefix))
 
 -- the second is said behind the first
 pub said_behind : (a b : List ℕ) (old mid new : Option (List ℕ)) (r : Result ⊤ EdgeErr) → mid ≡ extended old a → SaysLines r b mid new → SaysLines r (a ++ b) old new

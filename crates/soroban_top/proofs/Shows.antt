@@ -1,8 +1,8 @@
 -- The status that is due of a set, an envelope or a value that is shown, of what the file spells.
 use Rattle.std.proofs.Common.{◌≡◌, Result, Ok, Err, refl}
-use Rattle.set_lines.specs.Lines.{envelope_line, set_lines}
-use Rattle.show_lines.specs.Lines.{value_line}
-use Rattle.tx_xdr.specs.Limits.{whole}
+use Rattle.show_lines.specs.SetLines.{envelope_line, set_lines}
+use Rattle.show_lines.specs.LedgerLines.{value_line}
+use Rattle.tx_xdr.specs.SetBounds.{whole}
 use Rattle.tx_xdr.specs.Set.{set_format, set_lawful}
 use Rattle.tx_xdr.specs.Transaction.{envelope_format, envelope_lawful}
 use Rattle.value_types.specs.Formats.{scval_format}

@@ -16,7 +16,7 @@ writes_of (Apply a) = file 3 a.report ∷ file 4 a.ledger_out ∷ []
 writes_of (Show s) = []
 writes_of (Vet v) = []
 
--- the files that the words name for it to read
+-- the files that the words name and the command reads
 abbrev pub reads_named : Option Request → List File
 reads_named None = []
 reads_named (Some asked) = reads_of asked

@@ -1,4 +1,4 @@
--- What is known of the counts of failed calls (own).
+-- Counts of failed calls as causes of statuses (own).
 use Rattle.std.specs.Prelude.{◌≡◌, ◌⊎◌, ℕ, ◌≤◌, List, [], ◌∷◌, ⊤}
 use Rattle.std.specs.List.{AllByRecursion}
 use Rattle.edge_io.specs.Counts.{Rose}
@@ -12,7 +12,7 @@ NoLower old new = (option : ℕ) → old option ≤ new option
 abbrev pub SameCounts : (ℕ → ℕ) → (ℕ → ℕ) → Type 0
 SameCounts old new = (option : ℕ) → new option ≡ old option
 
--- the count of one of the files, which has this name, rose
+-- the count of a file of this name rose
 abbrev pub HasFaulted : List File → List ℕ → (ℕ → ℕ) → (ℕ → ℕ) → Type 0
 HasFaulted [] name old new = ⊥
 HasFaulted (file ∷ files) name old new = ((file.name ≡ name) × Rose (old file.option) (new file.option)) ⊎ HasFaulted files name old new
@@ -22,13 +22,13 @@ abbrev pub FaultHasCause : List File → (ℕ → ℕ) → (ℕ → ℕ) → Sta
 FaultHasCause files old new (Fault name) = HasFaulted files name old new
 FaultHasCause files old new _ = ⊤
 
--- a function over these files stopped, for no fault of the words, and a fault has its cause
+-- the status of a function over these files that stopped: not Usage, and a fault has its cause
 abbrev pub HasCause : List File → (ℕ → ℕ) → (ℕ → ℕ) → Status → Type 0
 HasCause files old new Done = ⊥
 HasCause files old new Usage = ⊥
 HasCause files old new status = FaultHasCause files old new status
 
--- a function that only computes stopped: its input is at fault, or memory ran out
+-- the status of a function that only computes and stopped: its input is refused, or memory ran out
 abbrev pub IsOfBytes : Status → Type 0
 IsOfBytes (Ledger why at) = ⊤
 IsOfBytes (Verdicts at) = ⊤
@@ -40,11 +40,11 @@ IsOfBytes (Unlinked k) = ⊤
 IsOfBytes NoMemory = ⊤
 IsOfBytes _ = ⊥
 
--- the cause of any status: a fault is of a file of its name, or with the empty name of what is said
+-- the cause of any status: a fault has the name of a file whose count rose, or the empty name if the output's count rose
 abbrev pub HasCauseFor : List File → (ℕ → ℕ) → (ℕ → ℕ) → ℕ → ℕ → Status → Type 0
 HasCauseFor files old new said_old said_new (Fault name) = HasFaulted files name old new ⊎ ((name ≡ []) × Rose said_old said_new)
 HasCauseFor files old new said_old said_new _ = ⊤
 
--- no count of these files rose, nor that of what is said
+-- no count of these files rose, nor the output's
 abbrev pub NoneRose : List File → (ℕ → ℕ) → (ℕ → ℕ) → ℕ → ℕ → Type 0
 NoneRose files old new said_old said_new = AllByRecursion (λ (file : File). ¬ Rose (old file.option) (new file.option)) files × (¬ Rose said_old said_new)

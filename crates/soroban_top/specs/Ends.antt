@@ -1,4 +1,4 @@
--- How a command ended, where its files are told (own).
+-- How a command ended, if the content of its files is known (own).
 use Rattle.std.specs.Prelude.{ℕ, List, Option, Result}
 use Rattle.edge_io.specs.Contents.{Contents, FileMap}
 use Rattle.soroban_top.specs.Asked.{reads_named}
@@ -9,7 +9,7 @@ use Rattle.soroban_top.specs.Steps.{Gives, status_of}
 use Rattle.command_words.specs.declared.request.Request.{Request}
 use Rattle.soroban_top.specs.declared.status.Status.{Status}
 
--- the files that are stored and the text that is said
+-- the files and the output's text
 pub record Outside : Type 0 where
   pub contents : Contents
   pub text : Option (List ℕ)
@@ -17,8 +17,8 @@ pub record Outside : Type 0 where
 abbrev pub outside : Contents → Option (List ℕ) → Outside
 outside contents text = record { contents = contents; text = text }
 
--- It came to lines or to a status, as is due unless a call failed or memory ran out. That left the files so.
--- Then the lines of it were said, all or not, and this is the status.
+-- The command came to lines or to a status: the one that is due, unless a call failed or memory ran out. It left the files as
+-- `Leaves` says. Then the lines were printed, wholly or not, with this final status.
 pub record Ends (asked : Option Request) (m : FileMap) (result : Status) (old new : Outside) : Type 0 where
   pub came_to : Result (List ℕ) Status
   pub is_due : Gives (λ lines. lines) came_to (says_of (outcome_if asked m))

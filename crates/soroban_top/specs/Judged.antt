@@ -1,4 +1,4 @@
--- The files that a command reads: each is there, not too long, and judged (own).
+-- The files that a command reads: each exists, is not too long, and is checked (own).
 use Rattle.std.specs.Prelude.{ℕ, Bool, true, false, ◌^◌, List, [], ◌∷◌, length, Option, Some, None, Result, Ok, Err, IsSome, nat_lt, if◌then◌else◌, ⊤}
 use Rattle.std.specs.FinMap.{get}
 use Rattle.base64_text.specs.Text.{bytes_in}
@@ -9,18 +9,22 @@ use Rattle.ledger_spec.specs.declared.LedgerRefusal.{LedgerRefusal}
 use Rattle.ledger_types.specs.Verdicts.{verdicts_format}
 use Rattle.ledger_types.specs.declared.header.Header.{Header}
 use Rattle.ledger_types.specs.declared.verdicts.Verdicts.{Verdicts}
-use Rattle.tx_xdr.specs.Limits.{today}
+use Rattle.tx_xdr.specs.SetBounds.{today}
 use Rattle.tx_xdr.specs.Set.{set_format}
 use Rattle.tx_xdr.specs.declared.set.TxSet.{TxSet}
 use Rattle.xdr_spec.specs.Decoded.{decoded}
 use Rattle.xdr_spec.specs.declared.XdrErr.{XdrErr}
+use Rattle.xdr_core.specs.declared.error.ReadXdr.{ReadXdr}
+use Rattle.xdr_core.specs.declared.error.ReadXdr.TheVariants as read_errors
+use Rattle.ledger_file.specs.declared.error.LedgerErr.{LedgerErr}
+use Rattle.ledger_file.specs.declared.error.LedgerErr.TheVariants as ledger_errors
 use Rattle.soroban_top.specs.Product.{File}
 use Rattle.soroban_top.specs.Steps.{◌>>=◌}
 use Rattle.soroban_top.specs.declared.status.Status.{Status}
 use Rattle.soroban_top.specs.declared.status.Status.TheVariants as status
 use Rattle.soroban_top.specs.declared.status.Status.TheVariants.{Fault, TooLong, NotBase64}
 
--- a file's bytes, if it is there and not too long
+-- the bytes of a file, if it exists and is not too long
 abbrev pub bytes_of : Option (List ℕ) → List ℕ → Result (List ℕ) Status
 bytes_of None name = Err (Fault name)
 bytes_of (Some bytes) name = if nat_lt (2 ^ 30) (length bytes) then Err (TooLong name) else Ok bytes
@@ -28,17 +32,17 @@ bytes_of (Some bytes) name = if nat_lt (2 ^ 30) (length bytes) then Err (TooLong
 abbrev pub content_of : FileMap → List ℕ → Result (List ℕ) Status
 content_of m name = bytes_of (get m name) name
 
--- each of these files is there
+-- each of these files exists
 abbrev pub AreThere : List File → FileMap → Type 0
 AreThere [] m = ⊤
 AreThere (file ∷ files) m = IsSome (get m file.name) × AreThere files m
 
--- the bytes of which a text is the encoding in Base64
+-- the bytes that a base64 text encodes
 abbrev pub as_bytes : List ℕ → Option (List ℕ) → Result (List ℕ) Status
 as_bytes name None = Err (NotBase64 name)
 as_bytes name (Some bytes) = Ok bytes
 
--- what stands in a file of this name, which may be text in Base64
+-- the bytes in a file of this name, which may be base64 text
 abbrev pub opened : Bool → List ℕ → List ℕ → Result (List ℕ) Status
 opened false name text = Ok text
 opened true name text = as_bytes name (bytes_in text)
@@ -49,7 +53,7 @@ abbrev pub as_ledger : {A : Type 0} → Result A LedgerRefusal → Result A Stat
 as_ledger (Ok ledger) = Ok ledger
 as_ledger (Err refusal) = Err (status.Ledger refusal.why refusal.at)
 
--- a ledger that another may follow
+-- a ledger that another ledger may follow
 unfoldable pub ledger_in : List ℕ → Result (Header × LedgerMap) Status
 ledger_in bytes = as_ledger (ledger_of true bytes)
 
@@ -64,11 +68,21 @@ abbrev pub as_spelled : {A : Type 0} → Result A XdrErr → Result A Status
 as_spelled (Ok set) = Ok set
 as_spelled (Err e) = Err (status.Malformed e.at e.why)
 
--- a set of those that run today
+-- the status of an error of reading a set, an envelope or a value
+abbrev pub unread : ReadXdr → Status
+unread (read_errors.Bad e) = status.Malformed e.at e.why
+unread read_errors.NoMemory = status.NoMemory
+
+-- the status of an error of reading a ledger
+abbrev pub unread_ledger : LedgerErr → Status
+unread_ledger (ledger_errors.Refused refusal) = status.Ledger refusal.why refusal.at
+unread_ledger ledger_errors.NoMemory = status.NoMemory
+
+-- a set that runs today
 unfoldable pub set_in : List ℕ → Result TxSet Status
 set_in bytes = as_spelled (decoded (set_format today) bytes)
 
--- the same, of a file that may be text in Base64
+-- the same, of a file that may be base64 text
 abbrev pub set_opened : Bool → List ℕ → List ℕ → Result TxSet Status
 set_opened base64 name text = do
   bytes ← opened base64 name text

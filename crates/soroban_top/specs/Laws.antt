@@ -1,4 +1,4 @@
--- What apply comes to, in terms of what the bytes of its files spell (RFC 4506) alone.
+-- The outcomes of the commands, in terms of the spellings (RFC 4506) of their files' bytes alone.
 use Rattle.std.specs.Prelude.{◌≡◌, ◌↔◌, ℕ, false, List, Result, Ok, Some}
 use Rattle.command_words.specs.declared.request.ApplyRequest.{ApplyRequest}
 use Rattle.command_words.specs.declared.request.Request.TheVariants.{Apply, Show, Vet}
@@ -17,7 +17,7 @@ use Rattle.ledger_types.specs.declared.verdicts.Verdicts.{Verdicts}
 use Rattle.module_vet.specs.Verdict.{IsVerdict}
 use Rattle.module_vet.specs.declared.Flaw.{Flaw}
 use Rattle.module_vet.specs.declared.Sizes.{Sizes}
-use Rattle.tx_xdr.specs.Limits.{today, whole}
+use Rattle.tx_xdr.specs.SetBounds.{today, whole}
 use Rattle.tx_xdr.specs.Set.{set_format}
 use Rattle.tx_xdr.specs.Transaction.{envelope_format}
 use Rattle.tx_xdr.specs.declared.set.TxSet.{TxSet}
@@ -37,14 +37,14 @@ pub record HasLedgerFile (a : ApplyRequest) (m : FileMap) (bytes : List ℕ) : T
   pub has_ledger : content_of m a.ledger ≡ Ok bytes
   pub are_bytes : IsBytes bytes
 
--- the ledger's file is right, and the verdicts' file has these bytes
+-- the ledger's file is accepted, and the verdicts' file has these bytes
 pub record HasLedger (a : ApplyRequest) (m : FileMap) (verdicts : List ℕ) : Type 0 where
   pub ledger : Header × LedgerMap
   pub is_ledger : ledger_at m a.ledger ≡ Ok ledger
   pub has_verdicts : content_of m a.verdicts ≡ Ok verdicts
   pub are_bytes : IsBytes verdicts
 
--- the verdicts' file is right too, and what stands in the set's file, which may be text in Base64, are these bytes
+-- the verdicts' file is accepted, too, and the set's file, which may be base64 text, has these bytes
 pub record HasInputs (a : ApplyRequest) (m : FileMap) (set : List ℕ) : Type 0 where
   pub bytes : List ℕ
   pub before : HasLedger a m bytes
@@ -55,49 +55,49 @@ pub record HasInputs (a : ApplyRequest) (m : FileMap) (set : List ℕ) : Type 0 
   pub opens : opened a.base64 a.set text ≡ Ok set
   pub are_bytes : IsBytes set
 
--- the status that is due of this command
+-- the status that is due for this `apply`
 abbrev pub due_of : ApplyRequest → FileMap → Status
 due_of a m = due (Some (Apply a)) m
 
--- Ledger is due for want of a spelling exactly where the bytes are refused, at that place, whatever else is wrong.
+-- Ledger with reason Xdr is due exactly if the bytes are refused, at that place, whatever else is wrong.
 abbrev pub LedgerLaw : Type 0
 LedgerLaw = (a : ApplyRequest) (m : FileMap) (bytes : List ℕ) → HasLedgerFile a m bytes → (at : ℕ)
     → (due_of a m ≡ status.Ledger ledger_why.Xdr at) ↔ ((why : Why) × Refuses file_format bytes at why)
 
--- Verdicts is due exactly where the bytes are refused, at that place.
+-- Verdicts is due exactly if the bytes are refused, at that place.
 abbrev pub VerdictsLaw : Type 0
 VerdictsLaw = (a : ApplyRequest) (m : FileMap) (bytes : List ℕ) → HasLedger a m bytes → (at : ℕ)
     → (due_of a m ≡ status.Verdicts at) ↔ ((why : Why) × Refuses verdicts_format bytes at why)
 
--- Malformed is due exactly where the bytes spell no set that runs today, at the place and for the reason of their refusal.
+-- Malformed is due exactly if the bytes spell no set that runs today, with the place and the reason of their refusal.
 abbrev pub MalformedLaw : Type 0
 MalformedLaw = (a : ApplyRequest) (m : FileMap) (bytes : List ℕ) → HasInputs a m bytes → (at : ℕ) (why : Why)
     → (due_of a m ≡ status.Malformed at why) ↔ Refuses (set_format today) bytes at why
 
--- Done is due exactly where they spell one.
+-- Done is due exactly if they spell one.
 abbrev pub DoneLaw : Type 0
 DoneLaw = (a : ApplyRequest) (m : FileMap) (bytes : List ℕ) → HasInputs a m bytes
     → (due_of a m ≡ status.Done) ↔ ((set : TxSet) × Spells (set_format today) set bytes)
 
 -- ---- show and vet
 
--- what stands in the file that is shown are these bytes
+-- the shown file has these bytes
 pub record HasShown (s : ShowRequest) (m : FileMap) (bytes : List ℕ) : Type 0 where
   pub text : List ℕ
   pub has_text : content_of m s.file ≡ Ok text
   pub opens : opened s.base64 s.file text ≡ Ok bytes
   pub are_bytes : IsBytes bytes
 
--- the status that is due of a show
+-- the status that is due for this `show`
 abbrev pub due_of_show : ShowRequest → FileMap → Status
 due_of_show s m = due (Some (Show s)) m
 
--- Where such a file is shown, Malformed is due exactly where the bytes are refused, at that place and for that reason.
+-- For a shown file of this kind, Malformed is due exactly if the bytes are refused, with their place and reason.
 abbrev pub ShownMalformed : ShowKind → {A : Type 0} → Format A → Type 0
 ShownMalformed kind F = (s : ShowRequest) (m : FileMap) (bytes : List ℕ) → s.kind ≡ kind → HasShown s m bytes → (at : ℕ) (why : Why)
     → (due_of_show s m ≡ status.Malformed at why) ↔ Refuses F bytes at why
 
--- Done is due exactly where they spell one.
+-- Done is due exactly if they spell one.
 abbrev pub ShownDone : ShowKind → {A : Type 0} → Format A → Type 0
 ShownDone kind {A} F = (s : ShowRequest) (m : FileMap) (bytes : List ℕ) → s.kind ≡ kind → HasShown s m bytes
     → (due_of_show s m ≡ status.Done) ↔ ((x : A) × Spells F x bytes)
@@ -115,8 +115,8 @@ EnvelopeMalformedLaw = ShownMalformed kinds.Envelope (envelope_format whole)
 abbrev pub EnvelopeDoneLaw : Type 0
 EnvelopeDoneLaw = ShownDone kinds.Envelope (envelope_format whole)
 
--- A ledger that is shown is refused for want of a spelling exactly where its bytes are refused, at that place; Done is due
--- exactly where they are the file of a ledger.
+-- For a shown ledger, Ledger with reason Xdr is due exactly if the bytes are refused, at that place; Done is due exactly if they
+-- are the file of a ledger.
 abbrev pub LedgerShownLaw : Type 0
 LedgerShownLaw = (s : ShowRequest) (m : FileMap) (bytes : List ℕ) → s.kind ≡ kinds.Ledger → HasShown s m bytes → (at : ℕ)
     → (due_of_show s m ≡ status.Ledger ledger_why.Xdr at) ↔ ((why : Why) × Refuses file_format bytes at why)
@@ -131,7 +131,7 @@ ValueMalformedLaw = ShownMalformed kinds.Value scval_format
 abbrev pub ValueDoneLaw : Type 0
 ValueDoneLaw = ShownDone kinds.Value scval_format
 
--- What vet comes to is what is so of the module that the file's bytes spell.
+-- `vet` reports the sizes of the module that the bytes encode, or its first flaw.
 abbrev pub VetLaw : Type 0
 VetLaw = (v : VetRequest) (m : FileMap) (bytes : List ℕ) (verdict : Result Sizes Flaw) → content_of m v.module_file ≡ Ok bytes → IsVerdict bytes verdict
     → outcome_of (Vet v) m ≡ (as_vetted verdict >>= λ line. Ok (only_said line))

@@ -1,4 +1,4 @@
--- The lines of each status, and how far they were said (own).
+-- The lines of each status, and how much of them was printed (own).
 use Rattle.std.specs.Prelude.{◌≡◌, ◌⊎◌, ℕ, List, [], ◌++◌, take, Option, Some, None, Result, Ok, Err, codes, decimal, ⊤}
 use Rattle.edge_io.specs.Counts.{Rose}
 use Rattle.edge_io.specs.Text.{extended}
@@ -22,7 +22,7 @@ name_of Limit = codes ": limit\n"
 name_of Depth = codes ": depth\n"
 name_of Trailing = codes ": trailing\n"
 
--- a ledger's reason, by its number
+-- the number of the reason why a ledger is refused
 abbrev pub number_of : LedgerWhy → List ℕ
 number_of why.Xdr = codes "ledger refused: 1 at "
 number_of why.Order = codes "ledger refused: 2 at "
@@ -31,12 +31,12 @@ number_of why.CodeHash = codes "ledger refused: 4 at "
 number_of why.Settings = codes "ledger refused: 5 at "
 number_of why.SeqEnd = codes "ledger refused: 6 at "
 
--- the line of an ill typed module, by the function at fault
+-- the line of an ill-typed module, with its ill-typed function
 abbrev pub ill_line : Option ℕ → List ℕ
 ill_line None = codes "ill typed: module\n"
 ill_line (Some func) = codes "ill typed: function " ++ decimal func ++ codes "\n"
 
--- the line of a status that has no others
+-- the line of a status, if the command has no lines of its own
 abbrev pub line_of : Status → List ℕ
 line_of Done = []
 line_of Usage = codes "usage\n"
@@ -51,7 +51,7 @@ line_of (Ill func) = ill_line func
 line_of (Unlinked k) = codes "unlinked: import " ++ decimal k ++ codes "\n"
 line_of NoMemory = codes "no memory\n"
 
--- the number that the program ends with
+-- the exit code of the program
 abbrev pub code_of : Status → ℕ
 code_of Done = 0
 code_of Usage = 2
@@ -66,32 +66,32 @@ code_of (Ill func) = 1
 code_of (Unlinked k) = 1
 code_of NoMemory = 5
 
--- the lines that are due of a command that came to this: its own lines, or a status
+-- the lines that are due: the command's own lines, or the line of its status
 abbrev pub lines_of : Result (List ℕ) Status → List ℕ
 lines_of (Ok lines) = lines
 lines_of (Err status) = line_of status
 
--- a front of the lines was said
-abbrev pub SaysFront : List ℕ → Option (List ℕ) → Option (List ℕ) → Type 0
-SaysFront lines old new = (n : ℕ) × (new ≡ extended old (take n lines))
+-- a prefix of the lines was printed
+abbrev pub SaysPrefix : List ℕ → Option (List ℕ) → Option (List ℕ) → Type 0
+SaysPrefix lines old new = (n : ℕ) × (new ≡ extended old (take n lines))
 
--- all of them, or where a call failed or found no memory a front
+-- all lines were printed, or a prefix if a call failed or ran out of memory
 abbrev pub SaysLines : Result ⊤ EdgeErr → List ℕ → Option (List ℕ) → Option (List ℕ) → Type 0
 SaysLines (Ok x) lines old new = new ≡ extended old lines
-SaysLines (Err e) lines old new = SaysFront lines old new
+SaysLines (Err e) lines old new = SaysPrefix lines old new
 
--- the status of a command after its lines were said, or not all of them
+-- the final status of a command, by how the printing of its lines went
 abbrev pub IsStatusAfter : Result ⊤ EdgeErr → Status → Status → Type 0
 IsStatusAfter (Ok x) status result = result ≡ status
 IsStatusAfter (Err edge.Failed) status result = result ≡ Fault []
 IsStatusAfter (Err edge.NoMemory) status result = result ≡ NoMemory
 
--- The command says its lines whole, and then this status is its own. Else it is Fault with the empty name, or NoMemory.
+-- If all lines are printed, the final status is the command's own. Otherwise it is Fault with the empty name, or NoMemory.
 abbrev pub Finishes : Result (List ℕ) Status → Status → Option (List ℕ) → Option (List ℕ) → Type 0
 Finishes came_to result old new =
     ((result ≡ status_of came_to) × (new ≡ extended old (lines_of came_to))) ⊎
-    (((result ≡ Fault []) ⊎ (result ≡ NoMemory)) × SaysFront (lines_of came_to) old new)
+    (((result ≡ Fault []) ⊎ (result ≡ NoMemory)) × SaysPrefix (lines_of came_to) old new)
 
--- it is its own status, or what was said is the cause
+-- the final status is the command's own, or printing is its cause
 abbrev pub HasSayCause : Result (List ℕ) Status → ℕ → ℕ → Status → Type 0
 HasSayCause came_to old new result = (result ≡ status_of came_to) ⊎ ((result ≡ Fault []) × Rose old new) ⊎ (result ≡ NoMemory)

@@ -1,4 +1,4 @@
--- What a command comes to, where its files are told (own).
+-- The outcome of a command, if the content of its files is known (own).
 use Rattle.std.specs.Prelude.{◌≡◌, ℕ, List, [], ◌∷◌, Option, Some, None, Result, Ok, Err, ⊤}
 use Rattle.apply_spec.specs.Outputs.{Outputs, outputs}
 use Rattle.command_words.specs.declared.request.Request.{Request}
@@ -15,22 +15,22 @@ use Rattle.soroban_top.specs.Vetted.{vetted_at}
 use Rattle.soroban_top.specs.declared.status.Status.{Status}
 use Rattle.soroban_top.specs.declared.status.Status.TheVariants.{Usage, NoMemory}
 
--- the report is stored, then the new ledger, and then the lines are said
+-- the report is stored, then the new ledger; then the lines are printed
 abbrev pub applied : File → File → Outputs → Made
 applied report ledger_out made = record {
   stores = record { file = report; bytes = made.report } ∷ record { file = ledger_out; bytes = made.ledger } ∷ [];
   says = made.lines;
 }
 
--- nothing is stored, and these lines are said
+-- nothing is stored, and these lines are printed
 abbrev pub only_said : List ℕ → Made
 only_said lines = record { stores = []; says = lines }
 
--- what a set makes of a ledger, at a close time
+-- the outputs of a set over a ledger, at a close time
 unfoldable pub outputs_of : Header × LedgerMap → TxSet → ℕ → Outputs
 outputs_of ledger set close_time = outputs ledger.0 ledger.1 set close_time
 
--- What a command comes to: each file is judged before the next is read.
+-- The outcome of a command: each file is checked before the next is read.
 abbrev pub outcome_of : Request → FileMap → Result Made Status
 outcome_of (Apply a) m = do
   ledger ← ledger_at m a.ledger
@@ -44,12 +44,12 @@ outcome_of (Vet v) m = do
   lines ← vetted_at m v.module_file
   Ok (only_said lines)
 
--- what the words come to
+-- the outcome of the words
 abbrev pub outcome_if : Option Request → FileMap → Result Made Status
 outcome_if None m = Err Usage
 outcome_if (Some asked) m = outcome_of asked m
 
--- the lines that are due, or the status whose line is
+-- the lines that are due, or the status whose line is due
 abbrev pub says_of : Result Made Status → Result (List ℕ) Status
 says_of outcome = do
   made ← outcome
@@ -59,7 +59,7 @@ says_of outcome = do
 abbrev pub due : Option Request → FileMap → Status
 due asked m = status_of (outcome_if asked m)
 
--- what the words ask for was found, unless memory ran out
+-- the request of the words was found, unless memory ran out
 abbrev pub ReadsWords : {X : Type 0} → Result X Status → Option X → Type 0
 ReadsWords (Ok x) asked = asked ≡ Some x
 ReadsWords (Err Usage) asked = asked ≡ None

@@ -1,7 +1,7 @@
--- What a command makes, without where it lies in memory (own).
+-- The product of a command, apart from its form in memory (own).
 use Rattle.std.specs.Prelude.{ℕ, List}
 
--- a file option, by its number, and the name that it was given
+-- a file option by its number, and the name given for it
 pub record File : Type 0 where
   pub option : ℕ
   pub name : List ℕ
@@ -14,7 +14,7 @@ pub record Job : Type 0 where
   pub file : File
   pub bytes : List ℕ
 
--- what is stored, in order, and then said
+-- the stores in their order, and the lines that are then printed
 pub record Made : Type 0 where
   pub stores : List Job
   pub says : List ℕ

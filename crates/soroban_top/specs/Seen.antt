@@ -1,4 +1,4 @@
--- What a ledger stands for (own).
+-- The header and the map of a ledger (own).
 use Rattle.ledger_file.specs.declared.ledger.Ledger.{Ledger}
 use Rattle.ledger_spec.specs.LedgerMap.{LedgerMap}
 use Rattle.ledger_types.specs.declared.header.Header.{Header}

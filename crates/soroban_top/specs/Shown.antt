@@ -1,4 +1,4 @@
--- What show says of a file's bytes (own).
+-- The lines of `show` for a file's bytes (own).
 use Rattle.std.specs.Prelude.{ℕ, Bool, false, List, Result, Ok, Err}
 use Rattle.command_words.specs.declared.request.ShowKind.{ShowKind}
 use Rattle.command_words.specs.declared.request.ShowKind.TheVariants as kinds
@@ -7,9 +7,9 @@ use Rattle.edge_io.specs.Contents.{FileMap}
 use Rattle.ledger_spec.specs.LedgerFile.{ledger_of}
 use Rattle.ledger_spec.specs.LedgerMap.{LedgerMap}
 use Rattle.ledger_types.specs.declared.header.Header.{Header}
-use Rattle.set_lines.specs.Lines.{envelope_line, set_lines}
-use Rattle.show_lines.specs.Lines.{ledger_lines, value_line}
-use Rattle.tx_xdr.specs.Limits.{whole}
+use Rattle.show_lines.specs.SetLines.{envelope_line, set_lines}
+use Rattle.show_lines.specs.LedgerLines.{ledger_lines, value_line}
+use Rattle.tx_xdr.specs.SetBounds.{whole}
 use Rattle.tx_xdr.specs.Set.{set_format}
 use Rattle.tx_xdr.specs.Transaction.{envelope_format}
 use Rattle.tx_xdr.specs.declared.set.TxSet.{TxSet}
@@ -30,7 +30,7 @@ any_set_in bytes = as_spelled (decoded (set_format whole) bytes)
 unfoldable pub any_envelope_in : List ℕ → Result Envelope Status
 any_envelope_in bytes = as_spelled (decoded (envelope_format whole) bytes)
 
--- any ledger, also one that none may follow
+-- any ledger, also one that no ledger may follow
 unfoldable pub any_ledger_in : List ℕ → Result (Header × LedgerMap) Status
 any_ledger_in bytes = as_ledger (ledger_of false bytes)
 
@@ -53,13 +53,13 @@ shown kinds.Value bytes = do
   value ← value_in bytes
   Ok (value_line value)
 
--- the same, of a file that may be text in Base64
+-- the same, of a file that may be base64 text
 abbrev pub shown_opened : Bool → ShowKind → List ℕ → List ℕ → Result (List ℕ) Status
 shown_opened base64 kind name text = do
   bytes ← opened base64 name text
   shown kind bytes
 
--- of the file that is asked for
+-- the lines of the requested file
 abbrev pub shown_at : FileMap → ShowRequest → Result (List ℕ) Status
 shown_at m request = do
   text ← content_of m request.file

@@ -1,4 +1,4 @@
--- Steps, of which each may stop with a status (own).
+-- Steps that may stop with a status (own).
 use Rattle.std.specs.Prelude.{◌≡◌, Result, Ok, Err, ⊤}
 use Rattle.soroban_top.specs.declared.status.Status.{Status}
 use Rattle.soroban_top.specs.declared.status.Status.TheVariants.{Done, Fault, NoMemory}
@@ -8,12 +8,12 @@ abbrev pub ◌>>=◌ : {A B : Type 0} → Result A Status → (A → Result B St
 (Ok x) >>= f = f x
 (Err e) >>= f = Err e
 
--- how they end
+-- the status of a result: Done if it did not stop
 abbrev pub status_of : {A : Type 0} → Result A Status → Status
 status_of (Ok x) = Done
 status_of (Err status) = status
 
--- the same, of what x stands for
+-- the result, with its value seen by `view`
 abbrev pub viewed : {X Y : Type 0} → (X → Y) → Result X Status → Result Y Status
 viewed view (Ok x) = Ok (view x)
 viewed view (Err status) = Err status
@@ -29,12 +29,12 @@ abbrev pub UnlessNoMemory : Status → Type 0 → Type 0
 UnlessNoMemory NoMemory P = ⊤
 UnlessNoMemory status P = P
 
--- a fact where this status, which is due, is no fault
+-- a fact, unless the status that is due is a fault
 abbrev pub UnlessFault : Status → Type 0 → Type 0
 UnlessFault (Fault name) P = ⊤
 UnlessFault status P = P
 
--- What a function returned, seen by view, is this outcome, unless a call failed or memory ran out.
+-- The function returned this outcome, seen by `view`, unless a call failed or memory ran out.
 abbrev pub Gives : {X Y : Type 0} → (X → Y) → Result X Status → Result Y Status → Type 0
 Gives view (Ok x) outcome = outcome ≡ Ok (view x)
 Gives view (Err status) outcome = UnlessFree status (outcome ≡ Err status)

@@ -1,4 +1,4 @@
--- What vet says of a module's bytes (own).
+-- The line of `vet` for a module's bytes (own).
 use Rattle.std.specs.Prelude.{ℕ, List, Result, Ok, Err}
 use Rattle.edge_io.specs.Contents.{FileMap}
 use Rattle.module_vet.specs.Line.{valid_line}
@@ -17,7 +17,7 @@ flaw_status flaw.NotAModule = NotAModule
 flaw_status (flaw.Ill func) = Ill func
 flaw_status (flaw.Unlinked k) = Unlinked k
 
--- the line of a module without a flaw
+-- the line of a module without a flaw, or the status of its flaw
 abbrev pub as_vetted : Result Sizes Flaw → Result (List ℕ) Status
 as_vetted (Ok sizes) = Ok (valid_line sizes)
 as_vetted (Err found) = Err (flaw_status found)
@@ -25,7 +25,7 @@ as_vetted (Err found) = Err (flaw_status found)
 unfoldable pub vetted : List ℕ → Result (List ℕ) Status
 vetted bytes = as_vetted (verdict_of bytes)
 
--- of the file of this name
+-- the line of the file of this name
 abbrev pub vetted_at : FileMap → List ℕ → Result (List ℕ) Status
 vetted_at m name = do
   bytes ← content_of m name

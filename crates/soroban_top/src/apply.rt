@@ -1,4 +1,4 @@
-//! The command apply: a transaction set over a ledger.
+//! The command `apply`: applies a transaction set to a ledger.
 
 ghost use Rattle.std.specs.Prelude.{◌≡◌, [], ◌∷◌, IfOk, IfErr, IfSome};
 ghost use Rattle.command_words.specs.declared.request.Request.TheVariants.{Apply as Asked};
@@ -12,12 +12,12 @@ ghost use Rattle.soroban_top.specs.Views.{made_of, targets_of};
 use crate::judged::{read_ledger, read_set, read_verdicts};
 use crate::outputs::{Outputs, make_outputs};
 use crate::product::{LEDGER, LEDGER_OUT, REPORT, SET, VERDICTS};
-use crate::{FileArg, Product, Status, Store};
+use crate::{FileArg, OutputFile, Product, Status};
 use command_words::ApplyRequest;
 use edge_io::Files;
 use std::alloc::{AllocError, Global};
 
-/// Reads and judges the three files, and makes the report, the new ledger and the lines.
+/// Reads and checks the three files, and makes the report, the new ledger and the lines.
 pub fn apply<'a, F: Files>(
     alloc: Global,
     files: &mut F,
@@ -60,11 +60,11 @@ fn product_of<'a>(
         name: &request.ledger_out,
     };
     let mut stores = Vec::new(alloc);
-    stores.push(Store {
+    stores.push(OutputFile {
         file: report,
         bytes: outputs.report,
     })?;
-    stores.push(Store {
+    stores.push(OutputFile {
         file: ledger_out,
         bytes: outputs.ledger,
     })?;

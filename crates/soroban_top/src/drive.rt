@@ -1,4 +1,4 @@
-//! Reads a file of a command, and stores what it makes.
+//! Reads files of a command and stores its outputs.
 
 ghost use Rattle.std.specs.Prelude.{◌≡◌, [], ◌∷◌, IfOk, IfErr, IfSome};
 ghost use Rattle.soroban_top.specs.Counts.{NoLower, SameCounts, HasCause};
@@ -7,11 +7,11 @@ ghost use Rattle.soroban_top.specs.Left.{StoresAll};
 ghost use Rattle.soroban_top.specs.Steps.{Gives, GivesExactly, UnlessFault, status_of};
 ghost use Rattle.soroban_top.specs.Views.{file_of, job_of, jobs_of, targets_of};
 
-use crate::{FileArg, Status, Store};
+use crate::{FileArg, OutputFile, Status};
 use edge_io::{Blob, EdgeErr, Files, ReadErr, read_whole};
 use std::alloc::Global;
 
-/// The bytes of a file.
+/// Reads the bytes of a file.
 pub fn read_file<F: Files>(alloc: Global, files: &mut F, file: &FileArg<'_>) -> Result<Blob, Status>
     ensures given { IfSome (F.contents files.old) (λ m. Gives (λ b. b) result (content_of m file.now.name.now)) }
     ensures same { F.contents files.new ≡ F.contents files.old }
@@ -22,7 +22,7 @@ pub fn read_file<F: Files>(alloc: Global, files: &mut F, file: &FileArg<'_>) -> 
     ensures steady_exact { F.steady files.old → IfSome (F.contents files.old) (λ m.
         GivesExactly (λ b. b) result (content_of m file.now.name.now)) }
 {
-    // Cloned before the call, so that a fault can tell it.
+    // Cloned before the call, so that a fault can name the file.
     let name = file.name.clone()?;
     match read_whole(alloc, files, file.option, file.name) {
         Ok(blob) => Ok(blob),
@@ -33,7 +33,7 @@ pub fn read_file<F: Files>(alloc: Global, files: &mut F, file: &FileArg<'_>) -> 
 }
 
 /// Stores the bytes of a file.
-fn store_file<F: Files>(files: &mut F, store: &Store<'_>) -> Result<(), Status>
+fn store_file<F: Files>(files: &mut F, store: &OutputFile<'_>) -> Result<(), Status>
     ensures left { StoresAll (status_of result) (job_of store.now ∷ []) (F.contents files.old) (F.contents files.new) }
     ensures counts { NoLower (F.faults files.old) (F.faults files.new) }
     ensures cause { IfErr result (HasCause (file_of store.now.file ∷ []) (F.faults files.old) (F.faults files.new)) }
@@ -49,7 +49,7 @@ fn store_file<F: Files>(files: &mut F, store: &Store<'_>) -> Result<(), Status>
 }
 
 /// Stores the bytes of files in order.
-pub fn store_all<F: Files>(files: &mut F, stores: &[Store<'_>]) -> Result<(), Status>
+pub fn store_all<F: Files>(files: &mut F, stores: &[OutputFile<'_>]) -> Result<(), Status>
     ensures left { StoresAll (status_of result) (jobs_of stores.now) (F.contents files.old) (F.contents files.new) }
     ensures counts { NoLower (F.faults files.old) (F.faults files.new) }
     ensures cause { IfErr result (HasCause (targets_of stores.now) (F.faults files.old) (F.faults files.new)) }

@@ -1,4 +1,4 @@
-//! The end of every command: its status says its lines.
+//! The end of every command: printing the lines of its status.
 
 ghost use Rattle.std.specs.Prelude.{◌≡◌, ◌⊎◌, ◌≤◌, ◌++◌};
 ghost use Rattle.edge_io.specs.Counts.{OnFailed, Rose};
@@ -12,8 +12,8 @@ use ledger_spec::LedgerWhy;
 use std::alloc::Global;
 use xdr_spec::Why;
 
-/// Says the lines of a command that came to this: its own where it is done, else those of the status.
-/// Where they can't be said, that is its status in place of this one.
+/// Prints the lines of a command: its own lines if it is done, otherwise the line of its status. Returns the final status, which is
+/// that of the failure if the lines could not be printed.
 pub fn finish<S: Say>(alloc: Global, came_to: Result<Vec<u8>, Status>, say: &mut S) -> Status
     ensures said { Finishes (viewed (λ v. v.items) came_to) result (S.text say.old) (S.text say.new) }
     ensures cause { HasSayCause (viewed (λ v. v.items) came_to) (S.faults say.old) (S.faults say.new) result }
@@ -31,7 +31,7 @@ pub fn finish<S: Say>(alloc: Global, came_to: Result<Vec<u8>, Status>, say: &mut
     }
 }
 
-/// The status of a command whose lines were said, or not all of them.
+/// The final status of a command, by how the printing of its lines went.
 fn unless_unsaid(alloc: Global, status: Status, said: Result<(), EdgeErr>) -> Status
     ensures { IsStatusAfter said status result }
 {
@@ -44,7 +44,7 @@ fn unless_unsaid(alloc: Global, status: Status, said: Result<(), EdgeErr>) -> St
     }
 }
 
-/// Says the line of a status. It takes no memory.
+/// Prints the line of a status. Takes no memory.
 fn say_status<S: Say>(say: &mut S, status: &Status) -> Result<(), EdgeErr>
     ensures said { SaysLines result (line_of status.now) (S.text say.old) (S.text say.new) }
     ensures counts { S.faults say.old ≤ S.faults say.new }
@@ -82,7 +82,7 @@ fn say_status<S: Say>(say: &mut S, status: &Status) -> Result<(), EdgeErr>
     }
 }
 
-/// Says the line of an ill typed module.
+/// Prints the line of an ill-typed module.
 fn say_ill<S: Say>(say: &mut S, func: Option<u32>) -> Result<(), EdgeErr>
     ensures said { SaysLines result (ill_line func) (S.text say.old) (S.text say.new) }
     ensures counts { S.faults say.old ≤ S.faults say.new }
@@ -99,7 +99,7 @@ fn say_ill<S: Say>(say: &mut S, func: Option<u32>) -> Result<(), EdgeErr>
     }
 }
 
-/// The front of the line with the number of a ledger's reason.
+/// The start of the line of a refused ledger, up to the number of the reason.
 fn number_of(why: LedgerWhy) -> &'static [u8]
     ensures { result.now ≡ number_of why }
 {
@@ -113,7 +113,7 @@ fn number_of(why: LedgerWhy) -> &'static [u8]
     }
 }
 
-/// The end of the line with the name of a reason.
+/// The end of the line of a refusal, with the name of its reason.
 fn name_of(why: Why) -> &'static [u8]
     ensures { result.now ≡ name_of why }
 {
@@ -128,7 +128,7 @@ fn name_of(why: Why) -> &'static [u8]
     }
 }
 
-/// Says three parts of a line, one behind another.
+/// Prints three parts of a line, one after another.
 fn say_parts<S: Say>(say: &mut S, before: &[u8], middle: &[u8], after: &[u8]) -> Result<(), EdgeErr>
     ensures said { SaysLines result (before.now ++ middle.now ++ after.now) (S.text say.old) (S.text say.new) }
     ensures counts { S.faults say.old ≤ S.faults say.new }
@@ -141,13 +141,13 @@ fn say_parts<S: Say>(say: &mut S, before: &[u8], middle: &[u8], after: &[u8]) ->
     }
 }
 
-fn say_two<S: Say>(say: &mut S, front: &[u8], back: &[u8]) -> Result<(), EdgeErr>
-    ensures said { SaysLines result (front.now ++ back.now) (S.text say.old) (S.text say.new) }
+fn say_two<S: Say>(say: &mut S, prefix: &[u8], back: &[u8]) -> Result<(), EdgeErr>
+    ensures said { SaysLines result (prefix.now ++ back.now) (S.text say.old) (S.text say.new) }
     ensures counts { S.faults say.old ≤ S.faults say.new }
     ensures cause { OnFailed result (Rose (S.faults say.old) (S.faults say.new)) }
     ensures steady { S.steady say.old → OnFailed result ⊥ × S.steady say.new × (S.faults say.new ≡ S.faults say.old) }
 {
-    match say_part(say, front) {
+    match say_part(say, prefix) {
         Ok(()) => say_part(say, back),
         Err(error) => Err(error),
     }

@@ -1,9 +1,9 @@
-//! The files that a command reads: each is read whole and judged.
+//! Reads the input files of `apply`: each is read whole and checked.
 
 ghost use Rattle.std.specs.Prelude.{◌≡◌, ◌<◌, ◌+◌, ◌^◌, [], ◌∷◌, IfOk, IfErr, IfSome, IsTrue};
 ghost use Rattle.ledger_spec.specs.LedgerFile.{are_settings, has_next};
 ghost use Rattle.ledger_types.specs.Header.{header_format};
-ghost use Rattle.tx_xdr.specs.Limits.{today};
+ghost use Rattle.tx_xdr.specs.SetBounds.{today};
 ghost use Rattle.tx_xdr.specs.Set.{set_format};
 ghost use Rattle.soroban_top.specs.Counts.{HasCause, IsOfBytes, NoLower, SameCounts};
 ghost use Rattle.soroban_top.specs.Judged.{ledger_at, ledger_in, verdicts_at, verdicts_in, set_at, set_in, set_opened};
@@ -15,13 +15,13 @@ use crate::drive::read_file;
 use crate::opened::open_text;
 use crate::{FileArg, Status};
 use edge_io::{Files, Word};
-use ledger_file::{Ledger, LedgerErr};
+use ledger_file::Ledger;
 use ledger_types::Verdicts;
 use std::alloc::Global;
 use tx_xdr::TxSet;
 use xdr_core::ReadXdr;
 
-/// The ledger in a file.
+/// Reads the ledger in a file.
 pub fn read_ledger<F: Files>(
     alloc: Global,
     files: &mut F,
@@ -45,7 +45,7 @@ pub fn read_ledger<F: Files>(
     ledger_in(alloc, bytes.as_slice())
 }
 
-/// The verdicts in a file.
+/// Reads the verdicts in a file.
 pub fn read_verdicts<F: Files>(
     alloc: Global,
     files: &mut F,
@@ -66,7 +66,7 @@ pub fn read_verdicts<F: Files>(
     verdicts_in(alloc, bytes.as_slice())
 }
 
-/// The transaction set in a file, which may be text in Base64.
+/// Reads the transaction set in a file, which may be base64 text.
 pub fn read_set<F: Files>(
     alloc: Global,
     files: &mut F,
@@ -111,14 +111,8 @@ fn ledger_in(alloc: Global, bytes: &[u8]) -> Result<Ledger, Status>
     ensures next { IfOk result (λ l. IsTrue (has_next l.header)) }
     ensures cause { IfErr result IsOfBytes }
 {
-    match ledger_file::read_ledger(alloc, bytes, true) {
-        Ok(ledger) => Ok(ledger),
-        Err(LedgerErr::Refused(refusal)) => Err(Status::Ledger {
-            why: refusal.why,
-            at: refusal.at,
-        }),
-        Err(LedgerErr::NoMemory) => Err(Status::NoMemory),
-    }
+    let ledger = ledger_file::read_ledger(alloc, bytes, true)?;
+    Ok(ledger)
 }
 
 #[tactic(auto, unfolding(crate::specs::Judged::verdicts_in))]
@@ -139,12 +133,6 @@ fn set_in(alloc: Global, bytes: &[u8]) -> Result<TxSet, Status>
     ensures fits { IfOk result (set_format today).fits }
     ensures cause { IfErr result IsOfBytes }
 {
-    match tx_xdr::read_set_today(alloc, bytes) {
-        Ok(set) => Ok(set),
-        Err(ReadXdr::Bad(error)) => Err(Status::Malformed {
-            at: error.at,
-            why: error.why,
-        }),
-        Err(ReadXdr::NoMemory) => Err(Status::NoMemory),
-    }
+    let set = tx_xdr::read_set_today(alloc, bytes)?;
+    Ok(set)
 }

@@ -1,10 +1,10 @@
-//! What commands come to, in terms of what the bytes of their files spell.
+//! The outcomes of the commands, in terms of the spellings of their files' bytes.
 
 ghost use Rattle.soroban_top.specs.Laws.{DoneLaw, EnvelopeDoneLaw, EnvelopeMalformedLaw, LedgerDoneLaw, LedgerLaw, LedgerShownLaw, MalformedLaw, SetDoneLaw, SetMalformedLaw, ValueDoneLaw, ValueMalformedLaw, VerdictsLaw, VetLaw};
 
-/// Ledger with reason Xdr is due exactly where the bytes of the ledger's file are refused. Where that file is right,
-/// Verdicts is due exactly where the verdicts' bytes are refused. Where these are right too, Malformed is due exactly where
-/// the set's bytes are refused, and Done exactly where they spell a set.
+/// `apply`: Ledger with reason Xdr is due exactly if the bytes of the ledger's file are refused. If that file is accepted, Verdicts
+/// is due exactly if the verdicts' bytes are refused. If these are accepted, too, Malformed is due exactly if the set's bytes are
+/// refused, and Done exactly if they spell a set.
 pub fn apply_laws()
     ensures ledger { LedgerLaw }
     ensures verdicts { VerdictsLaw }
@@ -12,9 +12,8 @@ pub fn apply_laws()
     ensures done { DoneLaw }
 {}
 
-/// Where a set, an envelope or a value is shown, Malformed is due exactly where the bytes are refused, and Done exactly where
-/// they spell one. Where a ledger is shown, Ledger with reason Xdr is due exactly where the bytes are refused, and Done
-/// exactly where they are the file of a ledger.
+/// `show`: for a set, an envelope or a value, Malformed is due exactly if the bytes are refused, and Done exactly if they spell one.
+/// For a ledger, Ledger with reason Xdr is due exactly if the bytes are refused, and Done exactly if they are the file of a ledger.
 pub fn show_laws()
     ensures ledger_refused { LedgerShownLaw }
     ensures ledger_done { LedgerDoneLaw }
@@ -26,7 +25,7 @@ pub fn show_laws()
     ensures value_done { ValueDoneLaw }
 {}
 
-/// What vet comes to is what is so of the module that the bytes spell: its line, or its first flaw.
+/// `vet` reports the sizes of the module that the bytes encode, or its first flaw.
 pub fn vet_law()
     ensures { VetLaw }
 {}

@@ -1,4 +1,4 @@
-//! One command, from its words to its answer.
+//! One command, from its words to its status.
 #![tactic(auto)]
 
 ghost use Rattle.std.specs.Prelude.{◌≡◌, ◌≤◌, ◌⊎◌, None, IfOk, IfErr, IfSome};
@@ -26,8 +26,6 @@ mod request;
 mod show;
 mod spelled;
 mod status;
-#[cfg(test)]
-mod tests;
 mod vetting;
 
 use command_words::Request;
@@ -35,15 +33,15 @@ use drive::store_all;
 use edge_io::{Files, Gate, Say, Word};
 pub use ending::finish;
 pub use laws::{apply_laws, show_laws, vet_law};
-use product::{FileArg, Product, Store};
+use product::{FileArg, OutputFile, Product};
 use request::{asked, produce};
 pub use status::Status;
 use std::alloc::Global;
 use std::thread::Threads;
 
-/// Does what the words ask for, and says the lines of its status.
+/// Runs the command of the words, and prints the lines of its status.
 ///
-/// The runtime and the gate are for runs on several threads. No run asks them yet.
+/// The runtime and the gate are for runs on several threads. No run uses them yet.
 pub fn soroban<R: Threads + Sync, F: Files, S: Say, G: Gate + Sync>(
     rt: &R,
     alloc: Global,
@@ -52,35 +50,35 @@ pub fn soroban<R: Threads + Sync, F: Files, S: Say, G: Gate + Sync>(
     say: &mut S,
     gate: &G,
 ) -> Status
-    // Usage comes only where the words are not right. There nothing else comes, unless its line could not be said or memory ran out.
+    // Usage comes exactly if the words are wrong, unless its line could not be printed or memory ran out.
     ensures usage_only { result ≡ Status.Usage → asked_of words.now ≡ None }
     ensures usage { asked_of words.now ≡ None → UnlessFree result (result ≡ Status.Usage) }
 
-    // A fault comes only where the count of a file of this name rose, or with the empty name that of what is said.
+    // A fault has the name of a file whose count rose, or the empty name if the output's count rose.
     ensures cause { HasCauseFor (files_named (asked_of words.now))
         (F.faults files.old) (F.faults files.new) (S.faults say.old) (S.faults say.new) result }
 
-    // Where the files are told, any status but a fault and NoMemory is the one that is due.
+    // If the content of the files is known, any status but a fault and NoMemory is the one that is due.
     ensures due { IfSome (F.contents files.old) (λ m. UnlessFree result (result ≡ due (asked_of words.now) m)) }
 
-    // Where no count rose, it is the one that is due, unless memory ran out.
+    // If no count rose, the status is the one that is due, unless memory ran out.
     ensures exact { IfSome (F.contents files.old) (λ m. NoneRose (files_named (asked_of words.now))
         (F.faults files.old) (F.faults files.new) (S.faults say.old) (S.faults say.new) →
         (result ≡ due (asked_of words.now) m) ⊎ (result ≡ Status.NoMemory)) }
 
-    // Of steady files and a steady text it is the one that is due, which at a missing file is a fault of its name, unless
-    // memory ran out.
+    // With steady files and a steady output, the status is the one that is due, unless memory ran out. For a missing file that is a
+    // fault of its name.
     ensures steady_exact { F.steady files.old → S.steady say.old → IfSome (F.contents files.old) (λ m.
         (result ≡ due (asked_of words.now) m) ⊎ (result ≡ Status.NoMemory)) }
 
-    // What the files and the text then are.
+    // The files and the output's text afterwards.
     ensures left { IfSome (F.contents files.old) (λ m. Ends (asked_of words.now) m result
         (outside (F.contents files.old) (S.text say.old)) (outside (F.contents files.new) (S.text say.new))) }
     ensures refused { OnRefused result
         ((F.contents files.new ≡ F.contents files.old) × (S.text say.new ≡ extended (S.text say.old) (line_of result))) }
 
-    // Of steady files no count rises where no fault is due, as where each file that is read is there, and that of a
-    // steady text never.
+    // With steady files no count rises if no fault is due, or if each file that is read exists. The count of a steady output never
+    // rises.
     ensures steady { F.steady files.old → IfSome (F.contents files.old) (λ m. UnlessFault (due (asked_of words.now) m)
         (SameCounts (F.faults files.old) (F.faults files.new))) }
     ensures present { F.steady files.old → IfSome (F.contents files.old) (λ m. AreThere (reads_named (asked_of words.now)) m →
@@ -93,7 +91,7 @@ pub fn soroban<R: Threads + Sync, F: Files, S: Say, G: Gate + Sync>(
     finish(alloc, came_to, say)
 }
 
-/// Reads, computes and stores. It gives the lines that are to be said, or the status whose line is.
+/// Reads, computes and stores. Returns the lines to print, or the status whose line is to be printed.
 fn perform<F: Files>(alloc: Global, words: &[Word], files: &mut F) -> Result<Vec<u8>, Status>
     ensures usage_only { status_of result ≡ Status.Usage → asked_of words.now ≡ None }
     ensures usage { asked_of words.now ≡ None → UnlessFree (status_of result) (status_of result ≡ Status.Usage) }
@@ -112,7 +110,7 @@ fn perform<F: Files>(alloc: Global, words: &[Word], files: &mut F) -> Result<Vec
     run(alloc, &request, files)
 }
 
-/// The same of a command.
+/// Does the same for a request.
 fn run<F: Files>(alloc: Global, request: &Request, files: &mut F) -> Result<Vec<u8>, Status>
     ensures cause { IfErr result (HasCause (files_named (Some request.now)) (F.faults files.old) (F.faults files.new)) }
     ensures given { IfSome (F.contents files.old) (λ m. Gives (λ v. v.items) result (says_of (outcome_of request.now m))) }

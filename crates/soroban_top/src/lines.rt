@@ -1,4 +1,4 @@
-//! The lines of a set that was applied.
+//! The lines of `apply`.
 
 ghost use Rattle.std.specs.Prelude.{◌≡◌, ◌≤◌, ◌++◌, length, OnOk, IfOk};
 ghost use Rattle.apply_spec.specs.Outputs.{count_line, hash_line, is_success, outputs_with, successes};
@@ -8,7 +8,7 @@ use std::alloc::{AllocError, Global};
 use text_lines::push_number;
 use tx_results::{TransactionOutcome, TransactionResultPair};
 
-/// The line that counts the transactions of ledger `seq`, and the hashes of the report and the ledger's file.
+/// Makes the line that counts the transactions of ledger `seq`, and the lines with the hashes of the report and the ledger's file.
 pub fn lines(
     alloc: Global,
     seq: u32,

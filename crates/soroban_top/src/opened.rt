@@ -1,4 +1,4 @@
-//! Files that are text in Base64.
+//! Files that are base64 text.
 
 ghost use Rattle.std.specs.Prelude.{◌≡◌, ℕ, List, true, IfOk, IfErr};
 ghost use Rattle.base64.specs.GeneralPurpose.{IsBytes};
@@ -13,11 +13,11 @@ use base64_text::{TextErr, decode_text};
 use edge_io::Word;
 use std::alloc::Global;
 
-/// The bytes of which the text in the file of this name is the encoding.
+/// Decodes the base64 text in the file of this name.
 pub fn open_text(alloc: Global, name: &Word, text: &[u8]) -> Result<Vec<u8>, Status>
     ensures given { Gives (λ v. v.items) result (opened true name.now text.now) }
     ensures cause { IfErr result IsOfBytes }
-    // It is the encoding of these bytes, or where it is refused of none.
+    // The text is the encoding of the bytes, or of no bytes if it is refused.
     ensures encoding { IfOk result (λ v. IsTextOf v.items text.now) }
     ensures none { result ≡ Err (NotBase64 name.now) → (bytes : List ℕ) → IsBytes bytes → IsTextOf bytes text.now → ⊥ }
 {

@@ -1,9 +1,9 @@
-//! What a set makes of a ledger: the report, the new ledger's file, and the lines.
+//! The outputs of a set over a ledger: the report, the new ledger's file, and the lines.
 
 ghost use Rattle.std.specs.Prelude.{◌≡◌, IfOk, IsTrue};
 ghost use Rattle.ledger_spec.specs.LedgerFile.{are_settings, has_next};
 ghost use Rattle.ledger_types.specs.Header.{header_format};
-ghost use Rattle.tx_xdr.specs.Limits.{today};
+ghost use Rattle.tx_xdr.specs.SetBounds.{today};
 ghost use Rattle.tx_xdr.specs.Set.{set_format};
 ghost use Rattle.soroban_top.specs.Outcome.{outputs_of};
 ghost use Rattle.soroban_top.specs.Seen.{seen};
@@ -24,7 +24,7 @@ pub struct Outputs {
     pub lines: Vec<u8>,
 }
 
-/// Runs a set over a ledger, and writes what is to be stored and said.
+/// Runs a set over a ledger, and writes the bytes to store and the lines to print.
 #[tactic(auto, unfolding(crate::specs::Outcome::outputs_of))]
 pub fn make_outputs(
     alloc: Global,

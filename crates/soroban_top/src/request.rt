@@ -1,4 +1,4 @@
-//! What the words ask for.
+//! From a request to its product.
 
 ghost use Rattle.std.specs.Prelude.{◌≡◌, IfOk, IfErr, IfSome};
 ghost use Rattle.command_words.specs.Words.{asked_of};
@@ -16,7 +16,7 @@ use command_words::{Request, WordsErr, request_of};
 use edge_io::{Files, Word};
 use std::alloc::Global;
 
-/// The command of these words.
+/// The request of the words.
 pub fn asked(alloc: Global, words: &[Word]) -> Result<Request, Status>
     ensures { ReadsWords result (asked_of words.now) }
 {
@@ -27,7 +27,7 @@ pub fn asked(alloc: Global, words: &[Word]) -> Result<Request, Status>
     }
 }
 
-/// Reads the files of a command, and makes what it stores and says.
+/// Reads the files of a command, and makes its stores and lines.
 pub fn produce<'a, F: Files>(
     alloc: Global,
     request: &'a Request,

@@ -1,4 +1,4 @@
-//! The command show: what a file spells.
+//! The command `show`: prints the content of a file.
 
 ghost use Rattle.std.specs.Prelude.{◌≡◌, [], ◌∷◌, IfOk, IfErr, IfSome, MatchResult};
 ghost use Rattle.command_words.specs.declared.request.Request.TheVariants.{Show as Asked};
@@ -18,11 +18,10 @@ use crate::spelled::{envelope_in, ledger_in, set_in, value_in};
 use crate::{FileArg, Product, Status};
 use command_words::{ShowKind, ShowRequest};
 use edge_io::{Files, Word};
-use set_lines::{envelope_line, set_lines};
-use show_lines::{ledger_lines, value_line};
+use show_lines::{envelope_line, ledger_lines, set_lines, value_line};
 use std::alloc::{AllocError, Global};
 
-/// Reads the file, and makes the lines of what it spells.
+/// Reads the file, and makes the lines of its content.
 pub fn show<'a, F: Files>(
     alloc: Global,
     files: &mut F,
@@ -56,7 +55,7 @@ pub fn show<'a, F: Files>(
     })
 }
 
-/// The lines of what a file's text spells.
+/// Makes the lines of a file's content.
 fn shown_opened(
     alloc: Global,
     base64: bool,

@@ -1,37 +1,40 @@
-//! How a command ends.
+//! The status of a command.
 
 ghost use Rattle.std.specs.Prelude.{◌≡◌};
 ghost use Rattle.soroban_top.specs.declared.status.Status.TheVariants.{NoMemory as OutOfMemory};
+ghost use Rattle.soroban_top.specs.Judged.{unread, unread_ledger};
 
 use edge_io::Word;
+use ledger_file::LedgerErr;
 use ledger_spec::LedgerWhy;
 use std::alloc::{AllocError, AllocFailed};
-use xdr_core::NoMemory;
+use xdr_core::{NoMemory, ReadXdr};
 use xdr_spec::Why;
 
-/// How a command ends.
+/// The status of a command.
 #[derive(Debug, Drop)]
 pub enum Status {
     Done,
-    /// The words are not right.
+    /// The words are wrong.
     Usage,
-    /// A call for this file failed, or with the empty name one of what is said.
+    /// A call for this file failed; with the empty name, a call for the output.
     Fault { name: Word },
     /// This file has more than 2^30 bytes.
     TooLong { name: Word },
-    /// The ledger's file is refused: `at` is a place in its bytes, the number of a record or 0.
+    /// The ledger's file is refused: `at` is a byte offset, the index of a record, or 0.
     Ledger { why: LedgerWhy, at: u64 },
-    /// The verdicts' file is at fault at this place.
+    /// The verdicts' file is refused at this byte offset.
     Verdicts { at: u64 },
-    /// The bytes are no spelling of what they are to be: they are at fault at this place.
+    /// The bytes are no spelling: they are refused at this byte offset, for this reason.
     Malformed { at: u64, why: Why },
-    /// This file's text is the encoding of no bytes in Base64.
+    /// The text of this file is no base64.
     NotBase64 { name: Word },
-    /// The bytes spell no WebAssembly module.
+    /// The bytes are no WebAssembly module.
     NotAModule,
-    /// The module is ill typed: the least function that is, imports counted, or none where a rule outside bodies is broken.
+    /// The module is ill typed: the index of its first ill-typed function, with imports counted, or none if a rule outside function
+    /// bodies is broken.
     Ill { func: Option<u32> },
-    /// The first import of the module that the host does not have with its type.
+    /// The module's first import that the host does not have with this type.
     Unlinked { import: u32 },
     NoMemory,
 }
@@ -39,7 +42,7 @@ pub enum Status {
 impl Status {
     ghost use Rattle.soroban_top.specs.Lines.{code_of};
 
-    /// The number that the program ends with.
+    /// The exit code of the program.
     pub fn code(&self) -> u8
         ensures { result ≡ code_of self.now }
     {
@@ -80,5 +83,33 @@ impl From<NoMemory> for Status {
 
     fn from(_: NoMemory) -> Status {
         Status::NoMemory
+    }
+}
+
+impl From<ReadXdr> for Status {
+    ghost from_gives = { λ error status. status ≡ unread error };
+
+    fn from(error: ReadXdr) -> Status {
+        match error {
+            ReadXdr::Bad(error) => Status::Malformed {
+                at: error.at,
+                why: error.why,
+            },
+            ReadXdr::NoMemory => Status::NoMemory,
+        }
+    }
+}
+
+impl From<LedgerErr> for Status {
+    ghost from_gives = { λ error status. status ≡ unread_ledger error };
+
+    fn from(error: LedgerErr) -> Status {
+        match error {
+            LedgerErr::Refused(refusal) => Status::Ledger {
+                why: refusal.why,
+                at: refusal.at,
+            },
+            LedgerErr::NoMemory => Status::NoMemory,
+        }
     }
 }

@@ -1,4 +1,4 @@
-//! The command vet: whether the host takes a WebAssembly module.
+//! The command `vet`: validates a WebAssembly module.
 
 ghost use Rattle.std.specs.Prelude.{◌≡◌, [], ◌∷◌, IfOk, IfErr, IfSome};
 ghost use Rattle.command_words.specs.declared.request.Request.TheVariants.{Vet as Asked};
@@ -17,7 +17,7 @@ use edge_io::Files;
 use module_vet::{Flaw, VetErr, valid_line};
 use std::alloc::Global;
 
-/// Reads and judges the module, and makes the line of one that is taken.
+/// Reads and checks the module, and makes its line.
 pub fn vet<'a, F: Files>(
     alloc: Global,
     files: &mut F,

@@ -1,4 +1,4 @@
-//! Lines of text, put together piece by piece.
+//! Numbers and hashes as text.
 #![tactic(auto)]
 
 ghost use Rattle.std.specs.Prelude.{◌≡◌, ◌++◌, OnOk, decimal};
@@ -8,10 +8,7 @@ ghost use Rattle.hex.specs.Hex.{encode_lower};
 use itoa::Buffer;
 use std::alloc::{AllocError, Global};
 
-#[cfg(test)]
-mod tests;
-
-/// Appends a number in decimal, and what follows it.
+/// Appends a number in decimal, and then `after`.
 pub fn push_number(line: &mut Vec<u8>, number: u64, after: &[u8]) -> Result<(), AllocError>
     ensures { OnOk result (line.new.items ≡ line.old.items ++ decimal number ++ after.now) }
 {
@@ -20,7 +17,7 @@ pub fn push_number(line: &mut Vec<u8>, number: u64, after: &[u8]) -> Result<(), 
     line.extend_from_slice(after)
 }
 
-/// Appends bytes as hex digits in lower case, and what follows them.
+/// Appends bytes as lower-case hex digits, and then `after`.
 pub fn push_hex(
     alloc: Global,
     line: &mut Vec<u8>,
@@ -34,7 +31,7 @@ pub fn push_hex(
     line.extend_from_slice(after)
 }
 
-/// Appends a number with its sign in decimal, and what follows it.
+/// Appends a signed number in decimal, and then `after`.
 pub fn push_signed(line: &mut Vec<u8>, number: i64, after: &[u8]) -> Result<(), AllocError>
     ensures { OnOk result (line.new.items ≡ line.old.items ++ signed_decimal number ++ after.now) }
 {

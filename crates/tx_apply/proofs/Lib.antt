@@ -1,2 +1,2 @@
-pub mod Twice
+pub mod Keys
 pub mod Extending

@@ -1,4 +1,4 @@
--- What the code answers, as what the meaning of a transaction gives (own).
+-- The result of `enforce` in the terms of the definitions (own).
 use Rattle.tx_apply.specs.declared.transaction.TxDone.{TxDone}
 use Rattle.apply_spec.specs.Enforced.{Enforced}
 

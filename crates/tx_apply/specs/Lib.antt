@@ -1,2 +1,2 @@
 pub mod Done
-pub mod Twice
+pub mod Spellings

@@ -1,4 +1,4 @@
-//! When a transaction may run.
+//! The time and ledger bounds of a transaction.
 
 ghost use Rattle.std.specs.Prelude.{◌≡◌, IsTrue};
 ghost use Rattle.ledger_spec.specs.LedgerFile.{has_next};
@@ -63,7 +63,7 @@ fn is_after_ledger(n: u32, bounds: Option<LedgerBounds>) -> bool
     }
 }
 
-/// Whether the ledger that follows the header's comes before the first in which the transaction may run.
+/// Whether the next ledger is too early for the transaction (txTOO_EARLY).
 pub fn is_too_early(header: &Header, tx: &Transaction) -> bool
     requires { IsTrue (has_next header.now) }
     ensures { result ≡ checks.is_too_early header.now tx.now }
@@ -72,7 +72,7 @@ pub fn is_too_early(header: &Header, tx: &Transaction) -> bool
         || is_before_ledger(header.seq + 1, ledger_bounds_of(&tx.preconditions))
 }
 
-/// Whether the ledger that follows the header's comes after the last in which the transaction may run.
+/// Whether the next ledger is too late for the transaction (txTOO_LATE).
 pub fn is_too_late(header: &Header, tx: &Transaction) -> bool
     requires { IsTrue (has_next header.now) }
     ensures { result ≡ checks.is_too_late header.now tx.now }

@@ -1,4 +1,4 @@
-//! The checks that a transaction passes before it runs.
+//! The checks of a transaction before it runs.
 
 ghost use Rattle.std.specs.Prelude.{◌≡◌, All, IfOk, IsTrue};
 ghost use Rattle.ledger_types.specs.Key.{key_format};
@@ -19,7 +19,7 @@ fn is_soroban(ext: &TransactionExt) -> bool
     matches!(ext, TransactionExt::Soroban(_))
 }
 
-/// Why a transaction is refused, by the first check that fails.
+/// Returns the result code of the first check that fails.
 pub fn refusal_of(
     alloc: Global,
     header: &Header,

@@ -12,7 +12,7 @@ use ledger_types::{LedgerKey, Settings};
 use std::alloc::Global;
 use xdr_core::NoMemory;
 
-/// Whether the entry of a key has a life to extend.
+/// Whether entries of the key's type have a live-until ledger.
 fn has_life(key: &LedgerKey) -> bool
     ensures { result ≡ has_life_in key.now }
 {
@@ -28,7 +28,7 @@ fn have_lives(keys: &[LedgerKey]) -> bool
     keys.iter().all(has_life)
 }
 
-/// Whether the footprint and the new life are those of an extension.
+/// Whether EXTEND_FOOTPRINT_TTL may have this footprint and this `extend_to`.
 pub fn may_extend(
     settings: &Settings,
     read_only: &[LedgerKey],
@@ -43,7 +43,7 @@ pub fn may_extend(
     extend_to < settings.max_entry_ttl
 }
 
-/// Whether the entry of a key is live in ledger `n`, but not until another.
+/// Whether the entry at a key is live in ledger `n` and expires before ledger `until`.
 fn ends_before<G: Ground>(ground: &G, n: u32, key: &LedgerKey, until: u32) -> bool
     requires { key_format.fits key.now }
     ensures { extension_seen (seen n (G.map ground.now) key.now) key.now until ≡ (if result then Some (record { key = key.now; live_until = until }) else None) }
@@ -54,7 +54,7 @@ fn ends_before<G: Ground>(ground: &G, n: u32, key: &LedgerKey, until: u32) -> bo
     }
 }
 
-/// The live entries among these that are to live until a ledger and do not yet, in ledger `n`.
+/// Returns an extension to ledger `until` for each key whose entry is live in ledger `n` and expires before `until`.
 pub fn extensions<G: Ground>(
     alloc: Global,
     ground: &G,

@@ -1,11 +1,12 @@
-//! The keys that a transaction declares.
+//! The footprint of a transaction.
 
 ghost use Rattle.std.specs.Prelude.{◌≡◌, ◌++◌, All, IfOk, OnOk, map};
 ghost use Rattle.std.specs.List.{list_all};
 ghost use Rattle.ledger_types.specs.Key.{key_format};
 ghost use Rattle.ledger_spec.specs.LedgerMap.{key_bytes};
 ghost use Rattle.apply_spec.specs.Checks.{footprint_of, may_be_declared as is_declarable, may_be_footprint as is_footprint};
-ghost use Rattle.tx_apply.specs.Twice.{bytes_of, stand_twice};
+ghost use Rattle.list_laws.specs.Twice.{stand_twice};
+ghost use Rattle.tx_apply.specs.Spellings.{bytes_of};
 
 use ledger_types::LedgerKey;
 use std::alloc::Global;
@@ -14,7 +15,7 @@ use tx_xdr::{Transaction, TransactionExt};
 use value_xdr::encode;
 use xdr_core::NoMemory;
 
-/// The keys that a transaction declares read-only.
+/// Returns the keys that a transaction declares read-only.
 pub fn read_only_of(tx: &Transaction) -> &[LedgerKey]
     ensures { result.now ≡ (footprint_of tx.now).read_only }
 {
@@ -24,7 +25,7 @@ pub fn read_only_of(tx: &Transaction) -> &[LedgerKey]
     }
 }
 
-/// The keys that a transaction declares read-write.
+/// Returns the keys that a transaction declares read-write.
 pub fn read_write_of(tx: &Transaction) -> &[LedgerKey]
     ensures { result.now ≡ (footprint_of tx.now).read_write }
 {
@@ -34,7 +35,7 @@ pub fn read_write_of(tx: &Transaction) -> &[LedgerKey]
     }
 }
 
-/// Whether a contract transaction may declare a key.
+/// Whether a Soroban transaction may declare a key.
 pub fn may_be_declared(key: &LedgerKey) -> bool
     ensures { result ≡ is_declarable key.now }
 {
@@ -51,7 +52,7 @@ pub fn may_be_declared(key: &LedgerKey) -> bool
     }
 }
 
-/// Adds the spellings of keys.
+/// Appends the XDR bytes of each key.
 fn spell_keys(
     alloc: Global,
     keys: &[LedgerKey],
@@ -67,7 +68,7 @@ fn spell_keys(
     Ok(())
 }
 
-/// Whether the same bytes stand twice.
+/// Whether the same bytes occur twice. It takes O(n log n) comparisons.
 fn has_twice(alloc: Global, spellings: &[Vec<u8>]) -> Result<bool, NoMemory>
     ensures { IfOk result (λ b. b ≡ stand_twice (bytes_of spellings.now)) }
 {
@@ -80,7 +81,7 @@ fn has_twice(alloc: Global, spellings: &[Vec<u8>]) -> Result<bool, NoMemory>
     Ok(false)
 }
 
-/// Whether no key stands twice, and each may be declared. The time grows with n log n of the number of keys.
+/// Whether no key occurs twice in the two lists together, and each key may be declared.
 pub fn may_be_footprint(
     alloc: Global,
     read_only: &[LedgerKey],

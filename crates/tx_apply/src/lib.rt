@@ -1,4 +1,4 @@
-//! What becomes of one transaction over the entries of a ledger.
+//! Checks and runs one transaction over the entries of a ledger.
 #![tactic(auto)]
 
 mod bounds;

@@ -1,10 +1,10 @@
-//! One transaction, by its checks and then by its operation.
+//! Runs one transaction: its checks, then its operation.
 
 ghost use Rattle.std.specs.Prelude.{◌≡◌, [], ◌∷◌, All, IfOk, IsTrue};
 ghost use Rattle.ledger_types.specs.Key.{key_format};
 ghost use Rattle.ledger_spec.specs.LedgerFile.{are_settings, has_next};
 ghost use Rattle.apply_spec.specs.Checks.{footprint_of};
-ghost use Rattle.tx_xdr.specs.Limits.{today, takes_operation};
+ghost use Rattle.tx_xdr.specs.SetBounds.{today, takes_operation};
 ghost use Rattle.tx_xdr.specs.Operation.{kind};
 ghost use Rattle.apply_spec.specs.Enforced.{enforced, extended, performed, runs_today, without_effect as without_effect_in};
 ghost use Rattle.tx_apply.specs.Done.{done_of};
@@ -21,11 +21,11 @@ use tx_xdr::{OperationBody, Transaction};
 use value_types::Items;
 use xdr_core::NoMemory;
 
-/// What became of a transaction.
+/// The outcome of a transaction and its effect.
 #[derive(Drop)]
 pub struct TxDone {
     pub outcome: TransactionOutcome,
-    /// The lives that are to be longer.
+    /// Pending until they are put in.
     pub extensions: Items<Extension, 4294967295>,
 }
 
@@ -56,7 +56,7 @@ fn extension(result_of_extend: ExtendResult) -> OperationResult
     OperationResult::Inner(InnerResult::Extend(result_of_extend))
 }
 
-/// A transaction whose one operation failed.
+/// Returns the outcome of a transaction whose only operation failed.
 fn failed(alloc: Global, only: OperationResult) -> Result<TxDone, NoMemory>
     ensures { IfOk result (λ done. done_of done ≡ without_effect_in (TransactionOutcome.Failed (only ∷ []))) }
 {
@@ -64,7 +64,7 @@ fn failed(alloc: Global, only: OperationResult) -> Result<TxDone, NoMemory>
     Ok(without_effect(alloc, TransactionOutcome::Failed(results)))
 }
 
-/// EXTEND_FOOTPRINT_TTL.
+/// Runs EXTEND_FOOTPRINT_TTL.
 fn extend<G: Ground>(
     alloc: Global,
     ground: &G,
@@ -90,7 +90,7 @@ fn extend<G: Ground>(
     })
 }
 
-/// The one operation of a transaction that passed its checks.
+/// Runs the only operation of a transaction that passed its checks.
 fn perform<G: Ground>(
     alloc: Global,
     ground: &G,
@@ -113,7 +113,9 @@ fn perform<G: Ground>(
     }
 }
 
-/// What becomes of a transaction over a ground, in the ledger after that of the header, whose close time the header has.
+/// Checks and runs a transaction over the entries of a ledger.
+///
+/// `header` is that of the previous ledger, with the close time of the ledger that is being made.
 pub fn enforce<G: Ground>(
     alloc: Global,
     ground: &G,

@@ -1,4 +1,4 @@
-//! The accounts that transactions name.
+//! Accounts in transactions.
 
 ghost use Rattle.std.specs.Prelude.{◌≡◌, ⊤};
 ghost use Rattle.xdr_core.specs.Reads.{Reads};
@@ -9,7 +9,7 @@ use value_types::Hash;
 use value_xdr::Xdr;
 use xdr_core::{Cursor, NoMemory, Out, ReadXdr, Why, XdrErr, add_sizes};
 
-/// How an account is named (`CryptoKeyType`, without the types that name none).
+/// The types of account keys (`CryptoKeyType`, without the types that no account has).
 #[derive(Clone, Copy, Debug, PartialEq, Eq)]
 pub enum CryptoKeyType {
     Ed25519,
@@ -17,7 +17,7 @@ pub enum CryptoKeyType {
 }
 
 impl CryptoKeyType {
-    /// The constant of this number, if there is one (RFC 4506, section 4.3).
+    /// The variant with this number, or `None` if no variant has it (RFC 4506, section 4.3).
     pub fn from_number(number: u32) -> Option<CryptoKeyType>
         ensures { result ≡ kind_of number }
     {
@@ -28,7 +28,7 @@ impl CryptoKeyType {
         }
     }
 
-    /// Its number (RFC 4506, section 4.3).
+    /// The number of the variant (RFC 4506, section 4.3).
     pub fn number(self) -> u32
         ensures { result ≡ number self }
     {
@@ -63,12 +63,12 @@ impl Xdr for CryptoKeyType {
     ghost lawful = { type_lawful };
 }
 
-/// An account, as a transaction names it (`MuxedAccount`).
+/// An account in a transaction (`MuxedAccount`).
 #[derive(Debug, PartialEq, Eq)]
 pub enum MuxedAccount {
     /// 0: an ed25519 public key.
     Ed25519(Hash),
-    /// 0x100: one of the accounts that share an ed25519 public key.
+    /// 0x100: one of several accounts that share an ed25519 public key.
     MuxedEd25519 { id: u64, ed25519: Hash },
 }
 
@@ -85,7 +85,7 @@ impl Clone for MuxedAccount {
 impl Copy for MuxedAccount {}
 
 impl MuxedAccount {
-    /// Which arm it is (RFC 4506, section 4.15).
+    /// The discriminant of the union (RFC 4506, section 4.15).
     pub fn kind(self) -> CryptoKeyType
         ensures { result ≡ kind self }
     {

@@ -1,4 +1,4 @@
-//! When a transaction may run.
+//! Time bounds and ledger bounds.
 
 ghost use Rattle.std.specs.Prelude.{◌≡◌, ⊤};
 ghost use Rattle.tx_parts.specs.Bounds.{time_bounds_format, time_bounds_lawful, ledger_bounds_format, ledger_bounds_lawful};
@@ -7,12 +7,12 @@ use std::alloc::{AllocError, Global};
 use value_xdr::Xdr;
 use xdr_core::{Cursor, NoMemory, Out, ReadXdr};
 
-/// The closing times of the ledgers in which a transaction may run, in seconds since 1970 (`TimeBounds`).
+/// Bounds on the close time of the ledger that runs a transaction, in seconds since 1970 (`TimeBounds`).
 #[derive(Debug, PartialEq, Eq)]
 pub struct TimeBounds {
-    /// The least.
+    /// The minimum.
     pub min_time: u64,
-    /// The greatest, or 0 where there is none.
+    /// The maximum, or 0 for none.
     pub max_time: u64,
 }
 
@@ -51,12 +51,12 @@ impl Xdr for TimeBounds {
     ghost lawful = { time_bounds_lawful };
 }
 
-/// The numbers of the ledgers in which a transaction may run (`LedgerBounds`).
+/// Bounds on the number of the ledger that runs a transaction (`LedgerBounds`).
 #[derive(Debug, PartialEq, Eq)]
 pub struct LedgerBounds {
-    /// The least.
+    /// The minimum.
     pub min_ledger: u32,
-    /// The first in which it may not run any more, or 0 where there is none.
+    /// The first ledger that is too late, or 0 for none.
     pub max_ledger: u32,
 }
 

@@ -1,4 +1,4 @@
-//! The notes of transactions.
+//! Memos.
 
 ghost use Rattle.std.specs.Prelude.{◌≡◌};
 ghost use Rattle.xdr_core.specs.Reads.{Reads};
@@ -9,7 +9,7 @@ use value_types::{Bytes, Hash};
 use value_xdr::Xdr;
 use xdr_core::{Cursor, NoMemory, Out, ReadXdr, Why, XdrErr, add_sizes};
 
-/// What a memo is (`MemoType`).
+/// The types of memos (`MemoType`).
 #[derive(Clone, Copy, Debug, PartialEq, Eq)]
 pub enum MemoType {
     None,
@@ -20,7 +20,7 @@ pub enum MemoType {
 }
 
 impl MemoType {
-    /// The constant of this number, if there is one (RFC 4506, section 4.3).
+    /// The variant with this number, or `None` if no variant has it (RFC 4506, section 4.3).
     pub fn from_number(number: u32) -> Option<MemoType>
         ensures { result ≡ kind_of number }
     {
@@ -34,7 +34,7 @@ impl MemoType {
         }
     }
 
-    /// Its number (RFC 4506, section 4.3).
+    /// The number of the variant (RFC 4506, section 4.3).
     pub fn number(self) -> u32
         ensures { result ≡ number self }
     {
@@ -72,7 +72,7 @@ impl Xdr for MemoType {
     ghost lawful = { type_lawful };
 }
 
-/// A note (`Memo`).
+/// A memo (`Memo`).
 #[derive(Drop)]
 pub enum Memo {
     /// 0.
@@ -81,14 +81,14 @@ pub enum Memo {
     Text(Bytes<28>),
     /// 2.
     Id(u64),
-    /// 3: the hash of what the transaction is for.
+    /// 3: the hash of the thing that the transaction pays for.
     Hash(Hash),
     /// 4: the hash of the transaction that this one pays back.
     Return(Hash),
 }
 
 impl Memo {
-    /// Which arm it is (RFC 4506, section 4.15).
+    /// The discriminant of the union (RFC 4506, section 4.15).
     pub fn kind(&self) -> MemoType
         ensures { result ≡ kind self.now }
     {

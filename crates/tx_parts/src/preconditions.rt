@@ -1,4 +1,4 @@
-//! What has to hold for a transaction to be valid.
+//! Preconditions of transactions.
 
 ghost use Rattle.std.specs.Prelude.{◌≡◌};
 ghost use Rattle.xdr_core.specs.Reads.{Reads};
@@ -11,18 +11,18 @@ use value_types::Items;
 use value_xdr::Xdr;
 use xdr_core::{Cursor, NoMemory, Out, ReadXdr, Why, XdrErr, add_sizes};
 
-/// The preconditions beyond time (`PreconditionsV2`).
+/// The preconditions of version 2 (`PreconditionsV2`).
 #[derive(Drop)]
 pub struct PreconditionsV2 {
     pub time_bounds: Option<TimeBounds>,
     pub ledger_bounds: Option<LedgerBounds>,
-    /// The least number that the source's sequence may stand at; where there is none, it stands one below the transaction's.
+    /// The minimum sequence number of the source account. Without it, the account's number has to be one below the transaction's.
     pub min_seq_num: Option<i64>,
-    /// How many seconds ago the source's sequence was last changed, at least.
+    /// The minimum age of the source account's sequence number, in seconds.
     pub min_seq_age: u64,
-    /// How many ledgers ago the source's sequence was last changed, at least.
+    /// The minimum age of the source account's sequence number, in ledgers.
     pub min_seq_ledger_gap: u32,
-    /// Who has to sign besides.
+    /// Keys that have to sign besides.
     pub extra_signers: Items<SignerKey, 2>,
 }
 
@@ -61,14 +61,14 @@ impl Xdr for PreconditionsV2 {
         let size = add_sizes(self.time_bounds.size(), self.ledger_bounds.size());
         let size = add_sizes(size, self.min_seq_num.size());
         let size = add_sizes(size, self.extra_signers.size());
-        // A number of 8 bytes and one of 4.
+        // The two ages have 8 and 4 bytes.
         size.saturating_add(12)
     }
 
     ghost lawful = { v2_lawful };
 }
 
-/// What preconditions are (`PreconditionType`).
+/// The types of preconditions (`PreconditionType`).
 #[derive(Clone, Copy, Debug, PartialEq, Eq)]
 pub enum PreconditionType {
     None,
@@ -77,7 +77,7 @@ pub enum PreconditionType {
 }
 
 impl PreconditionType {
-    /// The constant of this number, if there is one (RFC 4506, section 4.3).
+    /// The variant with this number, or `None` if no variant has it (RFC 4506, section 4.3).
     pub fn from_number(number: u32) -> Option<PreconditionType>
         ensures { result ≡ kind_of number }
     {
@@ -89,7 +89,7 @@ impl PreconditionType {
         }
     }
 
-    /// Its number (RFC 4506, section 4.3).
+    /// The number of the variant (RFC 4506, section 4.3).
     pub fn number(self) -> u32
         ensures { result ≡ number self }
     {
@@ -125,7 +125,7 @@ impl Xdr for PreconditionType {
     ghost lawful = { type_lawful };
 }
 
-/// What has to hold for a transaction to be valid (`Preconditions`).
+/// The preconditions of a transaction (`Preconditions`).
 #[derive(Drop)]
 pub enum Preconditions {
     /// 0.
@@ -137,7 +137,7 @@ pub enum Preconditions {
 }
 
 impl Preconditions {
-    /// Which arm it is (RFC 4506, section 4.15).
+    /// The discriminant of the union (RFC 4506, section 4.15).
     pub fn kind(&self) -> PreconditionType
         ensures { result ≡ kind self.now }
     {

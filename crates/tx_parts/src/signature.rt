@@ -7,7 +7,7 @@ use value_types::Bytes;
 use value_xdr::Xdr;
 use xdr_core::{Cursor, NoMemory, Out, ReadXdr};
 
-/// A signature, and the end of the key that made it (`DecoratedSignature`).
+/// A signature, with the last four bytes of the key that made it (`DecoratedSignature`).
 #[derive(Drop)]
 pub struct DecoratedSignature {
     pub hint: [u8; 4],

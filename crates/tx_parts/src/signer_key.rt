@@ -9,7 +9,7 @@ use value_types::{Bytes, Hash};
 use value_xdr::Xdr;
 use xdr_core::{Cursor, NoMemory, Out, ReadXdr, Why, XdrErr, add_sizes};
 
-/// What a signer is (`SignerKeyType`).
+/// The types of signer keys (`SignerKeyType`).
 #[derive(Clone, Copy, Debug, PartialEq, Eq)]
 pub enum SignerKeyType {
     Ed25519,
@@ -19,7 +19,7 @@ pub enum SignerKeyType {
 }
 
 impl SignerKeyType {
-    /// The constant of this number, if there is one (RFC 4506, section 4.3).
+    /// The variant with this number, or `None` if no variant has it (RFC 4506, section 4.3).
     pub fn from_number(number: u32) -> Option<SignerKeyType>
         ensures { result ≡ kind_of number }
     {
@@ -32,7 +32,7 @@ impl SignerKeyType {
         }
     }
 
-    /// Its number (RFC 4506, section 4.3).
+    /// The number of the variant (RFC 4506, section 4.3).
     pub fn number(self) -> u32
         ensures { result ≡ number self }
     {
@@ -76,14 +76,14 @@ pub enum SignerKey {
     Ed25519(Hash),
     /// 1: the hash of the transaction.
     PreAuthTx(Hash),
-    /// 2: the SHA-256 of what is shown in place of a signature.
+    /// 2: the SHA-256 of the bytes that are given as the signature.
     HashX(Hash),
-    /// 3: an ed25519 public key, and what it signs.
+    /// 3: an ed25519 public key, and the payload that it signs.
     Ed25519SignedPayload { ed25519: Hash, payload: Bytes<64> },
 }
 
 impl SignerKey {
-    /// Which arm it is (RFC 4506, section 4.15).
+    /// The discriminant of the union (RFC 4506, section 4.15).
     pub fn kind(&self) -> SignerKeyType
         ensures { result ≡ kind self.now }
     {

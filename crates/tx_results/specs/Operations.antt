@@ -23,7 +23,7 @@ use Rattle.tx_results.specs.declared.operation.InnerResult.TheVariants as inners
 use Rattle.tx_results.specs.declared.operation.OperationResult.{OperationResult}
 use Rattle.tx_results.specs.declared.operation.OperationResult.TheVariants as operations
 
--- the word that stands for -n, in two's complement
+-- the word of -n in two's complement
 abbrev pub minus : ℕ → ℕ
 minus n = 2 ^ 32 - n
 

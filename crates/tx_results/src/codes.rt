@@ -1,10 +1,10 @@
-//! The codes of results. A code below 0 stands for itself in two's complement.
+//! The codes of results. Codes below 0 are in two's complement.
 
 ghost use Rattle.std.specs.Prelude.{◌≡◌};
 ghost use Rattle.tx_results.specs.Operations.{invoke_number, invoke_of_number, extend_number, extend_of_number, inner_number, inner_of_number, operation_number, operation_of_number};
 ghost use Rattle.tx_results.specs.Results.{code_number, code_of_number};
 
-/// The code of what became of INVOKE_HOST_FUNCTION (`InvokeHostFunctionResultCode`, those that this host gives).
+/// The result codes of INVOKE_HOST_FUNCTION that this host uses (`InvokeHostFunctionResultCode`).
 #[derive(Clone, Copy, Debug, PartialEq, Eq)]
 pub enum InvokeResultCode {
     /// 0.
@@ -20,7 +20,7 @@ pub enum InvokeResultCode {
 }
 
 impl InvokeResultCode {
-    /// The constant of this number, if there is one (RFC 4506, section 4.3).
+    /// The variant with this number, or `None` if no variant has it (RFC 4506, section 4.3).
     pub fn from_number(number: u32) -> Option<InvokeResultCode>
         ensures { result ≡ invoke_of_number number }
     {
@@ -34,7 +34,7 @@ impl InvokeResultCode {
         }
     }
 
-    /// Its number (RFC 4506, section 4.3).
+    /// The number of the variant (RFC 4506, section 4.3).
     pub fn number(self) -> u32
         ensures { result ≡ invoke_number self }
     {
@@ -48,7 +48,7 @@ impl InvokeResultCode {
     }
 }
 
-/// What became of EXTEND_FOOTPRINT_TTL (`ExtendFootprintTTLResult`, with the codes that this host gives).
+/// The result of EXTEND_FOOTPRINT_TTL, with the codes that this host uses (`ExtendFootprintTTLResult`).
 #[derive(Clone, Copy, Debug, PartialEq, Eq)]
 pub enum ExtendResult {
     /// 0.
@@ -58,7 +58,7 @@ pub enum ExtendResult {
 }
 
 impl ExtendResult {
-    /// The constant of this number, if there is one (RFC 4506, section 4.3).
+    /// The variant with this number, or `None` if no variant has it (RFC 4506, section 4.3).
     pub fn from_number(number: u32) -> Option<ExtendResult>
         ensures { result ≡ extend_of_number number }
     {
@@ -69,7 +69,7 @@ impl ExtendResult {
         }
     }
 
-    /// Its number (RFC 4506, section 4.3).
+    /// The number of the variant (RFC 4506, section 4.3).
     pub fn number(self) -> u32
         ensures { result ≡ extend_number self }
     {
@@ -80,7 +80,7 @@ impl ExtendResult {
     }
 }
 
-/// The body of an operation that has a result of its own (`OperationType`).
+/// The operations that have a result of their own (`OperationType`).
 #[derive(Clone, Copy, Debug, PartialEq, Eq)]
 pub enum InnerKind {
     /// 24: INVOKE_HOST_FUNCTION.
@@ -90,7 +90,7 @@ pub enum InnerKind {
 }
 
 impl InnerKind {
-    /// The constant of this number, if there is one (RFC 4506, section 4.3).
+    /// The variant with this number, or `None` if no variant has it (RFC 4506, section 4.3).
     pub fn from_number(number: u32) -> Option<InnerKind>
         ensures { result ≡ inner_of_number number }
     {
@@ -101,7 +101,7 @@ impl InnerKind {
         }
     }
 
-    /// Its number (RFC 4506, section 4.3).
+    /// The number of the variant (RFC 4506, section 4.3).
     pub fn number(self) -> u32
         ensures { result ≡ inner_number self }
     {
@@ -112,7 +112,7 @@ impl InnerKind {
     }
 }
 
-/// The code of what became of an operation (`OperationResultCode`, those that this host gives).
+/// The result codes of operations that this host uses (`OperationResultCode`).
 #[derive(Clone, Copy, Debug, PartialEq, Eq)]
 pub enum OperationResultCode {
     /// opINNER 0: the body's result follows.
@@ -122,7 +122,7 @@ pub enum OperationResultCode {
 }
 
 impl OperationResultCode {
-    /// The constant of this number, if there is one (RFC 4506, section 4.3).
+    /// The variant with this number, or `None` if no variant has it (RFC 4506, section 4.3).
     pub fn from_number(number: u32) -> Option<OperationResultCode>
         ensures { result ≡ operation_of_number number }
     {
@@ -133,7 +133,7 @@ impl OperationResultCode {
         }
     }
 
-    /// Its number (RFC 4506, section 4.3).
+    /// The number of the variant (RFC 4506, section 4.3).
     pub fn number(self) -> u32
         ensures { result ≡ operation_number self }
     {
@@ -144,7 +144,7 @@ impl OperationResultCode {
     }
 }
 
-/// The code of what became of a transaction (`TransactionResultCode`, those that this host gives).
+/// The result codes of transactions that this host uses (`TransactionResultCode`).
 #[derive(Clone, Copy, Debug, PartialEq, Eq)]
 pub enum TransactionResultCode {
     /// txSUCCESS 0.
@@ -164,7 +164,7 @@ pub enum TransactionResultCode {
 }
 
 impl TransactionResultCode {
-    /// The constant of this number, if there is one (RFC 4506, section 4.3).
+    /// The variant with this number, or `None` if no variant has it (RFC 4506, section 4.3).
     pub fn from_number(number: u32) -> Option<TransactionResultCode>
         ensures { result ≡ code_of_number number }
     {
@@ -180,7 +180,7 @@ impl TransactionResultCode {
         }
     }
 
-    /// Its number (RFC 4506, section 4.3).
+    /// The number of the variant (RFC 4506, section 4.3).
     pub fn number(self) -> u32
         ensures { result ≡ code_number self }
     {

@@ -1,4 +1,4 @@
-//! What becomes of transactions, and how it is spelled (the Stellar XDR files, under RFC 4506).
+//! Results of transactions with their codecs (the Stellar XDR files, under RFC 4506).
 #![tactic(auto)]
 
 mod codes;
@@ -15,6 +15,3 @@ pub use codes::{
 pub use operation::{InnerResult, InvokeResult, OperationResult};
 pub use results::{ResultSet, TransactionOutcome, TransactionResult, TransactionResultPair};
 pub use writing::{write_report, write_results};
-
-#[cfg(test)]
-mod tests;

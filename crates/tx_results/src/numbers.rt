@@ -1,4 +1,4 @@
-//! The numbers by which unions of the Stellar XDR files name their arms.
+//! Discriminants of unions of the Stellar XDR files.
 
 /// An extension point without an extension.
 pub const NO_EXT: u32 = 0;

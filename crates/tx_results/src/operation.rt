@@ -1,4 +1,4 @@
-//! What became of operations.
+//! Results of operations.
 
 ghost use Rattle.std.specs.Prelude.{◌≡◌};
 ghost use Rattle.tx_results.specs.Operations.{invoke_code_of, inner_kind_of, operation_code_of};
@@ -6,7 +6,7 @@ ghost use Rattle.tx_results.specs.Operations.{invoke_code_of, inner_kind_of, ope
 use crate::codes::{ExtendResult, InnerKind, InvokeResultCode, OperationResultCode};
 use value_types::Hash;
 
-/// What became of INVOKE_HOST_FUNCTION (`InvokeHostFunctionResult`).
+/// The result of INVOKE_HOST_FUNCTION (`InvokeHostFunctionResult`).
 #[derive(Clone, Copy, Debug, PartialEq, Eq)]
 pub enum InvokeResult {
     /// The SHA-256 of the success preimage.
@@ -18,7 +18,7 @@ pub enum InvokeResult {
 }
 
 impl InvokeResult {
-    /// Which arm it is (RFC 4506, section 4.15).
+    /// The discriminant of the union (RFC 4506, section 4.15).
     pub fn code(&self) -> InvokeResultCode
         ensures { result ≡ invoke_code_of self.now }
     {
@@ -32,7 +32,7 @@ impl InvokeResult {
     }
 }
 
-/// The result that the body of an operation has of its own.
+/// The result of an operation that has a result of its own.
 #[derive(Clone, Copy, Debug, PartialEq, Eq)]
 pub enum InnerResult {
     Invoke(InvokeResult),
@@ -40,7 +40,7 @@ pub enum InnerResult {
 }
 
 impl InnerResult {
-    /// Which arm it is (RFC 4506, section 4.15).
+    /// The discriminant of the union (RFC 4506, section 4.15).
     pub fn kind(&self) -> InnerKind
         ensures { result ≡ inner_kind_of self.now }
     {
@@ -51,7 +51,7 @@ impl InnerResult {
     }
 }
 
-/// What became of an operation (`OperationResult`).
+/// The result of an operation (`OperationResult`).
 #[derive(Clone, Copy, Debug, PartialEq, Eq)]
 pub enum OperationResult {
     Inner(InnerResult),
@@ -59,7 +59,7 @@ pub enum OperationResult {
 }
 
 impl OperationResult {
-    /// Which arm it is (RFC 4506, section 4.15).
+    /// The discriminant of the union (RFC 4506, section 4.15).
     pub fn code(&self) -> OperationResultCode
         ensures { result ≡ operation_code_of self.now }
     {

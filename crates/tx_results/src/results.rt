@@ -1,4 +1,4 @@
-//! What became of transactions.
+//! Results of transactions.
 
 ghost use Rattle.std.specs.Prelude.{◌≡◌};
 ghost use Rattle.tx_results.specs.Results.{code_of};
@@ -7,7 +7,7 @@ use crate::codes::TransactionResultCode;
 use crate::operation::OperationResult;
 use value_types::{Hash, Items};
 
-/// What became of a transaction: its code, and the results of its operations where they ran.
+/// The outcome of a transaction: its code, and the results of its operations if they ran.
 #[derive(Drop)]
 pub enum TransactionOutcome {
     Success(Items<OperationResult, 4294967295>),
@@ -20,7 +20,7 @@ pub enum TransactionOutcome {
 }
 
 impl TransactionOutcome {
-    /// Which arm it is (RFC 4506, section 4.15).
+    /// The discriminant of the union (RFC 4506, section 4.15).
     pub fn code(&self) -> TransactionResultCode
         ensures { result ≡ code_of self.now }
     {
@@ -36,21 +36,21 @@ impl TransactionOutcome {
     }
 }
 
-/// What became of a transaction, and what it paid (`TransactionResult`).
+/// The outcome of a transaction and the fee that it paid (`TransactionResult`).
 #[derive(Drop)]
 pub struct TransactionResult {
     pub fee_charged: i64,
     pub outcome: TransactionOutcome,
 }
 
-/// A transaction's hash, and what became of it (`TransactionResultPair`).
+/// A transaction's hash and its result (`TransactionResultPair`).
 #[derive(Drop)]
 pub struct TransactionResultPair {
     pub hash: Hash,
     pub result: TransactionResult,
 }
 
-/// What became of the transactions of a set, in the set's order (`TransactionResultSet`).
+/// The results of a set, in the set's order (`TransactionResultSet`).
 #[derive(Drop)]
 pub struct ResultSet {
     pub pairs: Items<TransactionResultPair, 4294967295>,

@@ -1,4 +1,4 @@
-//! Results written as bytes.
+//! Writes results and reports.
 
 ghost use Rattle.std.specs.Prelude.{All, IfOk, length, ◌≡◌};
 ghost use Rattle.xdr_spec.specs.Format.{optional};
@@ -24,8 +24,7 @@ pub fn write_results(alloc: Global, results: &ResultSet) -> Result<Blob, NoMemor
     Ok(Blob::from_vec(out.into_vec()))
 }
 
-/// The report (own): the results, and for each what the call of a contract gave, where the transaction made one and it
-/// ended well.
+/// The report (own): the results, and for each transaction its success preimage if it called a contract with success.
 pub fn write_report(
     alloc: Global,
     results: &ResultSet,

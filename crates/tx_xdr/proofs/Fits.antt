@@ -2,10 +2,10 @@
 use Rattle.std.specs.List.{AllByRecursion}
 use Rattle.std.proofs.Common.{◌≡◌, true, List, [], ◌∷◌, refl}
 use Rattle.xdr_spec.specs.Format.{list}
-use Rattle.tx_xdr.specs.Limits.{whole, today, takes_operation}
+use Rattle.tx_xdr.specs.SetBounds.{whole, today, takes_operation}
 use Rattle.tx_xdr.specs.Operation.{kind, body_format, operation_format}
 use Rattle.tx_xdr.specs.Transaction.{transaction_format, envelope_format}
-use Rattle.tx_xdr.specs.declared.limits.Limits.{Limits}
+use Rattle.tx_xdr.specs.declared.limits.SetBounds.{SetBounds}
 use Rattle.tx_xdr.specs.declared.transaction.OperationType.{OperationType}
 use Rattle.tx_xdr.specs.declared.transaction.OperationType.TheVariants.{InvokeHostFunction, ExtendFootprintTtl, RestoreFootprint}
 use Rattle.tx_xdr.specs.declared.transaction.OperationBody.{OperationBody}
@@ -18,19 +18,19 @@ every_type InvokeHostFunction = refl
 every_type ExtendFootprintTtl = refl
 every_type RestoreFootprint = refl
 
-body_fits : (limits : Limits) (body : OperationBody) → (body_format limits).fits body → (body_format whole).fits body
+body_fits : (limits : SetBounds) (body : OperationBody) → (body_format limits).fits body → (body_format whole).fits body
 unfolding body_format
 body_fits limits body h = (every_type (kind body), h.1)
 
-operation_fits : (limits : Limits) (operation : Operation) → (operation_format limits).fits operation → (operation_format whole).fits operation
+operation_fits : (limits : SetBounds) (operation : Operation) → (operation_format limits).fits operation → (operation_format whole).fits operation
 unfolding operation_format
 operation_fits limits operation h = (h.0, body_fits limits operation.body h.1)
 
-operations_fit : (limits : Limits) (operations : List Operation) → AllByRecursion (operation_format limits).fits operations → AllByRecursion (operation_format whole).fits operations
+operations_fit : (limits : SetBounds) (operations : List Operation) → AllByRecursion (operation_format limits).fits operations → AllByRecursion (operation_format whole).fits operations
 operations_fit limits [] h = tt
 operations_fit limits (operation ∷ operations) h = (operation_fits limits operation h.0, operations_fit limits operations h.1)
 
-pub transaction_fits_whole : (limits : Limits) (tx : Transaction) → (transaction_format limits).fits tx → (transaction_format whole).fits tx
+pub transaction_fits_whole : (limits : SetBounds) (tx : Transaction) → (transaction_format limits).fits tx → (transaction_format whole).fits tx
 unfolding transaction_format list
 transaction_fits_whole limits tx h =
     let ops = h.1.1.1.1.1.0 in

@@ -5,7 +5,7 @@ use Rattle.sha2.specs.Sha256.{sha256}
 use Rattle.xdr_spec.specs.Format.{number32}
 use Rattle.value_types.specs.Hash.{hash_of, hash_format}
 use Rattle.value_types.specs.declared.hash.Hash.{Hash}
-use Rattle.tx_xdr.specs.Limits.{whole}
+use Rattle.tx_xdr.specs.SetBounds.{whole}
 use Rattle.tx_xdr.specs.Transaction.{transaction_format}
 use Rattle.tx_xdr.specs.declared.transaction.Transaction.{Transaction}
 

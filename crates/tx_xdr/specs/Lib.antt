@@ -1,5 +1,4 @@
-pub mod Limits
-pub mod Among
+pub mod SetBounds
 pub mod Operation
 pub mod Soroban
 pub mod Ext

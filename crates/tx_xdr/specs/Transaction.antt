@@ -17,7 +17,7 @@ use Rattle.tx_parts.specs.declared.memo.Memo.{Memo}
 use Rattle.tx_parts.specs.declared.signature.DecoratedSignature.{DecoratedSignature}
 use Rattle.tx_xdr.specs.Operation.{operation_format, operation_lawful}
 use Rattle.tx_xdr.specs.Ext.{ext_format, ext_lawful}
-use Rattle.tx_xdr.specs.declared.limits.Limits.{Limits}
+use Rattle.tx_xdr.specs.declared.limits.SetBounds.{SetBounds}
 use Rattle.tx_xdr.specs.declared.transaction.Operation.{Operation}
 use Rattle.tx_xdr.specs.declared.transaction.TransactionExt.{TransactionExt}
 use Rattle.tx_xdr.specs.declared.transaction.Transaction.{Transaction}
@@ -34,11 +34,11 @@ transaction_of f = record { source = f.0; fee = f.1.0; seq_num = f.1.1.0; precon
 abbrev pub transaction_fields : Transaction → TransactionFields
 transaction_fields tx = (tx.source, (tx.fee, (tx.seq_num, (tx.preconditions, (tx.memo, (tx.operations, tx.ext))))))
 
-unfoldable pub transaction_format : Limits → Format Transaction
+unfoldable pub transaction_format : SetBounds → Format Transaction
 transaction_format limits = via transaction_of transaction_fields
     (pair account_format (pair number32 (pair signed64 (pair preconditions_format (pair memo_format (pair (list 100 (operation_format limits)) ext_format))))))
 
-pub transaction_lawful : (limits : Limits) → IsFormat (transaction_format limits)
+pub transaction_lawful : (limits : SetBounds) → IsFormat (transaction_format limits)
 unfolding transaction_format
 transaction_lawful limits = via_lawful transaction_of transaction_fields _ (λ f. refl) (λ tx. refl)
     (pair_lawful _ _ account_lawful (pair_lawful _ _ number32_lawful (pair_lawful _ _ signed64_lawful (pair_lawful _ _ preconditions_lawful
@@ -52,10 +52,10 @@ envelope_of f = record { tx = f.0; signatures = f.1 }
 abbrev pub envelope_fields : Envelope → Transaction × List DecoratedSignature
 envelope_fields envelope = (envelope.tx, envelope.signatures)
 
-unfoldable pub envelope_format : Limits → Format Envelope
+unfoldable pub envelope_format : SetBounds → Format Envelope
 envelope_format limits = headed 2 (via envelope_of envelope_fields (pair (transaction_format limits) (list 20 signature_format)))
 
-pub envelope_lawful : (limits : Limits) → IsFormat (envelope_format limits)
+pub envelope_lawful : (limits : SetBounds) → IsFormat (envelope_format limits)
 unfolding envelope_format
 envelope_lawful limits = headed_lawful 2 _ (omega arith) (via_lawful envelope_of envelope_fields _ (λ f. refl) (λ envelope. refl)
     (pair_lawful _ _ (transaction_lawful limits) (list_lawful 20 _ signature_lawful)))

@@ -1,4 +1,4 @@
-//! The spelling of what follows a transaction's operations.
+//! The codec of a transaction's extension.
 
 ghost use Rattle.xdr_core.specs.Reads.{Reads};
 ghost use Rattle.tx_xdr.specs.Ext.{type_format, type_lawful, arms, ext_format, ext_lawful};

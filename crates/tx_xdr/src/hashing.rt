@@ -3,7 +3,7 @@
 ghost use Rattle.std.specs.Prelude.{IfOk, ◌≡◌};
 ghost use Rattle.sha2.specs.Sha256.{sha256};
 ghost use Rattle.value_types.specs.Hash.{hash_of, hash_format};
-ghost use Rattle.tx_xdr.specs.Limits.{whole};
+ghost use Rattle.tx_xdr.specs.SetBounds.{whole};
 ghost use Rattle.tx_xdr.specs.Transaction.{transaction_format};
 ghost use Rattle.tx_xdr.specs.Hashes.{transaction_hash};
 
@@ -24,7 +24,7 @@ fn sha256_of(bytes: &[u8]) -> Hash
     Hash(digest)
 }
 
-/// What a transaction's signatures sign: the SHA-256 of the network's id, the number of the envelope's type and the transaction.
+/// The hash that a transaction's signatures sign: the SHA-256 of the network's id, the envelope type and the transaction.
 #[tactic(auto, unfolding(value_types::specs::Hash::hash_format, xdr_spec::specs::Format::number32))]
 pub fn tx_hash(alloc: Global, network: &Hash, tx: &Transaction) -> Result<Hash, NoMemory>
     requires { (transaction_format whole).fits tx.now }

@@ -1,4 +1,4 @@
-//! Transactions and sets, and how they are spelled (the Stellar XDR files, under RFC 4506).
+//! Transactions and transaction sets with their codecs (the Stellar XDR files, under RFC 4506).
 #![tactic(auto)]
 
 mod ext_codec;
@@ -15,7 +15,7 @@ mod transaction_codec;
 mod within;
 
 pub use hashing::tx_hash;
-pub use limits::Limits;
+pub use limits::SetBounds;
 pub use reading::{read_envelope, read_set, read_set_today};
 pub use set::{Cluster, Component, Phase, PhaseType, Stage, TxSet};
 pub use transaction::{
@@ -23,6 +23,3 @@ pub use transaction::{
     TransactionExt, TransactionExtType,
 };
 pub use within::ReadWithin;
-
-#[cfg(test)]
-mod tests;

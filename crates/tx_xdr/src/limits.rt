@@ -1,46 +1,46 @@
-//! How wide the grammar of sets is.
+//! The bounds of the grammar of sets.
 
 use crate::set::PhaseType;
 use crate::transaction::OperationType;
 
-/// Which sets are taken: the parameter of their grammar.
+/// The bounds of a grammar of sets: which sets it has.
 #[derive(Clone, Copy, Debug, PartialEq, Eq)]
-pub struct Limits {
-    /// The most phases of a set, stages of a phase and clusters of a stage, each.
+pub struct SetBounds {
+    /// The maximum number of phases of a set, of stages of a phase and of clusters of a stage.
     pub parts: u32,
-    /// Whether phases of components are taken (number 0), whose transactions run one after the other.
+    /// Whether phases of components (number 0) are allowed.
     pub component_phases: bool,
-    /// Whether operations that run a host function are taken (number 24).
+    /// Whether operations that call a host function (number 24) are allowed.
     pub host_functions: bool,
 }
 
-impl Limits {
+impl SetBounds {
     ghost use Rattle.std.specs.Prelude.{◌≡◌};
-    ghost use Rattle.tx_xdr.specs.Limits.{whole, today, takes_phase, takes_operation};
+    ghost use Rattle.tx_xdr.specs.SetBounds.{whole, today, takes_phase, takes_operation};
 
-    /// Every set.
-    pub fn whole() -> Limits
+    /// The bounds of all sets.
+    pub fn whole() -> SetBounds
         ensures { result ≡ whole }
     {
-        Limits {
+        SetBounds {
             parts: u32::MAX,
             component_phases: true,
             host_functions: true,
         }
     }
 
-    /// The sets that run today.
-    pub fn today() -> Limits
+    /// The bounds of the sets that run today.
+    pub fn today() -> SetBounds
         ensures { result ≡ today }
     {
-        Limits {
+        SetBounds {
             parts: 1,
             component_phases: false,
             host_functions: false,
         }
     }
 
-    /// Whether phases of the type are taken.
+    /// Whether phases of the type are allowed.
     pub fn takes_phase(self, phase_type: PhaseType) -> bool
         ensures { result ≡ takes_phase self phase_type }
     {
@@ -50,7 +50,7 @@ impl Limits {
         }
     }
 
-    /// Whether operations of the type are taken.
+    /// Whether operations of the type are allowed.
     pub fn takes_operation(self, operation_type: OperationType) -> bool
         ensures { result ≡ takes_operation self operation_type }
     {

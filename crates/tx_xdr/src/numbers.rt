@@ -1,6 +1,6 @@
-//! The numbers by which unions of the Stellar XDR files name their arms.
+//! Discriminants of unions of the Stellar XDR files.
 
 /// An extension point without an extension.
 pub const NO_EXT: u32 = 0;
-/// An envelope with a `Transaction` (ENVELOPE_TYPE_TX), in envelopes and in what is hashed.
+/// The type of an envelope with a `Transaction` (ENVELOPE_TYPE_TX), in envelopes and in hashed bytes.
 pub const ENVELOPE_TYPE_TX: u32 = 2;

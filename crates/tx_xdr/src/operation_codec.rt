@@ -1,10 +1,10 @@
 //! The spelling of operations.
 
 ghost use Rattle.xdr_core.specs.Reads.{Reads};
-ghost use Rattle.tx_xdr.specs.Limits.{whole};
+ghost use Rattle.tx_xdr.specs.SetBounds.{whole};
 ghost use Rattle.tx_xdr.specs.Operation.{type_format, type_lawful, arms, body_format, body_lawful, operation_format, operation_lawful};
 
-use crate::limits::Limits;
+use crate::limits::SetBounds;
 use crate::numbers::NO_EXT;
 use crate::transaction::{Operation, OperationBody, OperationType};
 use crate::within::ReadWithin;
@@ -87,7 +87,7 @@ impl ReadWithin for OperationBody {
     fn read_parts_within(
         alloc: Global,
         input: &mut Cursor<'_>,
-        limits: Limits,
+        limits: SetBounds,
     ) -> Result<OperationBody, ReadXdr> {
         let place = input.place();
         let kind = OperationType::read(alloc, input)?;
@@ -108,7 +108,7 @@ impl Xdr for OperationBody {
     ghost format = { body_format whole };
 
     fn read_parts(alloc: Global, input: &mut Cursor<'_>) -> Result<OperationBody, ReadXdr> {
-        OperationBody::read_within(alloc, input, Limits::whole())
+        OperationBody::read_within(alloc, input, SetBounds::whole())
     }
 
     fn write_parts(&self, out: &mut Out) -> Result<(), NoMemory> {
@@ -151,7 +151,7 @@ impl ReadWithin for Operation {
     fn read_parts_within(
         alloc: Global,
         input: &mut Cursor<'_>,
-        limits: Limits,
+        limits: SetBounds,
     ) -> Result<Operation, ReadXdr> {
         let source = Option::<MuxedAccount>::read(alloc, input)?;
         let body = OperationBody::read_within(alloc, input, limits)?;
@@ -166,7 +166,7 @@ impl Xdr for Operation {
     ghost format = { operation_format whole };
 
     fn read_parts(alloc: Global, input: &mut Cursor<'_>) -> Result<Operation, ReadXdr> {
-        Operation::read_within(alloc, input, Limits::whole())
+        Operation::read_within(alloc, input, SetBounds::whole())
     }
 
     fn write_parts(&self, out: &mut Out) -> Result<(), NoMemory> {

@@ -6,10 +6,10 @@ ghost use Rattle.tx_xdr.specs.Set.{phase_number, phase_type_of, phase_type, para
 use crate::transaction::Envelope;
 use value_types::{Hash, Items};
 
-/// Transactions that run one after the other, in a phase of such (`TxSetComponent`, of type 0).
+/// Transactions that run one after the other in a phase of components (`TxSetComponent`, of type 0).
 #[derive(Drop)]
 pub struct Component {
-    /// What each operation pays, in stroops, where it is less than was offered.
+    /// The fee of each operation, in stroops, if it is less than was offered.
     pub base_fee: Option<i64>,
     pub envelopes: Items<Envelope, 4294967295>,
 }
@@ -26,7 +26,7 @@ pub struct Stage {
     pub clusters: Items<Cluster, 4294967295>,
 }
 
-/// How a phase runs.
+/// The types of phases.
 #[derive(Clone, Copy, Debug, PartialEq, Eq)]
 pub enum PhaseType {
     Components,
@@ -34,7 +34,7 @@ pub enum PhaseType {
 }
 
 impl PhaseType {
-    /// The constant of this number, if there is one (RFC 4506, section 4.3).
+    /// The variant with this number, or `None` if no variant has it (RFC 4506, section 4.3).
     pub fn from_number(number: u32) -> Option<PhaseType>
         ensures { result ≡ phase_type_of number }
     {
@@ -45,7 +45,7 @@ impl PhaseType {
         }
     }
 
-    /// Its number (RFC 4506, section 4.3).
+    /// The number of the variant (RFC 4506, section 4.3).
     pub fn number(self) -> u32
         ensures { result ≡ phase_number self }
     {
@@ -69,7 +69,7 @@ pub enum Phase {
 }
 
 impl Phase {
-    /// Which arm it is (RFC 4506, section 4.15).
+    /// The discriminant of the union (RFC 4506, section 4.15).
     pub fn phase_type(&self) -> PhaseType
         ensures { result ≡ phase_type self.now }
     {
@@ -79,7 +79,7 @@ impl Phase {
         }
     }
 
-    /// The stages, in the order in which they run; none where the phase has components.
+    /// The stages in their order; none if the phase has components.
     pub fn stages(&self) -> &[Stage]
         ensures { result.now ≡ parallel_stages self.now }
     {

@@ -1,10 +1,10 @@
 //! The spelling of transaction sets.
 
 ghost use Rattle.xdr_core.specs.Reads.{Reads};
-ghost use Rattle.tx_xdr.specs.Limits.{whole};
+ghost use Rattle.tx_xdr.specs.SetBounds.{whole};
 ghost use Rattle.tx_xdr.specs.Set.{component_format, component_lawful, cluster_format, cluster_lawful, stage_format, stage_lawful, phase_type_format, phase_type_lawful, phase_arms, phase_format, phase_lawful, set_format, set_lawful};
 
-use crate::limits::Limits;
+use crate::limits::SetBounds;
 use crate::set::{Cluster, Component, Phase, PhaseType, Stage, TxSet};
 use crate::transaction::Envelope;
 use crate::within::{ReadWithin, read_list_within};
@@ -25,7 +25,7 @@ impl ReadWithin for Component {
     fn read_parts_within(
         alloc: Global,
         input: &mut Cursor<'_>,
-        limits: Limits,
+        limits: SetBounds,
     ) -> Result<Component, ReadXdr> {
         read_head(input, MAYBE_DISCOUNTED_FEE)?;
         let base_fee = Option::<i64>::read(alloc, input)?;
@@ -44,7 +44,7 @@ impl Xdr for Component {
     ghost format = { component_format whole };
 
     fn read_parts(alloc: Global, input: &mut Cursor<'_>) -> Result<Component, ReadXdr> {
-        Component::read_within(alloc, input, Limits::whole())
+        Component::read_within(alloc, input, SetBounds::whole())
     }
 
     fn write_parts(&self, out: &mut Out) -> Result<(), NoMemory> {
@@ -67,7 +67,7 @@ impl ReadWithin for Cluster {
     fn read_parts_within(
         alloc: Global,
         input: &mut Cursor<'_>,
-        limits: Limits,
+        limits: SetBounds,
     ) -> Result<Cluster, ReadXdr> {
         let envelopes = read_list_within::<Envelope>(alloc, input, u32::MAX, limits)?;
         Ok(Cluster {
@@ -83,7 +83,7 @@ impl Xdr for Cluster {
     ghost format = { cluster_format whole };
 
     fn read_parts(alloc: Global, input: &mut Cursor<'_>) -> Result<Cluster, ReadXdr> {
-        Cluster::read_within(alloc, input, Limits::whole())
+        Cluster::read_within(alloc, input, SetBounds::whole())
     }
 
     fn write_parts(&self, out: &mut Out) -> Result<(), NoMemory> {
@@ -104,7 +104,7 @@ impl ReadWithin for Stage {
     fn read_parts_within(
         alloc: Global,
         input: &mut Cursor<'_>,
-        limits: Limits,
+        limits: SetBounds,
     ) -> Result<Stage, ReadXdr> {
         let clusters = read_list_within::<Cluster>(alloc, input, limits.parts, limits)?;
         Ok(Stage {
@@ -120,7 +120,7 @@ impl Xdr for Stage {
     ghost format = { stage_format whole };
 
     fn read_parts(alloc: Global, input: &mut Cursor<'_>) -> Result<Stage, ReadXdr> {
-        Stage::read_within(alloc, input, Limits::whole())
+        Stage::read_within(alloc, input, SetBounds::whole())
     }
 
     fn write_parts(&self, out: &mut Out) -> Result<(), NoMemory> {
@@ -158,7 +158,7 @@ impl Xdr for PhaseType {
     ghost lawful = { phase_type_lawful };
 }
 
-fn read_parallel(alloc: Global, input: &mut Cursor<'_>, limits: Limits) -> Result<Phase, ReadXdr>
+fn read_parallel(alloc: Global, input: &mut Cursor<'_>, limits: SetBounds) -> Result<Phase, ReadXdr>
     ensures { Reads (phase_arms limits PhaseType.Parallel).read input.old input.new result }
 {
     let base_fee = Option::<i64>::read(alloc, input)?;
@@ -173,7 +173,7 @@ fn read_arm(
     alloc: Global,
     input: &mut Cursor<'_>,
     phase_type: PhaseType,
-    limits: Limits,
+    limits: SetBounds,
 ) -> Result<Phase, ReadXdr>
     ensures { Reads (phase_arms limits phase_type).read input.old input.new result }
 {
@@ -193,7 +193,7 @@ impl ReadWithin for Phase {
     fn read_parts_within(
         alloc: Global,
         input: &mut Cursor<'_>,
-        limits: Limits,
+        limits: SetBounds,
     ) -> Result<Phase, ReadXdr> {
         let place = input.place();
         let phase_type = PhaseType::read(alloc, input)?;
@@ -214,7 +214,7 @@ impl Xdr for Phase {
     ghost format = { phase_format whole };
 
     fn read_parts(alloc: Global, input: &mut Cursor<'_>) -> Result<Phase, ReadXdr> {
-        Phase::read_within(alloc, input, Limits::whole())
+        Phase::read_within(alloc, input, SetBounds::whole())
     }
 
     fn write_parts(&self, out: &mut Out) -> Result<(), NoMemory> {
@@ -246,7 +246,7 @@ impl ReadWithin for TxSet {
     fn read_parts_within(
         alloc: Global,
         input: &mut Cursor<'_>,
-        limits: Limits,
+        limits: SetBounds,
     ) -> Result<TxSet, ReadXdr> {
         read_head(input, VERSION)?;
         let previous_ledger_hash = Hash::read(alloc, input)?;
@@ -265,7 +265,7 @@ impl Xdr for TxSet {
     ghost format = { set_format whole };
 
     fn read_parts(alloc: Global, input: &mut Cursor<'_>) -> Result<TxSet, ReadXdr> {
-        TxSet::read_within(alloc, input, Limits::whole())
+        TxSet::read_within(alloc, input, SetBounds::whole())
     }
 
     fn write_parts(&self, out: &mut Out) -> Result<(), NoMemory> {

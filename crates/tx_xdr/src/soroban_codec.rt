@@ -1,4 +1,4 @@
-//! The spelling of what a transaction declares.
+//! The codec of Soroban data.
 
 ghost use Rattle.tx_xdr.specs.Soroban.{footprint_format, footprint_lawful, soroban_format, soroban_lawful};
 

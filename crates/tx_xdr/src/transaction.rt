@@ -1,4 +1,4 @@
-//! Transactions, and what they declare.
+//! Transactions with their operations, footprints and resources.
 
 ghost use Rattle.std.specs.Prelude.{◌≡◌};
 ghost use Rattle.tx_xdr.specs.Operation as operations;
@@ -10,7 +10,7 @@ use ledger_types::LedgerKey;
 use tx_parts::{DecoratedSignature, Memo, MuxedAccount, Preconditions};
 use value_types::Items;
 
-/// What an operation is (`OperationType`, without classic operations).
+/// The types of operations (`OperationType`, without classic operations).
 #[derive(Clone, Copy, Debug, PartialEq, Eq)]
 pub enum OperationType {
     InvokeHostFunction,
@@ -19,7 +19,7 @@ pub enum OperationType {
 }
 
 impl OperationType {
-    /// The constant of this number, if there is one (RFC 4506, section 4.3).
+    /// The variant with this number, or `None` if no variant has it (RFC 4506, section 4.3).
     pub fn from_number(number: u32) -> Option<OperationType>
         ensures { result ≡ operations.type_of number }
     {
@@ -31,7 +31,7 @@ impl OperationType {
         }
     }
 
-    /// Its number (RFC 4506, section 4.3).
+    /// The number of the variant (RFC 4506, section 4.3).
     pub fn number(self) -> u32
         ensures { result ≡ operations.number self }
     {
@@ -43,25 +43,25 @@ impl OperationType {
     }
 }
 
-/// What an operation does.
+/// The body of an operation.
 #[derive(Drop)]
 pub enum OperationBody {
-    /// 24: runs a function of the host.
+    /// 24: calls a host function.
     InvokeHostFunction {
         host_function: HostFunction,
-        /// What accounts and contracts authorise it to do.
+        /// The authorisation entries.
         auth: Items<AuthEntry, 4294967295>,
     },
-    /// 25: lets the entries of the read-only footprint live until the current ledger's number plus `extend_to`.
+    /// 25: extends the entries of the read-only footprint to live until the current ledger's number plus `extend_to`.
     ExtendFootprintTtl {
         extend_to: u32,
     },
-    /// 26: brings back the entries of the read-write footprint that were archived.
+    /// 26: restores the archived entries of the read-write footprint.
     RestoreFootprint,
 }
 
 impl OperationBody {
-    /// Which arm it is (RFC 4506, section 4.15).
+    /// The discriminant of the union (RFC 4506, section 4.15).
     pub fn kind(&self) -> OperationType
         ensures { result ≡ operations.kind self.now }
     {
@@ -73,10 +73,10 @@ impl OperationBody {
     }
 }
 
-/// One step of a transaction.
+/// An operation of a transaction.
 #[derive(Drop)]
 pub struct Operation {
-    /// The transaction's source where there is none.
+    /// The source account; without one, the transaction's.
     pub source: Option<MuxedAccount>,
     pub body: OperationBody,
 }
@@ -88,21 +88,21 @@ pub struct Footprint {
     pub read_write: Items<LedgerKey, 4294967295>,
 }
 
-/// What a transaction declares and pays for (`SorobanTransactionData`).
+/// The footprint and the resources that a transaction declares (`SorobanTransactionData`).
 #[derive(Drop)]
 pub struct SorobanData {
     pub footprint: Footprint,
-    /// The most instructions that it may take.
+    /// The maximum number of instructions.
     pub instructions: u32,
-    /// The most bytes of entries that it may read.
+    /// The maximum number of bytes of entries that it may read.
     pub disk_read_bytes: u32,
-    /// The most bytes of entries that it may write.
+    /// The maximum number of bytes of entries that it may write.
     pub write_bytes: u32,
-    /// What it offers for resources, in stroops.
+    /// The fee offered for resources, in stroops.
     pub resource_fee: i64,
 }
 
-/// What may follow a transaction's operations.
+/// The types of extensions of a transaction.
 #[derive(Clone, Copy, Debug, PartialEq, Eq)]
 pub enum TransactionExtType {
     None,
@@ -110,7 +110,7 @@ pub enum TransactionExtType {
 }
 
 impl TransactionExtType {
-    /// The constant of this number, if there is one (RFC 4506, section 4.3).
+    /// The variant with this number, or `None` if no variant has it (RFC 4506, section 4.3).
     pub fn from_number(number: u32) -> Option<TransactionExtType>
         ensures { result ≡ exts.type_of number }
     {
@@ -121,7 +121,7 @@ impl TransactionExtType {
         }
     }
 
-    /// Its number (RFC 4506, section 4.3).
+    /// The number of the variant (RFC 4506, section 4.3).
     pub fn number(self) -> u32
         ensures { result ≡ exts.number self }
     {
@@ -132,7 +132,7 @@ impl TransactionExtType {
     }
 }
 
-/// What follows a transaction's operations.
+/// The extension of a transaction.
 #[derive(Drop)]
 pub enum TransactionExt {
     /// 0: a transaction that declares nothing.
@@ -142,7 +142,7 @@ pub enum TransactionExt {
 }
 
 impl TransactionExt {
-    /// Which arm it is (RFC 4506, section 4.15).
+    /// The discriminant of the union (RFC 4506, section 4.15).
     pub fn kind(&self) -> TransactionExtType
         ensures { result ≡ exts.kind self.now }
     {
@@ -157,9 +157,9 @@ impl TransactionExt {
 #[derive(Drop)]
 pub struct Transaction {
     pub source: MuxedAccount,
-    /// The most that it offers, in stroops.
+    /// The maximum fee, in stroops.
     pub fee: u32,
-    /// The sequence number that its source has afterwards.
+    /// The sequence number that the source account has afterwards.
     pub seq_num: i64,
     pub preconditions: Preconditions,
     pub memo: Memo,

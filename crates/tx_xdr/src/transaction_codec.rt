@@ -1,9 +1,9 @@
 //! The spelling of transactions and their envelopes.
 
-ghost use Rattle.tx_xdr.specs.Limits.{whole};
+ghost use Rattle.tx_xdr.specs.SetBounds.{whole};
 ghost use Rattle.tx_xdr.specs.Transaction.{transaction_format, transaction_lawful, envelope_format, envelope_lawful};
 
-use crate::limits::Limits;
+use crate::limits::SetBounds;
 use crate::numbers::ENVELOPE_TYPE_TX;
 use crate::transaction::{Envelope, Operation, Transaction, TransactionExt};
 use crate::within::{ReadWithin, read_list_within};
@@ -20,7 +20,7 @@ impl ReadWithin for Transaction {
     fn read_parts_within(
         alloc: Global,
         input: &mut Cursor<'_>,
-        limits: Limits,
+        limits: SetBounds,
     ) -> Result<Transaction, ReadXdr> {
         let source = MuxedAccount::read(alloc, input)?;
         let fee = u32::read(alloc, input)?;
@@ -48,7 +48,7 @@ impl Xdr for Transaction {
     ghost format = { transaction_format whole };
 
     fn read_parts(alloc: Global, input: &mut Cursor<'_>) -> Result<Transaction, ReadXdr> {
-        Transaction::read_within(alloc, input, Limits::whole())
+        Transaction::read_within(alloc, input, SetBounds::whole())
     }
 
     fn write_parts(&self, out: &mut Out) -> Result<(), NoMemory> {
@@ -81,7 +81,7 @@ impl ReadWithin for Envelope {
     fn read_parts_within(
         alloc: Global,
         input: &mut Cursor<'_>,
-        limits: Limits,
+        limits: SetBounds,
     ) -> Result<Envelope, ReadXdr> {
         read_head(input, ENVELOPE_TYPE_TX)?;
         let tx = Transaction::read_within(alloc, input, limits)?;
@@ -97,7 +97,7 @@ impl Xdr for Envelope {
     ghost format = { envelope_format whole };
 
     fn read_parts(alloc: Global, input: &mut Cursor<'_>) -> Result<Envelope, ReadXdr> {
-        Envelope::read_within(alloc, input, Limits::whole())
+        Envelope::read_within(alloc, input, SetBounds::whole())
     }
 
     fn write_parts(&self, out: &mut Out) -> Result<(), NoMemory> {

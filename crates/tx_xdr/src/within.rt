@@ -1,33 +1,33 @@
-//! Types whose grammar has limits.
+//! Types whose grammar depends on bounds.
 
 ghost use Rattle.std.specs.Prelude.{◌≡◌, OnErr};
 ghost use Rattle.xdr_spec.specs.Format.{Format, repeat_at, list};
 ghost use Rattle.xdr_spec.specs.Laws.{IsFormat};
 ghost use Rattle.xdr_core.specs.Reads.{Reads, ReadsAs};
-ghost use Rattle.tx_xdr.specs.declared.limits.Limits.{Limits as LimitsData};
+ghost use Rattle.tx_xdr.specs.declared.limits.SetBounds.{SetBounds as LimitsData};
 
-use crate::limits::Limits;
+use crate::limits::SetBounds;
 use std::alloc::Global;
 use xdr_core::{Cursor, ReadXdr, Why, XdrErr};
 
-/// A type whose values are spelled in bytes, where limits say how many members its lists may have and which arms are taken.
+/// A type with a spelling, whose bounds say how long its lists may be and which variants are allowed.
 pub trait ReadWithin {
-    /// How they are spelled.
+    /// The format of the spellings under the bounds.
     ghost format: { LimitsData → Format Self };
 
-    /// Reads the value at the front, part by part. After an error the cursor may stand anywhere.
+    /// Reads the value at the start of the input, part by part. After an error the cursor may stand anywhere.
     fn read_parts_within(
         alloc: Global,
         input: &mut Cursor<'_>,
-        limits: Limits,
+        limits: SetBounds,
     ) -> Result<Self, ReadXdr>
         ensures { Reads (format limits).read input.old input.new result };
 
-    /// Reads the value at the front.
+    /// Reads the value at the start of the input. After an error the cursor stands where it stood.
     final fn read_within(
         alloc: Global,
         input: &mut Cursor<'_>,
-        limits: Limits,
+        limits: SetBounds,
     ) -> Result<Self, ReadXdr>
         ensures value { Reads (format limits).read input.old input.new result }
         ensures err { OnErr result (input.new ≡ input.old) }
@@ -45,12 +45,12 @@ pub trait ReadWithin {
     ghost lawful: { (limits : LimitsData) → IsFormat (format limits) };
 }
 
-/// Reads as many values as are counted. After an error the cursor may stand anywhere.
+/// Reads `count` values. After an error the cursor may stand anywhere.
 fn read_row_within<T: ReadWithin + Drop>(
     alloc: Global,
     input: &mut Cursor<'_>,
     count: u32,
-    limits: Limits,
+    limits: SetBounds,
 ) -> Result<Vec<T>, ReadXdr>
     ensures { ReadsAs (λ v. v.items) (repeat_at (T.format limits).read count) input.old input.new result }
 {
@@ -67,7 +67,7 @@ pub fn read_list_within<T: ReadWithin + Drop>(
     alloc: Global,
     input: &mut Cursor<'_>,
     max: u32,
-    limits: Limits,
+    limits: SetBounds,
 ) -> Result<Vec<T>, ReadXdr>
     ensures { ReadsAs (λ v. v.items) (list max (T.format limits)).read input.old input.new result }
 {

@@ -7,7 +7,7 @@ use Rattle.std.proofs.lemmas.Cmp.{on_total, lists_total, int_cmp_total}
 use Rattle.std.proofs.lemmas.Bool.Decides.{nat_tests}
 use Rattle.value_types.specs.Datum.{Datum, items_of, members_of}
 use Rattle.value_types.specs.Rows.{executable_row, type_number, items_row, members_row, row}
-use Rattle.value_types.specs.RowLaws.{row-front, executable-front}
+use Rattle.value_types.specs.RowLaws.{row-prefix, executable-prefix}
 use Rattle.value_types.specs.Views.{datum, datums, datum_pairs, instance_of}
 use Rattle.value_types.specs.Lawful.{scval-datum}
 use Rattle.value_types.specs.Error.{number as error_number, kind as error_kind, code}
@@ -35,7 +35,7 @@ value_cmp_total = on_total datum datum_cmp_total
 
 datum_cmp-exact : (d e : Datum) → datum_cmp d e ≡ Equal → d ≡ e
 unfolding datum_cmp
-datum_cmp-exact d e h = (row-front d e [] [] (ap (λ (x : List ℤ). x ++ []) (rows-exact (row d) (row e) h))).0
+datum_cmp-exact d e h = (row-prefix d e [] [] (ap (λ (x : List ℤ). x ++ []) (rows-exact (row d) (row e) h))).0
 
 pub value_cmp-exact : (v w : ScVal) → value_cmp v w ≡ Equal → v ≡ w
 value_cmp-exact v w h =
@@ -131,7 +131,7 @@ text_by_bytes = record { bytes = cmp-text; string = cmp-text; symbol = cmp-text 
 -- ---- parts
 
 row-apart : (d e : Datum) → StandApart (row d) (row e)
-row-apart d e r s h = ap row (row-front d e r s h).0
+row-apart d e r s h = ap row (row-prefix d e r s h).0
 
 items_cmp : (ds es : List Datum) → slice_cmp int_cmp (items_row (items_of ds)) (items_row (items_of es)) ≡ slice_cmp datum_cmp ds es
 unfolding datum_cmp
@@ -182,7 +182,7 @@ executables StellarAsset (Wasm h) = refl
 executables StellarAsset StellarAsset = refl
 
 executable-apart : (x y : Executable) → StandApart (executable_row x) (executable_row y)
-executable-apart x y r s h = ap executable_row (executable-front x y r s h).0
+executable-apart x y r s h = ap executable_row (executable-prefix x y r s h).0
 
 instance_parts_cmp : (x y : Executable) (r s : List ℤ) (o : Ordering) → slice_cmp int_cmp r s ≡ o → slice_cmp int_cmp (executable_row x ++ r) (executable_row y ++ s) ≡ ordering_then (executable_cmp x y) o
 instance_parts_cmp x y r s o e = cmp-append (executable_row x) (executable_row y) r s (executable-apart x y) ∙ ap₂ (λ (p q : Ordering). ordering_then p q) (executables x y) e

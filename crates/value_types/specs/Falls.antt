@@ -1,4 +1,4 @@
--- What a collection contains is smaller than the collection (own).
+-- A member of a collection is smaller than the collection (own). Recursions over values use it.
 use Rattle.std.specs.Prelude.{◌≤◌, List, [], ◌∷◌, Option, Some, None}
 use Rattle.std.proofs.Common.{arith}
 use denote.Param.Weighed.{most}

@@ -1,4 +1,4 @@
--- How values are spelled (XDR file Stellar-contract, `SCVal`): by levels, of which the last has no members.
+-- The spelling of values (XDR file Stellar-contract, `SCVal`), level by level. Collections at the last level have no members.
 use Rattle.std.specs.Prelude.{ℕ, zero, suc, Bool, ℤ, List, Option, Some, None, Ok, Err, ◌==◌, if◌then◌else◌}
 use Rattle.xdr_spec.specs.declared.Why.TheVariants.{Depth}
 use Rattle.xdr_spec.specs.Format.{Input, Outcome, refusal, word_at, ◌>>=◌, Format, pair, via, arm, nothing, optional, opaque, boolean, number32, number64, signed32, signed64, union, empty_list, counted}
@@ -130,7 +130,7 @@ as_ledger_key_nonce _ = None
 abbrev pub instance_format : Format (List (Datum × Datum)) → Format Instance
 instance_format members = via instance_of instance_parts (pair executable_format (optional members))
 
--- what follows the number of each type, with these collections
+-- the body of each type, with these formats of collections
 abbrev pub arms : Format (List Datum) → Format (List (Datum × Datum)) → ScValType → Format ScVal
 arms items members kinds.Bool = arm (λ x. values.Bool x) as_bool boolean
 arms items members kinds.Void = nothing values.Void
@@ -155,20 +155,20 @@ arms items members kinds.ContractInstance = arm (λ x. values.ContractInstance x
 arms items members kinds.LedgerKeyContractInstance = nothing values.LedgerKeyContractInstance
 arms items members kinds.LedgerKeyNonce = arm (λ x. values.LedgerKeyNonce x) as_ledger_key_nonce signed64
 
--- one level, with these collections
+-- one level, with these formats of collections
 abbrev pub one_level : Format (List Datum) → Format (List (Datum × Datum)) → Format ScVal
 one_level items members = union number kind_of kind (arms items members)
 
--- a member, as data
+-- a member, as a plain tree
 abbrev pub member_format : Format ScVal → Format Datum
 member_format F = via datum scval F
 
--- a value with so many levels below it
+-- a value with at most this number of levels below it
 unfoldable pub value_format : ℕ → Format ScVal
 value_format zero = one_level (empty_list Depth) (empty_list Depth)
 value_format (suc n) = one_level (counted (member_format (value_format n))) (counted (pair (member_format (value_format n)) (member_format (value_format n))))
 
--- the members of a vec with so many levels below it
+-- the members of a vec with at most this number of levels below it
 unfoldable pub items_format : ℕ → Format (List Datum)
 items_format zero = empty_list Depth
 items_format (suc n) = counted (member_format (value_format n))
@@ -181,7 +181,7 @@ unfoldable pub members_format : ℕ → Format (List (Datum × Datum))
 members_format zero = empty_list Depth
 members_format (suc n) = counted (entry_format n)
 
--- how many levels lie below a value that stands alone, of the 100 that there may be
+-- the number of levels below a value that stands alone: 100 levels are allowed
 abbrev pub levels_below : ℕ
 levels_below = 99
 

@@ -1,4 +1,4 @@
--- The formats of values are formats (own).
+-- The formats of values meet the laws of formats (own).
 use Rattle.std.proofs.Common.{◌≡◌, ℕ, zero, suc, Bool, ℤ, List, [], ◌∷◌, Option, Some, None, refl, ap}
 use Rattle.xdr_spec.specs.declared.Why.TheVariants.{Depth}
 use Rattle.xdr_spec.specs.Format.{Format, pair, optional, opaque, boolean, number32, number64, signed32, signed64, empty_list, counted}
@@ -260,7 +260,7 @@ value_lawful (suc n) =
     one_level_lawful (counted (member_format (value_format n))) (counted (pair (member_format (value_format n)) (member_format (value_format n))))
     (counted_lawful (member_format (value_format n)) m) (counted_lawful (pair (member_format (value_format n)) (member_format (value_format n))) (pair_lawful (member_format (value_format n)) (member_format (value_format n)) m m))
 
--- a level is made of the collections of the level below
+-- a level has the collections of the level below
 pub value_is : (n : ℕ) → value_format n ≡ one_level (items_format n) (members_format n)
 unfolding value_format items_format members_format
 value_is zero = refl

@@ -1,5 +1,5 @@
--- The order of values (own, one order): each value is written out as a row of numbers (specs/Rows.antt), and rows are compared number
--- by number, a row that begins another one first. specs/OrderSays.antt says what that is for each type of values.
+-- The order of values (own, one order): each value has a row of numbers (specs/Rows.antt), and rows are compared number by number,
+-- a prefix first. specs/OrderSays.antt states the order for each type of values.
 use Rattle.std.specs.Ordering.{int_cmp, ordering_then}
 use Rattle.std.specs.Cmp.Lexicographic.{slice_cmp}
 use Rattle.std.specs.declared.cmp.Ordering.{Ordering}

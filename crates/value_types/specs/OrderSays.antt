@@ -82,7 +82,7 @@ pub record TextByBytes : Type 0 where
   pub string : (x y : List ℕ) → value_cmp (values.String x) (values.String y) ≡ bytes_cmp x y
   pub symbol : (x y : List ℕ) → value_cmp (values.Symbol x) (values.Symbol y) ≡ bytes_cmp x y
 
--- vecs member by member, a prefix first; maps as lists of key and value; null before present; and what else has parts
+-- vecs member by member, a prefix first; maps as lists of key and value; null before present; errors, addresses and instances
 pub record PartsInOrder : Type 0 where
   pub vec : (x y : Option (List Datum)) → value_cmp (values.Vec x) (values.Vec y) ≡ null_first (slice_cmp datum_cmp) x y
   pub map : (x y : Option (List (Datum × Datum))) → value_cmp (values.Map x) (values.Map y) ≡ null_first (slice_cmp pair_cmp) x y

@@ -1,7 +1,7 @@
--- The order of values (own, one order): by the number of the type; then numbers by value, bytes and text byte by byte, vecs
--- member by member, null before present, maps as lists of key and value, errors by type and code, addresses by kind and
--- bytes, instances by executable and storage. A row that begins another one comes first.
--- Each value is written out as a row of numbers, in which -1 ends a list, and rows are compared number by number.
+-- The row of a value (own): the numbers by which values are ordered. First the number of the type; then numbers by value, bytes
+-- and text byte by byte, vecs member by member, null before present, maps as lists of key and value, errors by type and code,
+-- addresses by kind and bytes, instances by executable and storage. In a row, -1 ends a list. Rows are compared number by
+-- number, a prefix first.
 use Rattle.std.specs.Prelude.{ℕ, ℤ, pos, negsuc, List, [], ◌∷◌, ◌++◌, map as map_list}
 use Rattle.xdr_spec.specs.Format.{bit}
 use Rattle.value_types.specs.Error.{number as error_number, kind as error_kind, code}
@@ -12,7 +12,7 @@ use Rattle.value_types.specs.declared.address.ScAddress.TheVariants.{Account, Co
 use Rattle.value_types.specs.declared.executable.Executable.{Executable}
 use Rattle.value_types.specs.declared.executable.Executable.TheVariants.{Wasm, StellarAsset}
 
--- the end of a list, below all that a list has
+-- the end of a list, less than every item of a list
 abbrev pub end : List ℤ
 end = negsuc 0 ∷ []
 
@@ -59,7 +59,7 @@ type_number ledger_key_contract_instance = 20
 type_number (ledger_key_nonce x) = 21
 
 abbrev mutual
-  -- what follows the number of the type
+  -- the numbers after the number of the type
   pub body : Datum → List ℤ
   body (boolean x) = pos (bit x) ∷ []
   body void = []
@@ -95,6 +95,6 @@ abbrev mutual
   members_row no_members = end
   members_row (member k v ms) = pos (type_number k) ∷ (body k ++ (pos (type_number v) ∷ (body v ++ members_row ms)))
 
--- a value, written out
+-- the row of a value
 abbrev pub row : Datum → List ℤ
 row d = pos (type_number d) ∷ body d

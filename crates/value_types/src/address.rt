@@ -7,7 +7,7 @@ use crate::account_id::AccountId;
 use crate::hash::Hash;
 use std::alloc::AllocError;
 
-/// What an address names (the XDR files' `SCAddressType`).
+/// The kinds of addresses (the XDR files' `SCAddressType`).
 #[derive(Clone, Copy, Debug, PartialEq, Eq)]
 pub enum ScAddressType {
     Account,
@@ -15,7 +15,7 @@ pub enum ScAddressType {
 }
 
 impl ScAddressType {
-    /// The constant of this number, if there is one (RFC 4506, section 4.3).
+    /// The variant with this number, or `None` if no variant has it (RFC 4506, section 4.3).
     pub fn from_number(number: u32) -> Option<ScAddressType>
         ensures { result ≡ kind_of number }
     {
@@ -26,7 +26,7 @@ impl ScAddressType {
         }
     }
 
-    /// Its number (RFC 4506, section 4.3).
+    /// The number of the variant (RFC 4506, section 4.3).
     pub fn number(self) -> u32
         ensures { result ≡ number self }
     {
@@ -37,7 +37,7 @@ impl ScAddressType {
     }
 }
 
-/// An account or a contract.
+/// The address of an account or a contract (the XDR files' `SCAddress`).
 #[derive(Debug, PartialEq, Eq)]
 pub enum ScAddress {
     /// 0.
@@ -59,7 +59,7 @@ impl Clone for ScAddress {
 impl Copy for ScAddress {}
 
 impl ScAddress {
-    /// Which arm it is (RFC 4506, section 4.15).
+    /// The discriminant of the union (RFC 4506, section 4.15).
     pub fn kind(self) -> ScAddressType
         ensures { result ≡ kind self }
     {

@@ -1,9 +1,8 @@
-//! Values, and how they are spelled.
+//! Contract values: their types, formats, order, depth and clones.
 #![tactic(auto)]
 
 mod account_id;
 mod address;
-mod blob;
 mod bytes;
 mod cloning;
 mod error;
@@ -18,7 +17,7 @@ mod value;
 
 pub use account_id::AccountId;
 pub use address::{ScAddress, ScAddressType};
-pub use blob::Blob;
+pub use byte_list::Blob;
 pub use bytes::Bytes;
 pub use error::{ScError, ScErrorCode, ScErrorType};
 pub use executable::{Executable, ExecutableType};
@@ -29,6 +28,3 @@ pub use nesting::depth;
 pub use numbers::{Int128Parts, Int256Parts, UInt128Parts, UInt256Parts};
 pub use order::{cmp_val, order_by_type, order_is_total};
 pub use value::{Entries, Entry, Instance, ScVal, ScVals};
-
-#[cfg(test)]
-mod tests;

@@ -10,15 +10,15 @@ ghost use Rattle.value_types.specs.Order.{datum_cmp, pair_cmp, value_cmp, entry_
 ghost use Rattle.value_types.specs.OrderSays.{ByType, NumbersByValue, TextByBytes, PartsInOrder, bytes_cmp, null_first, error_cmp, address_cmp, executable_cmp, instance_cmp};
 
 use crate::address::ScAddress;
-use crate::blob::Blob;
 use crate::error::ScError;
 use crate::executable::Executable;
 use crate::hash::Hash;
 use crate::numbers::{Int128Parts, Int256Parts, UInt128Parts, UInt256Parts};
 use crate::value::{Entries, Entry, Instance, ScVal, ScVals};
+use byte_list::Blob;
 use std::cmp::Ordering;
 
-/// The order of `$y` where `$b` is of the same arm, and else another answer.
+/// The order of `$y` if `$b` has the same variant, and the other result if not.
 macro_rules! among {
     ($arm:ident, $b:expr, |$y:ident| $order:expr, $other:expr) => {
         match $b {
@@ -28,7 +28,7 @@ macro_rules! among {
     };
 }
 
-/// Where `a` stands to `b`: by the numbers of their types, then as `order_by_type` says.
+/// Compares two values: by the numbers of their types, then as `order_by_type` states.
 #[cycle(cmp)]
 pub fn cmp_val(a: &ScVal, b: &ScVal) -> Ordering
     ensures { result ≡ value_cmp a.now b.now }
@@ -132,7 +132,7 @@ fn cmp_instances(a: &Instance, b: &Instance) -> Ordering
     }
 }
 
-/// The same for values of which not both are vecs, maps or instances.
+/// Compares two values that are not both vecs, maps or instances.
 fn cmp_plain(a: &ScVal, b: &ScVal) -> Ordering
     ensures { (SameCollection a.now b.now → ⊥) → result ≡ value_cmp a.now b.now }
 {
@@ -230,13 +230,13 @@ fn cmp_i256(a: Int256Parts, b: Int256Parts) -> Ordering
     a.hi_hi.cmp(&b.hi_hi).then(a.hi_lo.cmp(&b.hi_lo).then(low))
 }
 
-/// The order of values is total, and takes only a value itself for its equal.
+/// The order of values is total, and only equal values are equal in it.
 pub fn order_is_total()
     ensures total { IsTotalOrder value_cmp }
     ensures exact { (v w : Value) → value_cmp v w ≡ Order.Equal → v ≡ w }
 {}
 
-/// What the order of values is for each type.
+/// The order of values, stated for each type.
 pub fn order_by_type()
     ensures by_type { ByType }
     ensures numbers { NumbersByValue }

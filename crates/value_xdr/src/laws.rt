@@ -1,4 +1,4 @@
-//! What holds of every type with a spelling.
+//! Laws of every type with a spelling.
 
 ghost use Rattle.std.specs.Prelude.{◌≡◌, ◌+◌, ◌++◌, ◌⊎◌, ℕ, List, Ok, Err, length};
 ghost use Rattle.xdr_spec.specs.declared.Why.{Why as Reason};
@@ -8,7 +8,7 @@ ghost use Rattle.xdr_spec.specs.Refusal.{Spells, Refuses};
 
 use crate::xdr::Xdr;
 
-/// A value has one spelling, a spelling has one value, and no spelling begins another.
+/// A value has one spelling, a spelling has one value, and no spelling is a prefix of another.
 pub fn one_spelling<T: Xdr>()
     ensures { (v w : T) (x y r s : List ℕ) → Spells T.format v x → Spells T.format w y
         → x ++ r ≡ y ++ s → (v ≡ w) × (x ≡ y) }
@@ -28,13 +28,13 @@ pub fn spelled_or_refused<T: Xdr>()
         → Refuses T.format bytes at why → ⊥ }
 {}
 
-/// A value that is spelled at the front is read, whatever follows; what is read at the front is spelled there; and what is not
-/// read is refused.
-pub fn front_is_read<T: Xdr>()
+/// A spelling at the start of the input is read as its value, whatever follows. A value that is read is spelled there. Bytes that
+/// are not read are refused.
+pub fn prefix_is_read<T: Xdr>()
     ensures spelled { (place : ℕ) (v : T) (bytes rest : List ℕ) → Spells T.format v bytes
         → T.format.read (input place (bytes ++ rest)) ≡ Ok (v, input (place + length bytes) rest) }
     ensures only { (place : ℕ) (v : T) (bytes : List ℕ) (i : Input) → IsBytes bytes → T.format.read (input place bytes) ≡ Ok (v, i)
-        → (front : List ℕ) × Spells T.format v front × (bytes ≡ front ++ i.rest) × (i.place ≡ place + length front) }
+        → (prefix : List ℕ) × Spells T.format v prefix × (bytes ≡ prefix ++ i.rest) × (i.place ≡ place + length prefix) }
     ensures refused { (bytes : List ℕ) (e : XdrErr) → IsBytes bytes → T.format.read (input 0 bytes) ≡ Err e
         → Refuses T.format bytes e.at e.why }
 {}

@@ -1,4 +1,4 @@
-//! Values read from bytes and written as bytes.
+//! Reads contract values from XDR and writes them.
 #![tactic(auto)]
 
 mod account_id;
@@ -22,10 +22,7 @@ mod xdr;
 
 pub use blob::{read_blob, size_of_blob, write_blob};
 pub use head::read_head;
-pub use laws::{front_is_read, one_refusal, one_spelling, spelled_or_refused};
+pub use laws::{one_refusal, one_spelling, prefix_is_read, spelled_or_refused};
 pub use rows::{read_list, read_row, size_of_list, write_list};
 pub use scval::{val_size, value_from_bytes, value_to_bytes};
 pub use xdr::{Xdr, decode, encode};
-
-#[cfg(test)]
-mod tests;

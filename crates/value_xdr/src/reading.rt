@@ -1,4 +1,4 @@
-//! Values read from bytes.
+//! Reads a value.
 
 ghost use Rattle.std.specs.Prelude.{◌≡◌, IfOk};
 ghost use Rattle.xdr_spec.specs.Format.{optional};
@@ -15,7 +15,7 @@ use value_types::{
 };
 use xdr_core::{Cursor, ReadXdr, Why, XdrErr};
 
-/// A value with at most `left` levels below it.
+/// Reads a value with at most `left` levels below it.
 #[cycle(read)]
 pub fn read_value(alloc: Global, input: &mut Cursor<'_>, left: u32) -> Result<ScVal, ReadXdr>
     ensures { Reads (value_format left).read input.old input.new result }
@@ -132,7 +132,7 @@ fn read_entry(alloc: Global, input: &mut Cursor<'_>, left: u32) -> Result<Entry,
     Ok(Entry { key, val })
 }
 
-/// How many members a collection has: none at the last level.
+/// Reads the number of members of a collection, which is 0 at the last level.
 fn read_count(input: &mut Cursor<'_>, left: u32) -> Result<u32, ReadXdr>
     ensures count { Reads (count_at left) input.old input.new result }
     ensures none { IfOk result (λ n. left ≡ 0 → n ≡ 0) }

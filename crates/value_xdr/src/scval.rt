@@ -1,4 +1,4 @@
-//! The spelling of values.
+//! The codec of values that stand alone.
 
 ghost use Rattle.std.specs.Prelude.{◌≡◌, length, IfOk, IfErr};
 ghost use Rattle.xdr_core.specs.Sizes.{capped};
@@ -15,7 +15,7 @@ use std::alloc::Global;
 use value_types::ScVal;
 use xdr_core::{Cursor, NoMemory, Out, ReadXdr};
 
-/// How many levels lie below a value that stands alone.
+/// The number of levels below a value that stands alone.
 const LEVELS_BELOW: u32 = 99;
 
 #[tactic(auto, unfolding(value_types::specs::Formats::scval_format))]
@@ -37,7 +37,7 @@ impl Xdr for ScVal {
     ghost lawful = { scval_lawful };
 }
 
-/// The value that the bytes spell, all of the bytes.
+/// The value that all the bytes spell.
 pub fn value_from_bytes(alloc: Global, bytes: &[u8]) -> Result<ScVal, ReadXdr>
     ensures found { IfOk result (λ v. Spells scval_format v bytes.now) }
     ensures only { (v : ScValData) → Spells scval_format v bytes.now → IsValueUnlessMemory v result }
@@ -54,10 +54,10 @@ pub fn value_to_bytes(alloc: Global, value: &ScVal) -> Result<Vec<u8>, NoMemory>
     encode(alloc, value)
 }
 
-/// How many bytes a value's spelling has, or `u64::MAX` where it has more.
+/// The length of a value's spelling in bytes, or `u64::MAX` if it is larger.
 pub fn val_size(value: &ScVal) -> u64
     ensures spelling { scval_format.fits value.now → result ≡ capped (length (scval_format.spell value.now)) }
-    // At more levels than a spelling has, they are counted alike.
+    // A value deeper than the bound of spellings is counted alike.
     ensures deeper { IsValueBounded value.now → result ≡ capped (length (value_bytes value.now)) }
 {
     writing::size_of_value(value)

@@ -1,4 +1,4 @@
-//! Values written as bytes.
+//! Writes a value.
 
 ghost use Rattle.std.specs.Prelude.{◌≡◌, ◌++◌, OnOk, OnErr, Some, length};
 ghost use Rattle.std.specs.List.{flat_map, AllByRecursion};
@@ -13,7 +13,7 @@ use crate::xdr::Xdr;
 use value_types::{Entries, Entry, Instance, ScVal, ScVals};
 use xdr_core::{NoMemory, Out, add_sizes};
 
-/// Writes the spelling of a value. After an error bytes of unknown content may follow what was there.
+/// Writes the spelling of a value. After an error, bytes of unknown content may follow the old ones.
 #[cycle(write)]
 pub fn write_value(value: &ScVal, out: &mut Out) -> Result<(), NoMemory>
     requires { IsValueBounded value.now }
@@ -120,7 +120,7 @@ fn write_instance(instance: &Instance, out: &mut Out) -> Result<(), NoMemory>
     }
 }
 
-/// How many bytes `write_value` writes, or `u64::MAX`.
+/// The number of bytes that `write_value` writes, or `u64::MAX` if it is larger.
 #[cycle(size)]
 #[tactic(auto, unfolding(xdr_core::specs::Sizes::capped))]
 pub fn size_of_value(value: &ScVal) -> u64
@@ -129,7 +129,7 @@ pub fn size_of_value(value: &ScVal) -> u64
     add_sizes(4, size_of_body(value))
 }
 
-/// How many bytes follow the number of the type, or `u64::MAX`.
+/// The number of bytes after the number of the type, or `u64::MAX` if it is larger.
 #[cycle(size)]
 #[tactic(auto, unfolding(xdr_spec::specs::Format::opaque, xdr_core::specs::Sizes::capped))]
 fn size_of_body(value: &ScVal) -> u64

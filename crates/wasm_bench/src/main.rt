@@ -1,4 +1,4 @@
-//! Calls an export of a module, which takes nothing, so that it can be timed from outside.
+//! Calls an export without parameters, so that another program can measure its time.
 #![tactic(auto)]
 
 ghost use Rattle.std.specs.Prelude.{◌≡◌};
@@ -25,7 +25,7 @@ fn main(rt: HostRuntime) -> ExitCode {
     }
 }
 
-/// The result of the export, and how many instructions were executed.
+/// Returns the result of the export and the number of executed instructions.
 fn run<R: Runtime + AllocGlobal>(rt: &R) -> Option<(u64, u64)> {
     let alloc = rt.alloc();
     let mut words = std::env::args(rt).ok()?.skip(1);
@@ -66,7 +66,7 @@ fn terms(constant: u32) -> KindTerms
     }
 }
 
-/// A budget that never ends, in which an instruction costs one and all else nothing.
+/// Returns a budget of the largest limits, in which an instruction costs 1 and everything else 0.
 fn ample() -> Budget {
     let nothing = terms(0);
     let all = Terms {

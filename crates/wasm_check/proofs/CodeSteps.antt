@@ -1,5 +1,6 @@
 -- The check of code, step by step.
-use Rattle.std.proofs.Common.{◌≡◌, ℕ, zero, suc, ◌+◌, ◌<◌, ◌≤◌, List, [], ◌∷◌, length, drop, get_or, Option, Some, Result, Ok, Err, sym, ap, ◌∙◌, subst, arith}
+use Rattle.std.proofs.Common.{◌≡◌, ℕ, zero, suc, ◌+◌, ◌<◌, ◌≤◌, List, [], ◌∷◌, length, drop, get_or, Option, Some, Result, Ok, Err, Bool, true, false, refl, sym, ap, ◌∙◌, subst, arith}
+use Rattle.std.specs.Prelude.{◌≢◌, MatchBool}
 use Rattle.std.proofs.lemmas.List.{drop_more}
 use Rattle.wasm_spec.specs.declared.instructions.Instr.{Instr}
 use Rattle.wasm_spec.specs.declared.instructions.Instr.TheVariants as instr
@@ -8,7 +9,8 @@ use Rattle.wasm_spec.specs.Views.{before, code_of}
 use Rattle.wasm_spec.specs.Typing.{◌>>=◌, Context}
 use Rattle.wasm_check.specs.declared.error.Fault.{Fault}
 use Rattle.wasm_check.specs.declared.error.Fault.TheVariants.{Ill, NoMemory}
-use Rattle.wasm_check.specs.Check.{Shape, nothing, ends, check_code, body_check}
+use Rattle.wasm_spec.specs.declared.types.ValueType.{ValueType}
+use Rattle.wasm_check.specs.Check.{Shape, nothing, anything, pops, ends, check_code, body_check}
 use Rattle.wasm_check.specs.Checks.{Checks, ChecksOn, IsChecked}
 
 -- sizes
@@ -42,6 +44,16 @@ all_err r x e whole next new q p h = subst (λ r. Checks whole r new) (sym (q �
     go : (e : Fault) → ChecksOn whole (Err e) next → Checks whole (Err e) new
     go Ill h = h
     go NoMemory h = tt
+
+-- the arguments of a call
+
+pops_anything : (ts : List ValueType) → pops ts anything ≡ Some anything
+pops_anything [] = refl
+pops_anything (t ∷ ts) = pops_anything ts
+
+pub pops_stop : (b : Bool) (s : Shape) (ts : List ValueType) (whole : Option Shape) → MatchBool b (s ≡ anything) (s ≢ anything) → b ≡ true → whole ≡ pops ts s → whole ≡ Some s
+pops_stop true s ts whole m e h = h ∙ ap (pops ts) m ∙ pops_anything ts ∙ ap (λ s. Some s) (sym m)
+pops_stop false s ts whole m e h = cc
 
 -- a block's end
 pub body_ends : (c : Context) (r : BlockType) (x : Code) (s new : Shape) (res : Result (Unit {0}) Fault) → check_code c x nothing ≡ Some s → Checks (ends r s) res new → IsChecked (body_check c r x) res

@@ -13,7 +13,7 @@ use Rattle.wasm_spec.specs.declared.types.FuncType.{FuncType}
 use Rattle.wasm_spec.specs.declared.module.Import.{Import}
 use Rattle.wasm_spec.specs.declared.module.Module.{Module}
 use Rattle.wasm_check.specs.Check.{same_type}
-use Rattle.wasm_check.specs.Linking.{Host, HostFunction, functions_of, SomeOf, IsHostFunction, ImportLinked, one_i64, type_matches, matches, host_has, typed_import, import_ok}
+use Rattle.wasm_check.specs.Linking.{Host, HostImport, functions_of, SomeOf, IsHostFunction, ImportLinked, one_i64, type_matches, matches, host_has, typed_import, import_ok}
 use Rattle.wasm_check.proofs.OutsideLaws.{Same, same_and, same_all, same_type_true, same_type_refl}
 use Rattle.wasm_check.proofs.Passed.{and_true, both_true, never}
 
@@ -84,7 +84,7 @@ same_signature n t = record { back = back; on = on }
         both_true (length t.params == n) (list_all (λ p. same_type p I64) t.params && one_i64 t.results) (eq-eqb (length t.params) n (ap length h.0 ∙ count_replicate n))
         (both_true (list_all (λ p. same_type p I64) t.params) (one_i64 t.results) ((same_all same_is t.params).on (subst (AllByRecursion (λ p. p ≡ I64)) (sym h.0) (all_replicate n))) ((same_one t.results).on h.1))
 
-same_function : (i : Import) (t : FuncType) (f : HostFunction) → Same (matches i t f) (IsHostFunction i t f)
+same_function : (i : Import) (t : FuncType) (f : HostImport) → Same (matches i t f) (IsHostFunction i t f)
 same_function i t f = flat (same_and (same_bytes i.module f.0) (same_and (same_bytes i.name f.1) (same_signature f.2 t)))
   where
     flat : {b : Bool} {P Q R S : Type 0} → Same b (P × (Q × (R × S))) → Same b (P × Q × R × S)

@@ -9,7 +9,7 @@ use Rattle.std.proofs.lemmas.Slice.Eq.{bytes_eq-Decides}
 use Rattle.wasm_spec.specs.declared.types.ValueType.{ValueType}
 use Rattle.wasm_spec.specs.declared.types.ValueType.TheVariants.{I32, I64}
 use Rattle.wasm_spec.specs.declared.types.FuncType.{FuncType}
-use Rattle.wasm_spec.specs.declared.types.Limits.{Limits}
+use Rattle.wasm_spec.specs.declared.types.ResizableLimits.{ResizableLimits}
 use Rattle.wasm_spec.specs.declared.types.TableType.{TableType}
 use Rattle.wasm_spec.specs.declared.module.Import.{Import}
 use Rattle.wasm_spec.specs.declared.module.Function.{Function}
@@ -62,7 +62,7 @@ same_max : (min most : ℕ) (o : Option ℕ) → Same (max_ok min most o) (IfSom
 same_max min most None = record { back = λ _. tt; on = λ _. refl }
 same_max min most (Some n) = same_and (same_le min n) (same_le n most)
 
-same_limits : (bound most : ℕ) (l : Limits) → Same (limits_ok bound most l) (LimitsValid bound most l)
+same_limits : (bound most : ℕ) (l : ResizableLimits) → Same (limits_ok bound most l) (LimitsValid bound most l)
 same_limits bound most l = same_and (same_le l.min bound) (same_max l.min most l.max)
 
 -- how many functions there are
@@ -111,7 +111,7 @@ same_types m = same_and (same_all (λ (t : FuncType). same_le (length t.results)
 same_sizes : (m : Module) → Same (sizes_ok m) ((length (function_indices m) < 2 ^ 32) × ((length m.tables ≤ 1) × (AllByRecursion TableValid m.tables × ((length m.memories ≤ 1) × AllByRecursion MemoryValid m.memories))))
 same_sizes m =
     same_and (few (indices_length m))
-    (same_and (same_le (length m.tables) 1) (same_and (same_all (λ (t : TableType). same_limits MOST_ELEMENTS (2 ^ 32) t.limits) m.tables) (same_and (same_le (length m.memories) 1) (same_all (λ (l : Limits). same_limits MOST_PAGES (2 ^ 16) l) m.memories))))
+    (same_and (same_le (length m.tables) 1) (same_and (same_all (λ (t : TableType). same_limits MOST_ELEMENTS (2 ^ 32) t.limits) m.tables) (same_and (same_le (length m.memories) 1) (same_all (λ (l : ResizableLimits). same_limits MOST_PAGES (2 ^ 16) l) m.memories))))
   where
     few : {a b : ℕ} → a ≡ b → Same (nat_lt b (2 ^ 32)) (a < 2 ^ 32)
     few {a} {b} e = record { back = λ h. subst (λ n. n < 2 ^ 32) (sym e) (ltb-true b (2 ^ 32) h); on = λ h. lt-ltb b (2 ^ 32) (subst (λ n. n < 2 ^ 32) e h) }

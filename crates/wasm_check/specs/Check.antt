@@ -1,4 +1,4 @@
--- The check of code, as a function: it knows of the operands what the code before has left, and after a branch that there may be any below (core section 3.3).
+-- Validation of code as a function on the known operand types. Behind a jump the stack is polymorphic (core section 3.3).
 use Rattle.std.specs.Prelude.{ℕ, nat_lt, Bool, true, false, List, [], ◌∷◌, length, reverse, Option, Some, None, slice_get, if◌then◌else◌}
 use Rattle.std.specs.List.{list_all}
 use Rattle.wasm_spec.specs.declared.types.ValueType.{ValueType}
@@ -13,7 +13,7 @@ use Rattle.wasm_spec.specs.declared.module.Module.{Module}
 use Rattle.wasm_spec.specs.Code.{Code, end, plain, control, block, loop, choose, BlockType}
 use Rattle.wasm_spec.specs.Typing.{◌>>=◌, Context, inside, signature_of, taken_types, label, result_of, function_type}
 
--- The types of the topmost operands, where they are known. Under them are no others, or any.
+-- the types of the topmost operands, as far as they are known; under them there are no others, or any
 pub record Shape : Type 0 where
   pub known : List (Option ValueType)
   pub any : Bool
@@ -25,7 +25,7 @@ shape known any = record { known = known; any = any }
 abbrev pub nothing : Shape
 nothing = shape [] false
 
--- what stands behind code that does not go on
+-- the polymorphic stack behind a jump or a trap
 abbrev pub anything : Shape
 anything = shape [] true
 
@@ -42,12 +42,12 @@ same_type I32 I64 = false
 same_type I64 I32 = false
 same_type I64 I64 = true
 
--- whether it may have this type
+-- whether an operand may have the type
 abbrev pub may_be : Option ValueType → ValueType → Bool
 may_be None t = true
 may_be (Some u) t = same_type u t
 
--- one operand taken away, and what is known of it
+-- pops one operand, with its type if that is known
 abbrev pub pop_from : List (Option ValueType) → Bool → Option (Option ValueType × Shape)
 pop_from [] false = None
 pop_from [] true = Some (None, anything)
@@ -56,7 +56,7 @@ pop_from (o ∷ known) any = Some (o, shape known any)
 abbrev pub pop_any : Shape → Option (Option ValueType × Shape)
 pop_any s = pop_from s.known s.any
 
--- one operand of the type taken away
+-- pops one operand of the type
 abbrev pub pop : ValueType → Shape → Option Shape
 pop t s = pop_any s >>= λ x. if may_be x.0 t then Some x.1 else None
 
@@ -75,11 +75,11 @@ is_empty s = empty_known s.known s
     empty_known [] s = Some s
     empty_known (o ∷ known) s = None
 
--- a block's end: its result, and no more
+-- at a block's end the operands are its result and no others
 abbrev pub ends : BlockType → Shape → Option Shape
 ends r s = pop_result r s >>= is_empty
 
--- what is known of an operand that is one of two
+-- the type of an operand that is one of two; none if the two have different types
 abbrev pub either : Option ValueType → Option ValueType → Option (Option ValueType)
 either None b = Some b
 either (Some a) None = Some (Some a)
@@ -133,6 +133,6 @@ check_code c (loop r body rest) s = check_code (inside None c) body nothing >>= 
 check_code c (choose r taken other rest) s =
     pop I32 s >>= λ s. check_code (inside r c) taken nothing >>= ends r >>= λ _. check_code (inside r c) other nothing >>= ends r >>= λ _. check_code c rest (push_result r s)
 
--- the check of a block's body, from no operands to its result
+-- validation of a block's body, from an empty stack to the block's result
 abbrev pub body_check : Context → BlockType → Code → Option Shape
 body_check c r x = check_code c x nothing >>= ends r

@@ -1,4 +1,4 @@
--- The context that a scope is (core section 3.1).
+-- The context of a scope (core section 3.1).
 use Rattle.wasm_spec.specs.declared.module.Module.{Module}
 use Rattle.wasm_spec.specs.Typing.{Context}
 use Rattle.wasm_check.specs.declared.context.Scope.{Scope}

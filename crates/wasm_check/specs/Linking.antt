@@ -1,4 +1,4 @@
--- Which imports the host has (own).
+-- Linking with the imports that a host has (own).
 use Rattle.std.specs.Prelude.{◌≡◌, ℕ, ◌⊎◌, ◌==◌, ◌&&◌, Bool, false, List, [], ◌∷◌, length, map, take, replicate, Option, Some, None, slice_get}
 use Rattle.std.specs.List.{list_all, list_any, AllByRecursion}
 use Rattle.std.specs.Str.{bytes_eq}
@@ -11,24 +11,24 @@ use denote.Ref.{Bor}
 use Rattle.wasm_check.specs.declared.host.TheConstants.{HOST_FUNCTIONS}
 use Rattle.wasm_check.specs.Check.{same_type}
 
--- some item of the list
+-- some item of the list has the property
 abbrev pub SomeOf : {A : Type 0} → (A → Type 0) → List A → Type 0
 SomeOf P [] = ⊥
 SomeOf P (x ∷ xs) = P x ⊎ SomeOf P xs
 
--- a function of a host: its module, its name, and how many values of 64 bits it takes
-abbrev pub HostFunction : Type 0
-HostFunction = List ℕ × List ℕ × ℕ
+-- a host import: its module, its name, and the number of its i64 parameters
+abbrev pub HostImport : Type 0
+HostImport = List ℕ × List ℕ × ℕ
 
--- the import is this function of the host, with its type
-abbrev pub IsHostFunction : Import → FuncType → HostFunction → Type 0
+-- the import is this host import, with its type
+abbrev pub IsHostFunction : Import → FuncType → HostImport → Type 0
 IsHostFunction i t f = (i.module ≡ f.0) × (i.name ≡ f.1) × (t.params ≡ replicate f.2 I64) × (t.results ≡ I64 ∷ [])
 
--- the functions of a host
+-- the imports that a host has
 abbrev pub Host : Type 0
-Host = List HostFunction
+Host = List HostImport
 
--- those of the code
+-- the host imports of the code's table
 abbrev pub functions_of : List (Bor (List ℕ) × Bor (List ℕ) × ℕ) → Host
 functions_of fs = map (λ f. (f.0.now, f.1.now, f.2)) fs
 
@@ -36,19 +36,19 @@ functions_of fs = map (λ f. (f.0.now, f.1.now, f.2)) fs
 abbrev pub host_functions : Host
 host_functions = map (λ f. (f.0.now, f.1.now, f.2)) HOST_FUNCTIONS
 
--- the import is a function of the host
+-- the import is one of the host's, with its type
 abbrev pub ImportLinked : Host → Module → Import → Type 0
 ImportLinked host m i = (t : FuncType) × (slice_get m.types i.type_index ≡ Some t) × SomeOf (IsHostFunction i t) host
 
--- each import is
+-- each import of the module is one of the host's
 abbrev pub Linked : Host → Module → Type 0
 Linked host m = AllByRecursion (ImportLinked host m) m.imports
 
--- the import of this index is the first that is not
+-- the import of this index is the first that is none of the host's
 abbrev pub IsFirstUnlinked : Host → Module → ℕ → Type 0
 IsFirstUnlinked host m k = (i : Import) × (slice_get m.imports k ≡ Some i) × (ImportLinked host m i → ⊥) × AllByRecursion (ImportLinked host m) (take k m.imports)
 
--- the same, as tests
+-- the same as Boolean tests
 
 abbrev pub one_i64 : List ValueType → Bool
 one_i64 [] = false
@@ -58,7 +58,7 @@ one_i64 (t ∷ u ∷ ts) = false
 abbrev pub type_matches : ℕ → FuncType → Bool
 type_matches arity t = (length t.params == arity) && (list_all (λ p. same_type p I64) t.params && one_i64 t.results)
 
-abbrev pub matches : Import → FuncType → HostFunction → Bool
+abbrev pub matches : Import → FuncType → HostImport → Bool
 matches i t f = bytes_eq i.module f.0 && (bytes_eq i.name f.1 && type_matches f.2 t)
 
 abbrev pub host_has : Host → Import → FuncType → Bool

@@ -1,10 +1,10 @@
--- The rules outside bodies, as tests (core sections 3.2 and 3.4).
+-- The rules outside function bodies as Boolean tests (core sections 3.2 and 3.4).
 use Rattle.std.specs.Prelude.{ℕ, ◌^◌, ◌+◌, ◌&&◌, not, nat_le, nat_lt, Bool, true, false, List, [], ◌∷◌, length, Option, Some, None}
 use Rattle.std.specs.List.{list_all}
 use Rattle.wasm_spec.specs.declared.types.ValueType.{ValueType}
 use Rattle.wasm_spec.specs.declared.types.ValueType.TheVariants.{I32}
 use Rattle.wasm_spec.specs.declared.types.FuncType.{FuncType}
-use Rattle.wasm_spec.specs.declared.types.Limits.{Limits}
+use Rattle.wasm_spec.specs.declared.types.ResizableLimits.{ResizableLimits}
 use Rattle.wasm_spec.specs.declared.types.TableType.{TableType}
 use Rattle.wasm_spec.specs.declared.module.Import.{Import}
 use Rattle.wasm_spec.specs.declared.module.Function.{Function}
@@ -28,19 +28,19 @@ abbrev pub max_ok : ℕ → ℕ → Option ℕ → Bool
 max_ok min most None = true
 max_ok min most (Some n) = nat_le min n && nat_le n most
 
-abbrev pub limits_ok : ℕ → ℕ → Limits → Bool
+abbrev pub limits_ok : ℕ → ℕ → ResizableLimits → Bool
 limits_ok bound most l = nat_le l.min bound && max_ok l.min most l.max
 
 abbrev pub table_ok : TableType → Bool
 table_ok t = limits_ok MOST_ELEMENTS (2 ^ 32) t.limits
 
-abbrev pub memory_ok : Limits → Bool
+abbrev pub memory_ok : ResizableLimits → Bool
 memory_ok l = limits_ok MOST_PAGES (2 ^ 16) l
 
 abbrev pub global_ok : Global → Bool
 global_ok g = is_type (constant_type [] g.init) g.value_type
 
--- of a module with so many functions
+-- the functions of an element segment, in a module with so many functions
 abbrev pub functions_ok : ℕ → List ℕ → Bool
 functions_ok count fs = list_all (λ f. nat_lt f count) fs
 
@@ -53,7 +53,7 @@ data_ok m d = nat_lt d.memory (length m.memories) && is_type (constant_type m.gl
 abbrev pub export_ok : Module → Export → Bool
 export_ok m e = nat_lt e.index (count_of m e.kind)
 
--- the types that imports and functions name
+-- types, and the types that imports and functions name
 abbrev pub types_ok : Module → Bool
 types_ok m =
     list_all type_ok m.types
@@ -74,7 +74,7 @@ rules_ok m = types_ok m && (sizes_ok m && values_ok m)
 abbrev pub is_new : List ℕ → List Export → Bool
 is_new name es = list_all (λ (e : Export). not (bytes_eq name e.name)) es
 
--- whether no two exports have one name
+-- whether no two exports have the same name
 abbrev pub exports_differ : List Export → Bool
 exports_differ [] = true
 exports_differ (e ∷ es) = is_new e.name es && exports_differ es

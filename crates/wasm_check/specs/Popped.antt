@@ -1,4 +1,4 @@
--- What is taken from the operands (own).
+-- The result of popping an operand (own).
 use Rattle.std.specs.Prelude.{◌≡◌, Option, Some, None}
 use Rattle.wasm_spec.specs.declared.types.ValueType.{ValueType}
 use Rattle.wasm_check.specs.Check.{Shape}

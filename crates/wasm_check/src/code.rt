@@ -1,4 +1,4 @@
-//! The check of code (core sections 3.3.5 and 3.3.6).
+//! Validation of instruction sequences (core sections 3.3.5 and 3.3.6).
 
 ghost use Rattle.std.specs.Prelude.{◌≡◌, [], reverse, OnOk, slice_get};
 ghost use Rattle.std.specs.List.{list_all};
@@ -17,7 +17,7 @@ use std::alloc::Global;
 use wasm_code::function_type;
 use wasm_spec::{Control, FuncType, Instr, Module, Plain, ValueType};
 
-/// An instruction of sections 3.3.1 to 3.3.4.
+/// Checks an instruction of core sections 3.3.1 to 3.3.4.
 fn check_plain(module: &Module, scope: &Scope, plain: Plain, stack: &mut Stack) -> Result<(), Fault>
     ensures { Checks (check_plain (context_in module.now scope.now) plain stack.old) result stack.new }
 {
@@ -31,7 +31,7 @@ fn check_plain(module: &Module, scope: &Scope, plain: Plain, stack: &mut Stack) 
     }
 }
 
-/// An instruction with a signature.
+/// Checks an instruction whose operand types follow from its signature.
 fn check_signature(
     module: &Module,
     scope: &Scope,
@@ -44,19 +44,20 @@ fn check_signature(
     stack.apply(signature)
 }
 
-/// The types of a call's arguments, the last one first.
+/// Pops the arguments of a call, the last one first. Stops where every further pop would succeed: so all calls together
+/// pop no more operands than the code pushes, even if the code has many calls of a function with many parameters.
 fn pop_arguments(types: &[ValueType], stack: &mut Stack) -> Result<(), Fault>
     ensures { Checks (pops (reverse types.now) stack.old) result stack.new }
 {
     let mut left = types.len();
-    while left > 0 {
+    while left > 0 && !stack.is_bottomless() {
         left -= 1;
         stack.pop(types[left])?;
     }
     Ok(())
 }
 
-/// A call of a function of this type.
+/// Checks a call of a function of the type.
 fn check_call(called: &FuncType, stack: &mut Stack) -> Result<(), Fault>
     ensures { Checks (check_call called.now stack.old) result stack.new }
 {
@@ -64,7 +65,7 @@ fn check_call(called: &FuncType, stack: &mut Stack) -> Result<(), Fault>
     stack.push_result(called.results.as_slice().first().copied())
 }
 
-/// Whether a label takes this.
+/// Returns whether the label exists and has the result type `taken`.
 fn is_same_label(taken: Option<ValueType>, label: Option<Option<ValueType>>) -> bool
     ensures { result ≡ same_label taken label }
 {
@@ -78,7 +79,7 @@ fn is_same_label(taken: Option<ValueType>, label: Option<Option<ValueType>>) -> 
     }
 }
 
-/// Whether each of these labels takes this.
+/// Returns whether each of these labels exists and has the result type `taken`.
 fn are_same_labels(labels: &Labels, indices: &[u32], taken: Option<ValueType>) -> bool
     ensures { result ≡ list_all (λ k. same_label taken (slice_get labels.now k)) indices.now }
 {
@@ -87,7 +88,7 @@ fn are_same_labels(labels: &Labels, indices: &[u32], taken: Option<ValueType>) -
         .all(|index| is_same_label(taken, labels.at(*index as usize)))
 }
 
-/// A branch to one of several labels, all of which take this.
+/// Checks `br_table`, whose default label has the result type `taken`.
 fn check_table(
     labels: &Labels,
     indices: &[u32],
@@ -106,7 +107,7 @@ fn check_table(
     }
 }
 
-/// A control instruction without instructions inside.
+/// Checks a control instruction that contains no other instructions.
 fn check_control(
     module: &Module,
     scope: &Scope,
@@ -149,7 +150,7 @@ fn check_control(
     }
 }
 
-/// A call of a function of the table.
+/// Checks `call_indirect`.
 fn check_indirect(module: &Module, type_index: u32, stack: &mut Stack) -> Result<(), Fault>
     ensures { Checks (check_indirect module.now type_index stack.old) result stack.new }
 {
@@ -165,7 +166,7 @@ fn check_indirect(module: &Module, type_index: u32, stack: &mut Stack) -> Result
     check_call(called, stack)
 }
 
-/// An instruction.
+/// Checks an instruction.
 #[cycle(check)]
 fn check_one(
     alloc: Global,
@@ -219,7 +220,7 @@ fn check_one(
     }
 }
 
-/// A block's body, from no operands to its result.
+/// Checks the body of a block, from an empty stack to the block's result.
 #[cycle(check)]
 pub fn check_body(
     alloc: Global,
@@ -239,7 +240,7 @@ pub fn check_body(
     stack.end(result_type)
 }
 
-/// Instructions one after another.
+/// Checks a sequence of instructions.
 #[cycle(check)]
 fn check_all(
     alloc: Global,

@@ -1,4 +1,4 @@
-//! What the code that is checked stands in.
+//! The context of the code that is checked (core section 3.1).
 
 ghost use Rattle.std.specs.Prelude.{◌≡◌, [], ◌∷◌, slice_get, OnOk};
 
@@ -6,7 +6,7 @@ use std::alloc::{AllocError, Global};
 use std::marker::Model;
 use wasm_spec::ValueType;
 
-/// What each label around takes, the innermost first.
+/// The result types of the enclosing labels. Contracts see them as a list, the innermost label first.
 #[derive(Drop)]
 pub struct Labels {
     results: Vec<Option<ValueType>>,
@@ -22,7 +22,7 @@ impl Model for Labels {
 }
 
 impl Labels {
-    /// No label is open.
+    /// Makes the labels of code outside all blocks.
     pub fn new(alloc: Global) -> Self
         ensures { result ≡ [] }
     {
@@ -31,7 +31,7 @@ impl Labels {
         }
     }
 
-    /// Opens a label whose branches carry such a result.
+    /// Enters a block whose label has this result type.
     pub fn push(&mut self, result_type: Option<ValueType>) -> Result<(), AllocError>
         ensures { OnOk result (self.new ≡ result_type ∷ self.old) }
     {
@@ -39,14 +39,14 @@ impl Labels {
         Ok(())
     }
 
-    /// Closes the innermost label.
+    /// Leaves the innermost block.
     pub fn pop(&mut self)
         ensures { (k : _) (ks : _) → self.old ≡ k ∷ ks → self.new ≡ ks }
     {
         self.results.pop();
     }
 
-    /// The label that is so many blocks away.
+    /// Returns the result type of a label, by its depth: 0 is the innermost label.
     pub fn at(&self, depth: usize) -> Option<Option<ValueType>>
         ensures { result ≡ slice_get self.now depth }
     {
@@ -58,7 +58,7 @@ impl Labels {
     }
 }
 
-/// The locals and the labels around, and what the function gives.
+/// The locals, the enclosing labels and the result type of the function whose body is checked.
 #[derive(Drop)]
 pub struct Scope {
     pub locals: Vec<ValueType>,

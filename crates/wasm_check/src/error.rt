@@ -1,11 +1,12 @@
-//! Why a module is not accepted.
+//! Errors of validation and linking.
 
 use std::alloc::{AllocError, AllocFailed};
 
-/// Why a module is not valid.
+/// Why `check` rejects a module.
 #[derive(Debug, PartialEq, Eq, Drop)]
 pub enum CheckErr {
-    /// It is ill typed: the least function that is, imports counted, or none where a rule outside bodies is broken.
+    /// The module is ill typed: `func` is the index of the first ill-typed function, imports included, or `None` if a
+    /// rule outside function bodies is broken.
     Ill { func: Option<u32> },
     /// Memory ran out.
     NoMemory,
@@ -22,13 +23,13 @@ impl From<AllocError> for CheckErr {
     }
 }
 
-/// The first import that the host does not have with its type.
+/// The index of the first import that the host interface does not have with its type.
 #[derive(Clone, Copy, Debug, PartialEq, Eq)]
 pub struct Unlinked {
     pub import: u32,
 }
 
-/// Why code is not accepted.
+/// Why validation of code fails.
 #[derive(Debug, PartialEq, Eq, Drop)]
 pub enum Fault {
     Ill,

@@ -1,10 +1,10 @@
-//! The host interface: the functions that a contract may import.
+//! The host interface: the functions that a contract can import.
 
-/// A function of the host: its module, its name, and how many values of 64 bits it takes. It gives one.
-pub type HostFunction = (&'static str, &'static str, usize);
+/// A host import: its module, its name, and the number of its `i64` parameters. Its result is one `i64`.
+pub type HostImport = (&'static str, &'static str, usize);
 
 /// The whole host interface.
-pub const HOST_FUNCTIONS: [HostFunction; 91] = [
+pub const HOST_FUNCTIONS: [HostImport; 91] = [
     // Context.
     ("x", "obj_cmp", 2),
     ("x", "contract_event", 2),

@@ -1,4 +1,4 @@
-//! Which WebAssembly modules are valid (core section 3), and which of them the host can link.
+//! Validation of WebAssembly modules (core section 3), and linking of valid modules with the host interface.
 #![tactic(auto)]
 
 mod code;
@@ -11,11 +11,9 @@ mod names;
 mod operands;
 mod outside;
 mod signature;
-#[cfg(test)]
-mod tests;
 
 pub use error::{CheckErr, Unlinked};
-pub use host::{HOST_FUNCTIONS, HostFunction};
+pub use host::{HOST_FUNCTIONS, HostImport};
 pub use linking::link;
 pub use module::{ValidModule, check};
 pub use names::same_name;

@@ -1,4 +1,4 @@
-//! Linking a module with the host.
+//! Linking of a module with the host interface.
 
 ghost use Rattle.std.specs.Prelude.{◌≡◌, ◌<◌, ◌^◌, length, OnOk, IfErr};
 ghost use Rattle.std.specs.List.{list_all, list_any};
@@ -7,14 +7,14 @@ ghost use Rattle.wasm_check.specs.Check.{same_type as same};
 ghost use Rattle.wasm_check.specs.Linking.{Linked, IsFirstUnlinked, one_i64, type_matches, matches, functions_of, host_functions, import_ok};
 
 use crate::error::Unlinked;
-use crate::host::{HOST_FUNCTIONS, HostFunction};
+use crate::host::{HOST_FUNCTIONS, HostImport};
 use crate::module::ValidModule;
 use crate::names::same_name;
 use crate::operands::same_type;
 use wasm_code::type_at;
 use wasm_spec::{FuncType, Import, Module, ValueType};
 
-/// Whether these are one type of 64 bits.
+/// Returns whether the types are a single `i64`.
 fn one_i64(types: &[ValueType]) -> bool
     ensures { result ≡ one_i64 types.now }
 {
@@ -24,7 +24,7 @@ fn one_i64(types: &[ValueType]) -> bool
     }
 }
 
-/// Whether these are all of 64 bits.
+/// Returns whether all types are `i64`.
 fn all_i64(types: &[ValueType]) -> bool
     ensures { result ≡ list_all (λ p. same p I64) types.now }
 {
@@ -33,7 +33,7 @@ fn all_i64(types: &[ValueType]) -> bool
         .all(|value_type| same_type(*value_type, ValueType::I64))
 }
 
-/// Whether a function takes so many values of 64 bits and gives one.
+/// Returns whether a function type is `arity` times `i64` to one `i64`.
 fn type_matches(arity: usize, func_type: &FuncType) -> bool
     ensures { result ≡ type_matches arity func_type.now }
 {
@@ -41,8 +41,8 @@ fn type_matches(arity: usize, func_type: &FuncType) -> bool
     params.len() == arity && all_i64(params) && one_i64(func_type.results.as_slice())
 }
 
-/// Whether an import of this type is this function of the host.
-fn matches(import: &Import, func_type: &FuncType, function: &HostFunction) -> bool
+/// Returns whether an import of this type is the host import.
+fn matches(import: &Import, func_type: &FuncType, function: &HostImport) -> bool
     ensures { result ≡ matches «import».now func_type.now (function.now.0.now, function.now.1.now, function.now.2) }
 {
     same_name(import.module.as_slice(), function.0.as_bytes())
@@ -50,16 +50,16 @@ fn matches(import: &Import, func_type: &FuncType, function: &HostFunction) -> bo
         && type_matches(function.2, func_type)
 }
 
-/// Whether an import of this type is one of these functions.
-fn host_has(host: &[HostFunction], import: &Import, func_type: &FuncType) -> bool
+/// Returns whether an import of this type is one of the host imports.
+fn host_has(host: &[HostImport], import: &Import, func_type: &FuncType) -> bool
     ensures { result ≡ list_any (λ f. matches «import».now func_type.now (f.0.now, f.1.now, f.2)) host.now }
 {
     host.iter()
         .any(|function| matches(import, func_type, function))
 }
 
-/// Whether an import is one of these functions.
-fn import_ok(host: &[HostFunction], module: &Module, import: &Import) -> bool
+/// Returns whether an import is one of the host imports, with its type.
+fn import_ok(host: &[HostImport], module: &Module, import: &Import) -> bool
     ensures { result ≡ import_ok (functions_of host.now) module.now «import».now }
 {
     match type_at(module, import.type_index) {
@@ -68,8 +68,8 @@ fn import_ok(host: &[HostFunction], module: &Module, import: &Import) -> bool
     }
 }
 
-/// Whether a host of these functions has each import with its type.
-fn link_with(host: &[HostFunction], module: &Module) -> Result<(), Unlinked>
+/// Checks that each import of a module is one of the host imports, with its type.
+fn link_with(host: &[HostImport], module: &Module) -> Result<(), Unlinked>
     requires { length module.now.imports < 2 ^ 32 }
     ensures linked { OnOk result (Linked (functions_of host.now) module.now) }
     ensures unlinked { IfErr result (λ e. IsFirstUnlinked (functions_of host.now) module.now e.import) }
@@ -84,9 +84,7 @@ fn link_with(host: &[HostFunction], module: &Module) -> Result<(), Unlinked>
     Ok(())
 }
 
-/// Whether the host has each import with its type: the first that it does not have, by its index.
-///
-/// Takes no memory.
+/// Checks that the host interface has each import of the module with its type. Allocates no memory.
 pub fn link(module: &ValidModule) -> Result<(), Unlinked>
     ensures linked { OnOk result (Linked host_functions module.now) }
     ensures unlinked { IfErr result (λ e. IsFirstUnlinked host_functions module.now e.import) }

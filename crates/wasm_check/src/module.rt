@@ -1,4 +1,4 @@
-//! Modules that were checked.
+//! Validation of modules.
 
 ghost use Rattle.std.specs.Prelude.{◌≡◌, ◌++◌, ◌+◌, ◌^◌, ◌<◌, ◌&&◌, nat_le, length, replicate, IfOk, IfErr, OnOk};
 ghost use Rattle.wasm_spec.specs.Binary.{locals_count};
@@ -20,10 +20,10 @@ use std::marker::Model;
 use wasm_code::{FlatCode, compile, type_at};
 use wasm_spec::{FuncType, Function, Locals, Module, ValueType};
 
-/// The most locals of a function, parameters counted.
+/// The largest number of locals of a function, parameters included.
 const MOST_LOCALS: u64 = 4096;
 
-/// A module that is valid, with its code in flat form. Only `check` makes one.
+/// A valid module with its code in flat form. Only `check` makes one.
 #[derive(Drop)]
 pub struct ValidModule {
     module: Module,
@@ -47,7 +47,7 @@ impl Model for ValidModule {
 }
 
 impl ValidModule {
-    /// The module, which is valid.
+    /// Returns the module.
     pub fn module(&self) -> &Module
         ensures module { result.now ≡ self.now }
         ensures valid { Typed self.now }
@@ -55,7 +55,7 @@ impl ValidModule {
         &self.module
     }
 
-    /// Its code in flat form.
+    /// Returns the code of its functions in flat form.
     pub fn code(&self) -> &FlatCode
         ensures { IsCompiled self.now result.now }
     {
@@ -63,7 +63,7 @@ impl ValidModule {
     }
 }
 
-/// Whether a function with so many parameters has few enough locals.
+/// Returns whether parameters and groups of locals are at most `MOST_LOCALS` locals.
 fn are_few(params: &[ValueType], groups: &[Locals]) -> bool
     ensures { result ≡ nat_le (length params.now + locals_count groups.now) MOST_LOCALS }
 {
@@ -80,7 +80,7 @@ fn are_few(params: &[ValueType], groups: &[Locals]) -> bool
     true
 }
 
-/// Adds so many locals of a type.
+/// Pushes the types of a group of locals.
 fn push_locals(types: &mut Vec<ValueType>, group: Locals) -> Result<(), AllocError>
     ensures { OnOk result (types.new.items ≡ types.old.items ++ replicate group.count group.value_type) }
 {
@@ -90,7 +90,7 @@ fn push_locals(types: &mut Vec<ValueType>, group: Locals) -> Result<(), AllocErr
     Ok(())
 }
 
-/// The types of parameters and locals.
+/// Returns the types of a function's parameters and locals, in this order.
 fn all_locals(
     alloc: Global,
     params: &[ValueType],
@@ -106,7 +106,7 @@ fn all_locals(
     Ok(types)
 }
 
-/// A function.
+/// Checks a function.
 fn check_function(alloc: Global, module: &Module, function: &Function) -> Result<(), Fault>
     ensures { Judges (FunctionTyped module.now function.now) result }
 {
@@ -118,7 +118,7 @@ fn check_function(alloc: Global, module: &Module, function: &Function) -> Result
     }
 }
 
-/// The body of a function of this type.
+/// Checks the body of a function of the type.
 fn check_function_body(
     alloc: Global,
     module: &Module,
@@ -148,7 +148,7 @@ fn check_function_body(
     )
 }
 
-/// The bodies of the functions, in their order.
+/// Checks the functions in order and reports the first that is ill typed.
 fn check_bodies(alloc: Global, module: &Module) -> Result<(), CheckErr>
     requires { length module.now.imports + length module.now.functions < 2 ^ 32 }
     ensures typed { OnOk result (AllByRecursion (FunctionTyped module.now) module.now.functions) }
@@ -168,7 +168,7 @@ fn check_bodies(alloc: Global, module: &Module) -> Result<(), CheckErr>
     Ok(())
 }
 
-/// Whether the rules outside bodies hold.
+/// Returns whether the rules outside function bodies hold.
 fn is_valid_outside(alloc: Global, module: &Module) -> Result<bool, AllocError>
     ensures holds { IfOk result (λ b. OnTrue b (OutsideValid module.now)) }
     ensures broken { IfOk result (λ b. OnFalse b (OutsideValid module.now → ⊥)) }
@@ -179,13 +179,11 @@ fn is_valid_outside(alloc: Global, module: &Module) -> Result<bool, AllocError>
     names_differ(alloc, module.exports.as_slice())
 }
 
-/// The module, if it is valid (core section 3).
-///
-/// `Ill` comes exactly where it is not.
+/// Validates a module (core section 3). Returns `Ill` exactly if the module is not valid.
 pub fn check(alloc: Global, module: Module) -> Result<ValidModule, CheckErr>
-    // What is accepted is the module, and it is valid.
+    // The result is the module that was passed, and it is valid.
     ensures valid { IfOk result (λ v. (v ≡ «module») × Typed v) }
-    // What is not accepted is ill, as the error says.
+    // A rejected module is ill typed where the error says.
     ensures ill { IfErr result (ReportsIll «module») }
 {
     if !is_valid_outside(alloc, &module)? {

@@ -1,4 +1,4 @@
-//! Names of exports, no two of which may be equal (core section 3.4.10).
+//! The rule that the names of exports differ (core section 3.4.10).
 
 ghost use Rattle.std.specs.Prelude.{◌≡◌, IfOk};
 ghost use Rattle.std.specs.Str.{bytes_eq};
@@ -8,14 +8,14 @@ use std::alloc::{AllocError, Global};
 use std::collections::BTreeSet;
 use wasm_spec::Export;
 
-/// Whether two names are equal.
+/// Returns whether two names are equal.
 pub fn same_name(left: &[u8], right: &[u8]) -> bool
     ensures { result ≡ bytes_eq left.now right.now }
 {
     left == right
 }
 
-/// Whether no two exports have one name. The time grows with n log n of their number.
+/// Returns whether no two exports have the same name, in O(n log n).
 pub fn names_differ(alloc: Global, exports: &[Export]) -> Result<bool, AllocError>
     ensures { IfOk result (λ b. b ≡ exports_differ exports.now) }
 {

@@ -1,6 +1,6 @@
-//! What is known of the operands while code is checked.
+//! The types of the operands while code is checked (core section 3.3).
 
-ghost use Rattle.std.specs.Prelude.{◌≡◌, [], ◌∷◌, Some, None, option_map};
+ghost use Rattle.std.specs.Prelude.{◌≡◌, ◌≢◌, [], ◌∷◌, Some, None, option_map, MatchBool};
 ghost use Rattle.wasm_spec.specs.Typing.{taken_types};
 ghost use Rattle.wasm_check.specs.Check.{Shape, nothing, anything, push, pop, pop_any, pops, pop_result, push_result, ends, is_empty, same_type as same, may_be, either, check_select, check_signature};
 ghost use Rattle.wasm_check.specs.Checks.{Checks};
@@ -11,7 +11,8 @@ use std::alloc::Global;
 use std::marker::Model;
 use wasm_spec::{Signature, Taken, ValueType};
 
-/// The types of the topmost operands, where they are known, and whether any others may be under them.
+/// The types of the topmost operands, as far as they are known. Behind a jump the stack is polymorphic: operands of
+/// any type may stand under them.
 #[derive(Drop)]
 pub struct Stack {
     known: Vec<Option<ValueType>>,
@@ -27,14 +28,14 @@ impl Model for Stack {
     ghost view = { λ o. record { known = reverse o.known.items; any = o.any } };
 }
 
-/// Whether two types are the same.
+/// Returns whether two value types are equal.
 pub fn same_type(left: ValueType, right: ValueType) -> bool
     ensures { result ≡ same left right }
 {
     left == right
 }
 
-/// Whether an operand may have this type.
+/// Returns whether an operand may have the type. An operand of unknown type may have any.
 fn may_be(known: Option<ValueType>, value_type: ValueType) -> bool
     ensures { result ≡ may_be known value_type }
 {
@@ -44,7 +45,7 @@ fn may_be(known: Option<ValueType>, value_type: ValueType) -> bool
     }
 }
 
-/// What is known of an operand that is one of two.
+/// Returns the type of an operand that is one of two, or `None` if the two have different types.
 fn either(first: Option<ValueType>, second: Option<ValueType>) -> Option<Option<ValueType>>
     ensures { result ≡ either first second }
 {
@@ -56,7 +57,7 @@ fn either(first: Option<ValueType>, second: Option<ValueType>) -> Option<Option<
 }
 
 impl Stack {
-    /// No operands.
+    /// Makes the stack at the start of a block, without operands.
     pub fn new(alloc: Global) -> Self
         ensures { result ≡ nothing }
     {
@@ -73,7 +74,7 @@ impl Stack {
         Ok(())
     }
 
-    /// An operand of any type, and what is known of it.
+    /// Pops an operand of any type and returns its type, if that is known. Returns `None` if there is no operand.
     pub fn pop_any(&mut self) -> Option<Option<ValueType>>
         ensures { Pops (pop_any self.old) result self.new }
     {
@@ -83,7 +84,14 @@ impl Stack {
         }
     }
 
-    /// Takes an operand of this type; `Ill` where the last one has another, or there is none.
+    /// Returns whether every pop succeeds: the stack is polymorphic, and no operand's type is known.
+    pub fn is_bottomless(&self) -> bool
+        ensures { MatchBool result (self.now ≡ anything) (self.now ≢ anything) }
+    {
+        self.any && self.known.is_empty()
+    }
+
+    /// Pops an operand of the type. Fails with `Ill` if the topmost operand has another type, or there is none.
     pub fn pop(&mut self, value_type: ValueType) -> Result<(), Fault>
         ensures { Checks (pop value_type self.old) result self.new }
     {
@@ -95,7 +103,7 @@ impl Stack {
         }
     }
 
-    /// After code that does not go on.
+    /// Makes the stack polymorphic, as it is behind an unconditional jump or a trap.
     pub fn forget(&mut self)
         ensures { self.new ≡ anything }
     {
@@ -103,7 +111,7 @@ impl Stack {
         self.any = true;
     }
 
-    /// Adds an operand of this type, if there is one.
+    /// Pushes an operand of the result type, if there is one.
     pub fn push_result(&mut self, result_type: Option<ValueType>) -> Result<(), Fault>
         ensures { Checks (Some (push_result result_type self.old)) result self.new }
     {
@@ -113,7 +121,7 @@ impl Stack {
         }
     }
 
-    /// Takes an operand of this type, if there is one.
+    /// Pops an operand of the result type, if there is one.
     pub fn pop_result(&mut self, result_type: Option<ValueType>) -> Result<(), Fault>
         ensures { Checks (pop_result result_type self.old) result self.new }
     {
@@ -123,7 +131,7 @@ impl Stack {
         }
     }
 
-    /// What `select` does.
+    /// Pops the operands of `select` and pushes its result.
     pub fn select(&mut self) -> Result<(), Fault>
         ensures { Checks (check_select self.old) result self.new }
     {
@@ -147,7 +155,7 @@ impl Stack {
         }
     }
 
-    /// What an instruction of this signature does.
+    /// Pops the operands that the signature takes and pushes its result.
     pub fn apply(&mut self, signature: Signature) -> Result<(), Fault>
         ensures { Checks (check_signature signature self.old) result self.new }
     {
@@ -155,7 +163,7 @@ impl Stack {
         self.push_result(signature.gives)
     }
 
-    /// A block's end: its result, and no more.
+    /// Checks the end of a block: the operands are its result and no others.
     pub fn end(&mut self, result_type: Option<ValueType>) -> Result<(), Fault>
         ensures { Checks (ends result_type self.old) result self.new }
     {

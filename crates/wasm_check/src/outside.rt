@@ -1,4 +1,4 @@
-//! The rules outside bodies (core sections 3.2, 3.3.7 and 3.4).
+//! The rules outside function bodies (core sections 3.2, 3.3.7 and 3.4).
 
 ghost use Rattle.std.specs.Prelude.{◌≡◌, ◌+◌, ◌&&◌, nat_lt, length, slice_get, [], ◌∷◌};
 ghost use Rattle.std.specs.List.{list_all};
@@ -9,17 +9,17 @@ ghost use Rattle.wasm_check.specs.Outside.{is_type, type_ok, max_ok, limits_ok, 
 
 use crate::operands::same_type;
 use wasm_spec::{
-    Body, Data, Element, Export, ExportKind, FuncType, Global, Instr, Limits, Module, Mutability,
-    Plain, TableType, ValueType,
+    Body, Data, Element, Export, ExportKind, FuncType, Global, Instr, Module, Mutability, Plain,
+    ResizableLimits, TableType, ValueType,
 };
 
-/// The most pages of a memory at the start.
+/// The largest initial size of a memory, in pages.
 const MOST_PAGES: u32 = 64;
 
-/// The most elements of a table at the start.
+/// The largest initial size of a table, in elements.
 const MOST_ELEMENTS: u32 = 65_536;
 
-/// The type of a global that is never set.
+/// Returns the type of a constant global, or `None` for a variable one.
 fn constant_global(global: &Global) -> Option<ValueType>
     ensures { result ≡ constant_global global.now }
 {
@@ -29,7 +29,7 @@ fn constant_global(global: &Global) -> Option<ValueType>
     }
 }
 
-/// The type of a constant, or of what such a global holds.
+/// Returns the type of a constant instruction, or `None` for any other instruction.
 fn constant_of(globals: &[Global], plain: Plain) -> Option<ValueType>
     ensures { result ≡ constant_of globals.now plain }
 {
@@ -41,7 +41,7 @@ fn constant_of(globals: &[Global], plain: Plain) -> Option<ValueType>
     }
 }
 
-/// The type of a constant expression.
+/// Returns the type of a constant expression, or `None` if the body is no constant expression.
 fn constant_type(globals: &[Global], body: &Body) -> Option<ValueType>
     ensures { result ≡ constant_type globals.now body.now }
 {
@@ -86,7 +86,7 @@ fn table_ok(table: &TableType) -> bool
     limits.min <= MOST_ELEMENTS && max_ok(limits.min, 1 << 32, limits.max)
 }
 
-fn memory_ok(limits: &Limits) -> bool
+fn memory_ok(limits: &ResizableLimits) -> bool
     ensures { result ≡ memory_ok limits.now }
 {
     limits.min <= MOST_PAGES && max_ok(limits.min, 1 << 16, limits.max)
@@ -98,7 +98,7 @@ fn global_ok(global: &Global) -> bool
     is_type(constant_type(&[], &global.init), global.value_type)
 }
 
-/// How many functions there are, imports counted.
+/// Returns the number of functions, imports included.
 fn function_count(module: &Module) -> usize
     ensures { result ≡ length module.now.imports + length module.now.functions }
 {
@@ -223,14 +223,14 @@ fn all_exports(module: &Module) -> bool
     exports.iter().all(|export| export_ok(module, export))
 }
 
-/// Types, and that each function has one.
+/// Returns whether all types are valid, and each import and function names one of them.
 fn types_ok(module: &Module) -> bool
     ensures { result ≡ types_ok module.now }
 {
     all_types(module) && all_imports(module) && all_functions(module)
 }
 
-/// Numbers and sizes.
+/// Returns whether the numbers and sizes of functions, tables and memories are allowed.
 fn sizes_ok(module: &Module) -> bool
     ensures { result ≡ sizes_ok module.now }
 {
@@ -241,14 +241,14 @@ fn sizes_ok(module: &Module) -> bool
         && all_memories(module)
 }
 
-/// First values, segments and exports, but for the exports' names.
+/// Returns whether initial values of globals, segments and indices of exports are valid.
 fn values_ok(module: &Module) -> bool
     ensures { result ≡ values_ok module.now }
 {
     all_globals(module) && all_elements(module) && all_data(module) && all_exports(module)
 }
 
-/// Whether the rules outside bodies hold, but for the exports' names.
+/// Returns whether all rules outside function bodies hold, except that names of exports differ.
 pub fn rules_hold(module: &Module) -> bool
     ensures { result ≡ rules_ok module.now }
 {

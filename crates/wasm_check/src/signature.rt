@@ -1,4 +1,4 @@
-//! What single instructions take and give (core sections 3.3.1 to 3.3.4).
+//! Signatures of single instructions (core sections 3.3.1 to 3.3.4).
 
 ghost use Rattle.std.specs.Prelude.{◌≡◌, slice_get};
 ghost use Rattle.wasm_spec.specs.Typing.{numeric_signature, load_exponent, store_exponent, set_signature, signature_of, when};
@@ -6,7 +6,9 @@ ghost use Rattle.wasm_check.specs.Contexts.{context_in};
 
 use crate::context::Scope;
 use wasm_code::{converted_from, converted_to, load_type, store_type};
-use wasm_spec::{Load, Module, Mutability, Numeric, Plain, Signature, Store, Taken, ValueType};
+use wasm_spec::{
+    LoadKind, Module, Mutability, Numeric, Plain, Signature, StoreKind, Taken, ValueType,
+};
 
 fn numeric_signature(numeric: Numeric) -> Signature
     ensures { result ≡ numeric_signature numeric }
@@ -35,37 +37,37 @@ fn numeric_signature(numeric: Numeric) -> Signature
     }
 }
 
-/// The exponent of a load's natural alignment.
-fn load_exponent(load: Load) -> u32
+/// Returns the exponent of a load's natural alignment.
+fn load_exponent(load: LoadKind) -> u32
     ensures { result ≡ load_exponent load }
 {
     match load {
-        Load::I32 => 2,
-        Load::I64 => 3,
-        Load::I32From8(_) => 0,
-        Load::I32From16(_) => 1,
-        Load::I64From8(_) => 0,
-        Load::I64From16(_) => 1,
-        Load::I64From32(_) => 2,
+        LoadKind::I32 => 2,
+        LoadKind::I64 => 3,
+        LoadKind::I32From8(_) => 0,
+        LoadKind::I32From16(_) => 1,
+        LoadKind::I64From8(_) => 0,
+        LoadKind::I64From16(_) => 1,
+        LoadKind::I64From32(_) => 2,
     }
 }
 
-/// The exponent of a store's natural alignment.
-fn store_exponent(store: Store) -> u32
+/// Returns the exponent of a store's natural alignment.
+fn store_exponent(store: StoreKind) -> u32
     ensures { result ≡ store_exponent store }
 {
     match store {
-        Store::I32 => 2,
-        Store::I64 => 3,
-        Store::I32To8 => 0,
-        Store::I32To16 => 1,
-        Store::I64To8 => 0,
-        Store::I64To16 => 1,
-        Store::I64To32 => 2,
+        StoreKind::I32 => 2,
+        StoreKind::I64 => 3,
+        StoreKind::I32To8 => 0,
+        StoreKind::I32To16 => 1,
+        StoreKind::I64To8 => 0,
+        StoreKind::I64To16 => 1,
+        StoreKind::I64To32 => 2,
     }
 }
 
-/// The signature, if the test holds.
+/// Returns the signature if the test holds.
 fn when(holds: bool, takes: Taken, gives: Option<ValueType>) -> Option<Signature>
     ensures { result ≡ when holds (record { takes = takes; gives = gives }) }
 {
@@ -76,7 +78,7 @@ fn when(holds: bool, takes: Taken, gives: Option<ValueType>) -> Option<Signature
     }
 }
 
-/// What `global.set` takes.
+/// Returns the signature of `global.set`, or `None` for a constant global.
 fn set_signature(mutability: Mutability, value_type: ValueType) -> Option<Signature>
     ensures { result ≡ set_signature mutability value_type }
 {
@@ -89,8 +91,8 @@ fn set_signature(mutability: Mutability, value_type: ValueType) -> Option<Signat
     }
 }
 
-/// What an instruction takes and gives, if its indices are there and its alignment is at most the natural one.
-/// `drop` and `select` have no type of their own.
+/// Returns the signature of an instruction, or `None` if an index is out of range, the memory is missing, or the
+/// alignment is above the natural one. `drop` and `select` take operands of any type and have no signature.
 pub fn signature_of(module: &Module, scope: &Scope, plain: Plain) -> Option<Signature>
     ensures { result ≡ signature_of (context_in module.now scope.now) plain }
 {

@@ -216,7 +216,7 @@ emitted_table p a b c ks k h h1 h' e put row =
 -- blocks
 
 -- a step and a label more
-record Begun (a c : Emitter) (s : Step) (place : ℕ) (r : BlockType) (h id : ℕ) : Type 0 where
+record Begun (a c : Emitter) (s : Step) (pc : ℕ) (r : BlockType) (h id : ℕ) : Type 0 where
   labels : c.labels ≡ (record { target = id; result = r; height = h }) ∷ a.labels
   home : c.home ≡ a.home
   is_next : id ≡ length a.targets.items
@@ -225,11 +225,11 @@ record Begun (a c : Emitter) (s : Step) (place : ℕ) (r : BlockType) (h id : �
   steps : Keeps 0 a.steps.items c.steps.items
   targets : Keeps 0 a.targets.items c.targets.items
   step : slice_get c.steps.items (length a.steps.items) ≡ Some s
-  target : slice_get c.targets.items id ≡ Some (record { place = place; result = r })
+  target : slice_get c.targets.items id ≡ Some (record { pc = pc; result = r })
 
-begun : (a b c : Emitter) (s : Step) (place h id : ℕ) (r : BlockType) → Puts a b s → Opens b c place r h id → Begun a c s place r h id
-begun a b c s place h id r put op =
-    let t : Target = record { place = place; result = r } in
+begun : (a b c : Emitter) (s : Step) (pc h id : ℕ) (r : BlockType) → Puts a b s → Opens b c pc r h id → Begun a c s pc r h id
+begun a b c s pc h id r put op =
+    let t : Target = record { pc = pc; result = r } in
     record {
       labels = op.labels ∙ ap (λ l. (record { target = id; result = r; height = h }) ∷ l) put.labels;
       home = op.home ∙ put.home;
@@ -243,9 +243,9 @@ begun a b c s place h id r put op =
     }
 
 -- the labels inside a block
-labels_inside : (a c : Emitter) (s : Step) (place h id m : ℕ) (r : BlockType) (targets : List Target) (ls : List Label) → Begun a c s place r h id → AreLabels targets a.labels ls → slice_get targets id ≡ Some (record { place = m; result = r }) → AreLabels targets c.labels ((record { place = m; result = r; height = h }) ∷ ls)
-labels_inside a c s place h id m r targets ls b al t =
-    subst (λ os. AreLabels targets os ((record { place = m; result = r; height = h }) ∷ ls)) (sym b.labels) (record { at = t; result_ = refl; height = refl }, al)
+labels_inside : (a c : Emitter) (s : Step) (pc h id m : ℕ) (r : BlockType) (targets : List Target) (ls : List Label) → Begun a c s pc r h id → AreLabels targets a.labels ls → slice_get targets id ≡ Some (record { pc = m; result = r }) → AreLabels targets c.labels ((record { pc = m; result = r; height = h }) ∷ ls)
+labels_inside a c s pc h id m r targets ls b al t =
+    subst (λ os. AreLabels targets os ((record { pc = m; result = r; height = h }) ∷ ls)) (sym b.labels) (record { at = t; result_ = refl; height = refl }, al)
 
 home_inside : (a c : Emitter) (targets : List Target) (l : Label) → c.home ≡ a.home → IsLabel targets a.home l → IsLabel targets c.home l
 home_inside a c targets l e h = subst (λ o. IsLabel targets o l) (sym e) h
@@ -255,7 +255,7 @@ emitted_block p a b c d e r body h h' id put op all close eh =
     let g = begun a b c step.Pass 0 h id r put op in
     let ends = ap length close.steps in
     let within : id < length d.targets.items = omega (arith, all.adds.more, g.is_next, g.more) in
-    let keep_targets = (λ (i : ℕ) (x : Target) (ne : i ≢ id) (q : slice_get d.targets.items i ≡ Some x). ap (λ l. slice_get l i) close.targets ∙ get-set_other d.targets.items i id (record { place = length d.steps.items; result = r }) ne ∙ q) in
+    let keep_targets = (λ (i : ℕ) (x : Target) (ne : i ≢ id) (q : slice_get d.targets.items i ≡ Some x). ap (λ l. slice_get l i) close.targets ∙ get-set_other d.targets.items i id (record { pc = length d.steps.items; result = r }) ne ∙ q) in
     let base_targets : Keeps 0 a.targets.items d.targets.items = keeps_on 0 a.targets.items c.targets.items d.targets.items g.targets all.adds.targets in
     let base_steps : Keeps 0 c.steps.items e.steps.items = keeps_on 0 c.steps.items d.steps.items e.steps.items all.adds.steps (keeps-same d.steps.items e.steps.items close.steps) in
     record {
@@ -265,20 +265,20 @@ emitted_block p a b c d e r body h h' id put op all close eh =
         steps = keeps_on 0 a.steps.items c.steps.items e.steps.items g.steps base_steps;
         targets = λ i x l q. keep_targets i x (λ z. absurd (omega (arith, slice_get_within a.targets.items i x q, g.is_next))) (base_targets i x l q);
         longer = omega (arith, ends, all.adds.longer, g.longer);
-        more = omega (arith, ap length close.targets ∙ length-set d.targets.items id (record { place = length d.steps.items; result = r }), all.adds.more, g.more);
+        more = omega (arith, ap length close.targets ∙ length-set d.targets.items id (record { pc = length d.steps.items; result = r }), all.adds.more, g.more);
       };
       placed = λ flat home ls rest q ks kt al hl pl.
           let m = length d.steps.items in
-          let target : slice_get flat.targets id ≡ Some (record { place = m; result = r }) =
+          let target : slice_get flat.targets id ≡ Some (record { pc = m; result = r }) =
           kt id _ (omega (arith, g.is_next)) (ap (λ t. slice_get t id) close.targets ∙ get-set_same d.targets.items id _ within) in
           let here : slice_get flat.steps (length a.steps.items) ≡ Some step.Pass = ks (length a.steps.items) step.Pass (omega arith) (base_steps (length a.steps.items) step.Pass (omega arith) g.step) in
-          let inner = all.placed flat home ((record { place = m; result = r; height = h }) ∷ ls)
+          let inner = all.placed flat home ((record { pc = m; result = r; height = h }) ∷ ls)
           (λ i x n q. ks i x (omega (arith, n, g.longer)) (ap (λ t. slice_get t i) close.steps ∙ q))
           (λ i x n q. kt i x (omega (arith, n, g.more)) (keep_targets i x (λ z. absurd (omega (arith, n, g.more, g.is_next))) q))
           (labels_inside a c step.Pass 0 h id m r flat.targets ls g al target) (home_inside a c flat.targets home g.home hl) in (
             m,
             here,
-            subst (λ x. Placed p flat home x body m ((record { place = m; result = r; height = h }) ∷ ls) h) g.longer inner,
+            subst (λ x. Placed p flat home x body m ((record { pc = m; result = r; height = h }) ∷ ls) h) g.longer inner,
             subst (λ x. Placed p flat home m rest q ls x) eh (subst (λ x. Placed p flat home x rest q ls h') ends pl),
           );
     }
@@ -301,16 +301,16 @@ emitted_loop p a b c d e r body start h h' id put at op all forget eh =
       };
       placed = λ flat home ls rest q ks kt al hl pl.
           let m = length d.steps.items in
-          let target : slice_get flat.targets id ≡ Some (record { place = length a.steps.items + 1; result = None }) =
-          kt id _ (omega (arith, g.is_next)) (base_targets id _ (omega arith) (g.target ∙ ap (λ x. Some (record { place = x; result = None })) begins)) in
+          let target : slice_get flat.targets id ≡ Some (record { pc = length a.steps.items + 1; result = None }) =
+          kt id _ (omega (arith, g.is_next)) (base_targets id _ (omega arith) (g.target ∙ ap (λ x. Some (record { pc = x; result = None })) begins)) in
           let here : slice_get flat.steps (length a.steps.items) ≡ Some step.Pass = ks (length a.steps.items) step.Pass (omega arith) (base_steps (length a.steps.items) step.Pass (omega arith) g.step) in
-          let inner = all.placed flat home ((record { place = length a.steps.items + 1; result = None; height = h }) ∷ ls)
+          let inner = all.placed flat home ((record { pc = length a.steps.items + 1; result = None; height = h }) ∷ ls)
           (λ i x n q. ks i x (omega (arith, n, g.longer)) (ap (λ t. slice_get t i) forget.steps ∙ q))
           (λ i x n q. kt i x (omega (arith, n, g.more)) (ap (λ t. slice_get t i) forget.targets ∙ q))
           (labels_inside a c step.Pass start h id (length a.steps.items + 1) None flat.targets ls g al target) (home_inside a c flat.targets home g.home hl) in (
             m,
             here,
-            subst (λ x. Placed p flat home x body m ((record { place = length a.steps.items + 1; result = None; height = h }) ∷ ls) h) g.longer inner,
+            subst (λ x. Placed p flat home x body m ((record { pc = length a.steps.items + 1; result = None; height = h }) ∷ ls) h) g.longer inner,
             subst (λ x. Placed p flat home m rest q ls x) eh (subst (λ x. Placed p flat home x rest q ls h') ends pl),
           );
     }
@@ -337,7 +337,7 @@ emitted_if p a b c d e f g k r ys ns test skip h h1 h' id eh1 at_test put op yes
     keeps_on 0 d.targets.items e.targets.items g.targets.items ea.targets (keeps_on 0 e.targets.items f.targets.items g.targets.items no_all.adds.targets (keeps-same f.targets.items g.targets.items patch.targets)) in
     let targets_length : length g.targets.items ≡ length f.targets.items = ap length patch.targets in
     let within : id < length g.targets.items = omega (arith, yes_all.adds.more, no_all.adds.more, ea.more, targets_length, bg.is_next, bg.more) in
-    let t : Target = record { place = length g.steps.items; result = r } in
+    let t : Target = record { pc = length g.steps.items; result = r } in
     let g_steps : length g.steps.items ≡ m = sym (ap length close.steps) ∙ length_k in
     let keep_targets = (λ (i : ℕ) (x : Target) (ne : i ≢ id) (q : slice_get g.targets.items i ≡ Some x). ap (λ l. slice_get l i) close.targets ∙ get-set_other g.targets.items i id t ne ∙ q) in
     let labels_e : e.labels ≡ c.labels = ea.labels ∙ yes_all.adds.labels in
@@ -356,9 +356,9 @@ emitted_if p a b c d e f g k r ys ns test skip h h1 h' id eh1 at_test put op yes
         more = omega (arith, ap length close.targets ∙ length-set g.targets.items id t, targets_length, yes_all.adds.more, no_all.adds.more, ea.more, bg.more);
       };
       placed = λ flat home ls rest q ks kt al hl pl.
-          let l : Label = record { place = m; result = r; height = h1 } in
-          let target : slice_get flat.targets id ≡ Some (record { place = m; result = r }) =
-          kt id _ (omega (arith, bg.is_next)) (ap (λ x. slice_get x id) close.targets ∙ get-set_same g.targets.items id t within ∙ ap (λ n. Some (record { place = n; result = r })) g_steps) in
+          let l : Label = record { pc = m; result = r; height = h1 } in
+          let target : slice_get flat.targets id ≡ Some (record { pc = m; result = r }) =
+          kt id _ (omega (arith, bg.is_next)) (ap (λ x. slice_get x id) close.targets ∙ get-set_same g.targets.items id t within ∙ ap (λ n. Some (record { pc = n; result = r })) g_steps) in
           let inside = labels_inside a c (step.Unless 0) 0 h1 id m r flat.targets ls bg al target in
           let yes_placed = yes_all.placed flat home (l ∷ ls)
           (λ i x n z. let w = slice_get_within d.steps.items i x z in
@@ -371,7 +371,7 @@ emitted_if p a b c d e f g k r ys ns test skip h h1 h' id eh1 at_test put op yes
           (λ i x n z. kt i x (omega (arith, n, ea.more, yes_all.adds.more, bg.more)) (keep_targets i x (λ y. absurd (omega (arith, y, n, ea.more, yes_all.adds.more, bg.more, bg.is_next))) (keeps-same f.targets.items g.targets.items patch.targets i x (omega arith) z)))
           (subst (λ os. AreLabels flat.targets os (l ∷ ls)) (sym labels_e) inside) (home_inside a e flat.targets home home_e hl) in
           let low = (λ (x : ℕ) (body : Code) (y : ℕ) (w : Placed p flat home x body y (l ∷ ls) h1).
-          subst (λ n. Placed p flat home x body y ((record { place = m; result = r; height = n }) ∷ ls) n) eh1 w) in
+          subst (λ n. Placed p flat home x body y ((record { pc = m; result = r; height = n }) ∷ ls) n) eh1 w) in
           let test_here : slice_get flat.steps (length a.steps.items) ≡ Some (step.Unless (skip + 1)) = ks (length a.steps.items) _ (omega arith) (ap (λ n. slice_get k.steps.items n) (sym at_test) ∙ test_step) in (
             skip,
             m,
@@ -441,13 +441,13 @@ pub function_emitted : (p : Module) (a b d e f : Emitter) (func : Function) (t :
     → EmittedAll p (record b { home = record { target = id; result = result_of t; height = 0 } }) d 0 func.body → Closes d e id (result_of t) → Puts e f step.End → entry ≡ length a.steps.items → FunctionEmitted p a f func entry
 function_emitted p a b d e f func t entry id none known op all close put is_place =
     let r = result_of t in
-    let first : Target = record { place = 0; result = r } in
+    let first : Target = record { pc = 0; result = r } in
     let ends = ap length close.steps in
     let more_b = ap length op.targets ∙ length-append a.targets.items (first ∷ []) in
     let steps_b = ap length op.steps in
     let within : id < length d.targets.items = omega (arith, all.adds.more, op.is_next, more_b) in
     let keep_targets = (λ (i : ℕ) (x : Target) (ne : i ≢ id) (q : slice_get d.targets.items i ≡ Some x).
-    ap (λ l. slice_get l i) (put.targets ∙ close.targets) ∙ get-set_other d.targets.items i id (record { place = length d.steps.items; result = r }) ne ∙ q) in
+    ap (λ l. slice_get l i) (put.targets ∙ close.targets) ∙ get-set_other d.targets.items i id (record { pc = length d.steps.items; result = r }) ne ∙ q) in
     let steps_f : f.steps.items ≡ d.steps.items ++ step.End ∷ [] = put.steps ∙ ap (λ l. l ++ step.End ∷ []) close.steps in
     let base_targets : Keeps 0 a.targets.items d.targets.items = keeps_on 0 a.targets.items b.targets.items d.targets.items (keeps-append a.targets.items (first ∷ []) b.targets.items op.targets) all.adds.targets in
     let base_steps : Keeps 0 a.steps.items d.steps.items = keeps_on 0 a.steps.items b.steps.items d.steps.items (keeps-same a.steps.items b.steps.items op.steps) all.adds.steps in
@@ -458,7 +458,7 @@ function_emitted p a b d e f func t entry id none known op all close put is_plac
       placed = λ flat ks kt.
           let m = length d.steps.items in
           let home = home_of m t in
-          let target : slice_get flat.targets id ≡ Some (record { place = m; result = r }) =
+          let target : slice_get flat.targets id ≡ Some (record { pc = m; result = r }) =
           kt id _ (omega (arith, op.is_next)) (ap (λ x. slice_get x id) (put.targets ∙ close.targets) ∙ get-set_same d.targets.items id _ within) in
           let is_home : IsLabel flat.targets (record { target = id; result = r; height = 0 }) home = record { at = target; result_ = refl; height = refl } in
           let labels : b.labels ≡ (record { target = id; result = r; height = 0 }) ∷ [] = op.labels ∙ ap (λ l. (record { target = id; result = r; height = 0 }) ∷ l) none in

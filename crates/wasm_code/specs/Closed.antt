@@ -1,4 +1,4 @@
--- Code that names only labels, functions and types that are there (own).
+-- Code that names only existing labels, which typing implies: what the compiler's functions require.
 use Rattle.std.specs.Prelude.{◌≡◌, ℕ, suc, ◌<◌, Some, slice_get}
 use Rattle.std.specs.List.{AllByRecursion}
 use Rattle.wasm_spec.specs.declared.types.FuncType.{FuncType}
@@ -8,7 +8,7 @@ use Rattle.wasm_spec.specs.declared.module.Function.{Function}
 use Rattle.wasm_spec.specs.declared.module.Module.{Module}
 use Rattle.wasm_spec.specs.Code.{Code, end, plain, control, block, loop, choose}
 
--- within n labels
+-- inside n labels
 abbrev pub ControlClosed : Module → ℕ → Control → Type 0
 ControlClosed m n jump.Unreachable = Unit {0}
 ControlClosed m n (jump.Br k) = k < n

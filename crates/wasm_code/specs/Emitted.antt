@@ -1,4 +1,4 @@
--- What was compiled, whatever comes after it (own).
+-- What the compiler's functions emit, for every code that may follow. Their contracts cite this page.
 use Rattle.std.specs.Prelude.{◌≡◌, ℕ, ◌+◌, ◌*◌, ◌<◌, ◌≤◌, List, [], ◌∷◌, ◌++◌, length, Some, Bool, true, false, slice_get, slice_set}
 use Rattle.wasm_spec.specs.declared.module.Function.{Function}
 use Rattle.wasm_spec.specs.declared.module.Module.{Module}
@@ -11,13 +11,13 @@ use Rattle.wasm_code.specs.declared.labels.Open.{Open}
 use Rattle.wasm_code.specs.declared.emit.Emitter.{Emitter}
 use Rattle.wasm_code.specs.Placed.{Label, Placed, RowAt, IsFunctionAt}
 
--- what is in xs from n on is in ys too
+-- ys has the items that xs has from n on
 abbrev pub Keeps : {A : Type 0} → ℕ → List A → List A → Type 0
 Keeps {A} n xs ys = (i : ℕ) (x : A) → n ≤ i → slice_get xs i ≡ Some x → slice_get ys i ≡ Some x
 
--- a label of the compiler is this label
+-- a label of the compiler equals this label
 pub record IsLabel (targets : List Target) (o : Open) (l : Label) : Type 0 where
-  pub at : slice_get targets o.target ≡ Some (record { place = l.place; result = l.result })
+  pub at : slice_get targets o.target ≡ Some (record { pc = l.pc; result = l.result })
   pub result_ : o.result ≡ l.result
   pub height : o.height ≡ l.height
 
@@ -27,7 +27,7 @@ AreLabels targets [] (l ∷ ls) = ⊥
 AreLabels targets (o ∷ os) [] = ⊥
 AreLabels targets (o ∷ os) (l ∷ ls) = IsLabel targets o l × AreLabels targets os ls
 
--- one step more
+-- one more step
 pub record Puts (old new : Emitter) (s : Step) : Type 0 where
   pub steps : new.steps.items ≡ old.steps.items ++ s ∷ []
   pub targets : new.targets.items ≡ old.targets.items
@@ -38,36 +38,36 @@ abbrev pub jump_step : Bool → ℕ → ℕ → Step
 jump_step true id n = step.JumpIf id n
 jump_step false id n = step.Jump id n
 
--- a label more
-pub record Opens (old new : Emitter) (place : ℕ) (r : BlockType) (height id : ℕ) : Type 0 where
+-- one more label
+pub record Opens (old new : Emitter) (pc : ℕ) (r : BlockType) (height id : ℕ) : Type 0 where
   pub is_next : id ≡ length old.targets.items
   pub steps : new.steps.items ≡ old.steps.items
-  pub targets : new.targets.items ≡ old.targets.items ++ (record { place = place; result = r }) ∷ []
+  pub targets : new.targets.items ≡ old.targets.items ++ (record { pc = pc; result = r }) ∷ []
   pub labels : new.labels ≡ (record { target = id; result = r; height = height }) ∷ old.labels
   pub home : new.home ≡ old.home
 
--- a label less, whose target is here
+-- one label less, whose target is the next step
 pub record Closes (old new : Emitter) (id : ℕ) (r : BlockType) : Type 0 where
   pub steps : new.steps.items ≡ old.steps.items
-  pub targets : new.targets.items ≡ slice_set old.targets.items id (record { place = length old.steps.items; result = r })
+  pub targets : new.targets.items ≡ slice_set old.targets.items id (record { pc = length old.steps.items; result = r })
   pub labels : (o : Open) (os : List Open) → old.labels ≡ o ∷ os → new.labels ≡ os
   pub home : new.home ≡ old.home
 
--- a label less
+-- one label less
 pub record Forgets (old new : Emitter) : Type 0 where
   pub steps : new.steps.items ≡ old.steps.items
   pub targets : new.targets.items ≡ old.targets.items
   pub labels : (o : Open) (os : List Open) → old.labels ≡ o ∷ os → new.labels ≡ os
   pub home : new.home ≡ old.home
 
--- the places of a choice
+-- the destinations of an if
 pub record Patches (old new : Emitter) (test skip : ℕ) : Type 0 where
   pub steps : new.steps.items ≡ slice_set (slice_set old.steps.items test (step.Unless (skip + 1))) skip (step.Skip (length old.steps.items))
   pub targets : new.targets.items ≡ old.targets.items
   pub labels : new.labels ≡ old.labels
   pub home : new.home ≡ old.home
 
--- what stays while code is added
+-- what stays unchanged while code is added
 pub record Adds (old new : Emitter) : Type 0 where
   pub labels : new.labels ≡ old.labels
   pub home : new.home ≡ old.home
@@ -76,7 +76,7 @@ pub record Adds (old new : Emitter) : Type 0 where
   pub longer : length old.steps.items ≤ length new.steps.items
   pub more : length old.targets.items ≤ length new.targets.items
 
--- The instruction was added: whatever code stands behind it, the two of them stand where the instruction begins.
+-- The instruction was added: for every code placed after it, both are placed at the step where the instruction starts.
 pub record Emitted (m : Module) (old new : Emitter) (h h' : ℕ) (put : Code → Code) : Type 0 where
   pub adds : Adds old new
   pub placed : (flat : Flat) (home : Label) (ls : List Label) (rest : Code) (q : ℕ)
@@ -84,7 +84,7 @@ pub record Emitted (m : Module) (old new : Emitter) (h h' : ℕ) (put : Code →
       → AreLabels flat.targets old.labels ls → IsLabel flat.targets old.home home
       → Placed m flat home (length new.steps.items) rest q ls h' → Placed m flat home (length old.steps.items) (put rest) q ls h
 
--- the same of code up to its end
+-- the same for a whole code
 pub record EmittedAll (m : Module) (old new : Emitter) (h : ℕ) (c : Code) : Type 0 where
   pub adds : Adds old new
   pub placed : (flat : Flat) (home : Label) (ls : List Label)
@@ -92,28 +92,28 @@ pub record EmittedAll (m : Module) (old new : Emitter) (h : ℕ) (c : Code) : Ty
       → AreLabels flat.targets old.labels ls → IsLabel flat.targets old.home home
       → Placed m flat home (length old.steps.items) c (length new.steps.items) ls h
 
--- the same of the jumps of a table
+-- the same for the jumps of a table
 pub record RowEmitted (old new : Emitter) (h : ℕ) (ks : List ℕ) (other : ℕ) : Type 0 where
   pub adds : Adds old new
   pub placed : (flat : Flat) (ls : List Label)
       → Keeps (length old.steps.items) new.steps.items flat.steps → AreLabels flat.targets old.labels ls
       → RowAt flat (length old.steps.items) h ls ks other
 
--- the same of the first jumps of a table, whatever jumps stand behind them
+-- the same for the first jumps of a table, for every row of jumps after them
 pub record RowBegun (old new : Emitter) (h : ℕ) (ks : List ℕ) : Type 0 where
   pub adds : Adds old new
   pub placed : (flat : Flat) (ls : List Label) (more : List ℕ) (other : ℕ)
       → Keeps (length old.steps.items) new.steps.items flat.steps → AreLabels flat.targets old.labels ls
       → RowAt flat (length new.steps.items) h ls more other → RowAt flat (length old.steps.items) h ls (ks ++ more) other
 
--- The function was added: it stands at its entry, whatever comes after it.
+-- The function was added: it is placed at its entry, for every code that follows.
 pub record FunctionEmitted (m : Module) (old new : Emitter) (f : Function) (entry : ℕ) : Type 0 where
   pub labels : new.labels ≡ old.labels
   pub steps : Keeps 0 old.steps.items new.steps.items
   pub targets : Keeps 0 old.targets.items new.targets.items
   pub placed : (flat : Flat) → Keeps (length old.steps.items) new.steps.items flat.steps → Keeps (length old.targets.items) new.targets.items flat.targets → IsFunctionAt m flat f entry
 
--- the calls of n imports stand first, each with an end
+-- the calls of n imports come first, each followed by an End
 abbrev pub ImportsAt : ℕ → List Step → Type 0
 ImportsAt n steps = (length steps ≡ 2 * n) × ((f : ℕ) → f < n → (slice_get steps (2 * f) ≡ Some (step.Import f)) × (slice_get steps (2 * f + 1) ≡ Some step.End))
 

@@ -1,4 +1,4 @@
-//! From trees to flat code.
+//! The compiler from a module's instruction trees to flat code.
 
 ghost use Rattle.std.specs.Prelude.{◌≡◌, ◌<◌, ◌≤◌, ◌+◌, ◌-◌, ◌^◌, [], length, Some, Bool, IfOk, OnOk, option_copied};
 ghost use Rattle.std.specs.List.{AllByRecursion};
@@ -15,7 +15,7 @@ use crate::types::{function_type, type_at};
 use std::alloc::{AllocError, Global};
 use wasm_spec::{Control, FuncType, Function, Instr, Items, Module, Numeric, Plain, ValueType};
 
-/// The code so far.
+/// The code emitted so far, the labels in scope, and the label of the current function's own block.
 #[derive(Drop)]
 pub struct Emitter {
     pub steps: Vec<Step>,
@@ -24,14 +24,14 @@ pub struct Emitter {
     pub home: Open,
 }
 
-/// What a function of this type gives.
+/// Returns the result type of a function of this type.
 fn result_of(function_type: &FuncType) -> Option<ValueType>
     ensures { result ≡ result_of function_type.now }
 {
     function_type.results.as_slice().first().copied()
 }
 
-/// How many values a result is.
+/// Returns the number of values in a result: 0 or 1.
 fn arity(carried: Option<ValueType>) -> usize
     ensures value { result ≡ arity carried }
     ensures bound { result ≤ 1 }
@@ -42,7 +42,7 @@ fn arity(carried: Option<ValueType>) -> usize
     }
 }
 
-/// How many operands the instruction takes.
+/// Returns the number of operands that an instruction pops.
 fn taken(plain: Plain) -> usize
     ensures { result ≡ (counts_of plain).takes }
 {
@@ -66,7 +66,7 @@ fn taken(plain: Plain) -> usize
     }
 }
 
-/// How many operands the instruction gives.
+/// Returns the number of operands that an instruction pushes.
 fn given(plain: Plain) -> usize
     ensures value { result ≡ (counts_of plain).gives }
     ensures bound { result ≤ 1 }
@@ -87,7 +87,7 @@ fn given(plain: Plain) -> usize
     }
 }
 
-/// One more step.
+/// Appends a step.
 fn put(out: &mut Emitter, step: Step) -> Result<(), AllocError>
     ensures { OnOk result (Puts out.old out.new step) }
 {
@@ -95,7 +95,7 @@ fn put(out: &mut Emitter, step: Step) -> Result<(), AllocError>
     Ok(())
 }
 
-/// So many operands more. There are never more of them than steps.
+/// Returns the height of the operands after `more` are pushed. It cannot overflow, since there are never more operands than steps.
 fn higher(out: &Emitter, height: usize, more: usize) -> usize
     requires height { height < length out.now.steps.items }
     requires more { more ≤ 1 }
@@ -105,7 +105,7 @@ fn higher(out: &Emitter, height: usize, more: usize) -> usize
     height + more
 }
 
-/// A branch to a label, from so many operands.
+/// Appends a branch to a label, at a step with `height` operands.
 fn jump(out: &mut Emitter, label: Open, height: usize, conditional: bool) -> Result<(), AllocError>
     ensures { OnOk result (Puts out.old out.new (jump_step conditional label.target (height - label.height - arity label.result))) }
 {
@@ -119,18 +119,18 @@ fn jump(out: &mut Emitter, label: Open, height: usize, conditional: bool) -> Res
     }
 }
 
-/// A new label, whose target is at this place for now.
+/// Opens a label whose target is `pc` until the label is closed. Returns the index of the target.
 fn open_label(
     out: &mut Emitter,
-    place: usize,
+    pc: usize,
     carried: Option<ValueType>,
     height: usize,
 ) -> Result<usize, AllocError>
-    ensures { IfOk result (λ target. Opens out.old out.new place carried height target) }
+    ensures { IfOk result (λ target. Opens out.old out.new pc carried height target) }
 {
     let target = out.targets.len();
     out.targets.push(Target {
-        place,
+        pc,
         result: carried,
     })?;
     out.labels.push(Open {
@@ -141,26 +141,26 @@ fn open_label(
     Ok(target)
 }
 
-/// The end of the innermost label's block, to which branches to it lead.
+/// Closes the innermost label and sets its target to the next step.
 fn close_label(out: &mut Emitter, target: usize, carried: Option<ValueType>)
     requires { target < length out.old.targets.items }
     ensures { Closes out.old out.new target carried }
 {
     out.targets[target] = Target {
-        place: out.steps.len(),
+        pc: out.steps.len(),
         result: carried,
     };
     out.labels.pop();
 }
 
-/// The end of a loop, to whose beginning branches lead.
+/// Closes the label of a loop. Its target stays the start of the loop.
 fn forget_label(out: &mut Emitter)
     ensures { Forgets out.old out.new }
 {
     out.labels.pop();
 }
 
-/// Where the halves of a choice begin and end.
+/// Sets where the test of an `if` and the end of its first branch lead.
 fn patch(out: &mut Emitter, test: usize, skip: usize)
     requires test { test < length out.old.steps.items }
     requires skip { skip < length out.old.steps.items }
@@ -171,7 +171,7 @@ fn patch(out: &mut Emitter, test: usize, skip: usize)
     out.steps[skip] = Step::Skip(end);
 }
 
-/// The jumps of a table, to these labels and to one more.
+/// Appends the jumps of a `br_table`: one to each of `depths`, and one to `other`.
 fn emit_row(out: &mut Emitter, depths: &[u32], other: u32, height: usize) -> Result<(), AllocError>
     requires depths { AllByRecursion (λ k. k < length out.old.labels) depths.now }
     requires other { other < length out.old.labels }
@@ -185,7 +185,7 @@ fn emit_row(out: &mut Emitter, depths: &[u32], other: u32, height: usize) -> Res
     jump(out, label, height, false)
 }
 
-/// A control instruction without instructions inside.
+/// Appends a control instruction with no instructions inside. Returns the number of operands after it.
 fn emit_control(
     out: &mut Emitter,
     module: &Module,
@@ -236,7 +236,7 @@ fn emit_control(
     }
 }
 
-/// How many operands there are after the call of a function of this type.
+/// Returns the number of operands after the call of a function of this type.
 fn after_call(out: &Emitter, called: Option<&FuncType>, height: usize) -> usize
     requires { height < length out.now.steps.items }
     ensures value { result ≡ height_after_call (option_copied called.entry) height }
@@ -251,7 +251,7 @@ fn after_call(out: &Emitter, called: Option<&FuncType>, height: usize) -> usize
     }
 }
 
-/// An instruction.
+/// Appends an instruction. Returns the number of operands after it.
 #[cycle(emit)]
 fn emit_one(
     out: &mut Emitter,
@@ -302,7 +302,7 @@ fn emit_one(
     }
 }
 
-/// Instructions one after another.
+/// Appends a sequence of instructions.
 #[cycle(emit)]
 fn emit_all(
     out: &mut Emitter,
@@ -321,7 +321,7 @@ fn emit_all(
     Ok(())
 }
 
-/// A function, up to its end. Gives the place where it begins.
+/// Appends a function and its `End`. Returns the index of its first step.
 fn emit_function(
     out: &mut Emitter,
     module: &Module,
@@ -335,7 +335,7 @@ fn emit_function(
         unreachable!()
     };
     let carried = result_of(function_type);
-    let place = out.steps.len();
+    let pc = out.steps.len();
     let target = open_label(out, 0, carried, 0)?;
     out.home = Open {
         target,
@@ -345,10 +345,10 @@ fn emit_function(
     emit_all(out, module, function.body.as_slice(), 0)?;
     close_label(out, target, carried);
     put(out, Step::End)?;
-    Ok(place)
+    Ok(pc)
 }
 
-/// The calls of the imports, before all functions.
+/// Appends two steps for each import, before the code of all functions, so that a host can call an import as it calls a function.
 fn emit_imports(out: &mut Emitter, module: &Module) -> Result<(), AllocError>
     requires steps { out.old.steps.items ≡ [] }
     requires labels { out.old.labels ≡ [] }
@@ -362,7 +362,7 @@ fn emit_imports(out: &mut Emitter, module: &Module) -> Result<(), AllocError>
     Ok(())
 }
 
-/// The code of a module in flat form.
+/// Compiles a valid module to flat code.
 pub fn compile(alloc: Global, module: &Module) -> Result<FlatCode, AllocError>
     requires { Typed «module».now }
     ensures { IfOk result (IsCompiled «module».now) }

@@ -1,4 +1,4 @@
-//! The labels of the blocks around, while code is compiled.
+//! The labels in scope while code is compiled.
 
 ghost use Rattle.std.specs.Prelude.{◌≡◌, ◌<◌, [], ◌∷◌, length, slice_get, Some, OnOk};
 
@@ -6,8 +6,8 @@ use std::alloc::{AllocError, Global};
 use std::marker::Model;
 use wasm_spec::ValueType;
 
-/// A label: the number of its target, the result that a branch to it carries, and how many operands
-/// of the call are under its block.
+/// A label: the index of its target, the result that a branch to it carries, and the number of
+/// operands of the call below its block.
 #[derive(Clone, Copy, PartialEq, Eq, Debug)]
 pub struct Open {
     pub target: usize,
@@ -31,7 +31,7 @@ impl Model for Labels {
 }
 
 impl Labels {
-    /// No label is open.
+    /// Starts with no label.
     pub fn new(alloc: Global) -> Self
         ensures { result ≡ [] }
     {
@@ -55,7 +55,7 @@ impl Labels {
         self.opens.pop();
     }
 
-    /// The label that is so many blocks away.
+    /// Returns the label that is `depth` blocks further out than the innermost.
     pub fn at(&self, depth: usize) -> Open
         requires { depth < length self.now }
         ensures { slice_get self.now depth ≡ Some result }

@@ -1,4 +1,4 @@
-//! The code of a module in flat form, in which branches lead to places.
+//! Flat code, in which branches lead to steps by their index, and the compiler to it.
 #![tactic(auto)]
 
 mod emit;

@@ -1,42 +1,42 @@
-//! Flat code: the steps of all functions one after another.
+//! Flat code: the steps of all functions in one vector.
 
 use wasm_spec::{Items, Plain, ValueType};
 
-/// One step of flat code. Each executes an instruction, but `Skip`, `Import` and `End`.
+/// One step of flat code. Each step but `Skip`, `Import` and `End` counts as one executed instruction.
 #[derive(Clone, Copy, PartialEq, Eq, Debug)]
 pub enum Step {
     Plain(Plain),
     Unreachable,
-    /// A block or a loop begins.
+    /// The start of a block or a loop.
     Pass,
-    /// Takes a number, and goes to the place where it is 0.
+    /// Pops a number, and continues at this step if the number is 0.
     Unless(usize),
-    /// Goes on to the place, which lies ahead, past the other half of a choice.
+    /// Continues at this later step, past the else branch of an `if`.
     Skip(usize),
-    /// Goes to the target, and takes so many operands away from under those that it carries.
+    /// Branches to the target with this index. Removes so many operands below those that the branch carries.
     Jump(usize, usize),
-    /// The same where the number that it takes is not 0.
+    /// Pops a number, and does the same if the number is not 0.
     JumpIf(usize, usize),
-    /// Takes a number, and does as the jump in that place behind it, or as the one behind so many
-    /// where the number is not below that.
+    /// Pops a number and executes one of the jumps in the following steps: the jump at that index, or
+    /// the default jump at the index given here if the number is not below it.
     Table(usize),
     Call(u32),
     CallIndirect(u32),
-    /// Calls an import from outside.
+    /// Asks the host for the answer of an import.
     Import(u32),
-    /// A function's end.
+    /// The end of a function.
     End,
 }
 
-/// Where a branch leads, and the result that it carries.
+/// The step that a branch leads to, and the result that it carries.
 #[derive(Clone, Copy, PartialEq, Eq, Debug)]
 pub struct Target {
-    pub place: usize,
+    pub pc: usize,
     pub result: Option<ValueType>,
 }
 
-/// The code of all functions of a module: its steps, where branches lead, and where each of the
-/// module's own functions begins.
+/// The code of all functions of a module: the steps, the targets of branches, and the index of the
+/// first step of each function that the module defines.
 #[derive(Drop)]
 pub struct FlatCode {
     pub steps: Items<Step>,

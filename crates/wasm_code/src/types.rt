@@ -1,11 +1,11 @@
-//! The types of a module's functions, and those that loads, stores and conversions take and give.
+//! The types of a module's functions, and of the operands and results of loads, stores and conversions.
 
 ghost use Rattle.std.specs.Prelude.{◌≡◌, slice_get, option_copied};
 ghost use Rattle.wasm_spec.specs.Typing.{function_indices, function_type, load_type, store_type, converted_from, converted_to};
 
-use wasm_spec::{Conversion, FuncType, Load, Module, Store, ValueType};
+use wasm_spec::{Conversion, FuncType, LoadKind, Module, StoreKind, ValueType};
 
-/// The index of the type of the import or function of this index.
+/// Returns the type index of the function with this index, imports counted first.
 pub fn type_index_at(module: &Module, index: usize) -> Option<u32>
     ensures { result ≡ slice_get (function_indices «module».now) index }
 {
@@ -18,14 +18,14 @@ pub fn type_index_at(module: &Module, index: usize) -> Option<u32>
     }
 }
 
-/// The function type of this index.
+/// Returns the function type with this index.
 pub fn type_at(module: &Module, index: u32) -> Option<&FuncType>
     ensures { option_copied result ≡ slice_get «module».now.types index }
 {
     module.types.as_slice().get(index as usize)
 }
 
-/// The type of the import or function of this index.
+/// Returns the type of the function with this index, imports counted first.
 pub fn function_type(module: &Module, index: u32) -> Option<&FuncType>
     ensures { option_copied result ≡ function_type «module».now index }
 {
@@ -33,27 +33,29 @@ pub fn function_type(module: &Module, index: u32) -> Option<&FuncType>
     type_at(module, type_index)
 }
 
-/// The type of what a load gives.
-pub fn load_type(load: Load) -> ValueType
+/// Returns the type of a load's result.
+pub fn load_type(load: LoadKind) -> ValueType
     ensures { result ≡ load_type load }
 {
     match load {
-        Load::I32 | Load::I32From8(_) | Load::I32From16(_) => ValueType::I32,
-        Load::I64 | Load::I64From8(_) | Load::I64From16(_) | Load::I64From32(_) => ValueType::I64,
+        LoadKind::I32 | LoadKind::I32From8(_) | LoadKind::I32From16(_) => ValueType::I32,
+        LoadKind::I64 | LoadKind::I64From8(_) | LoadKind::I64From16(_) | LoadKind::I64From32(_) =>
+            ValueType::I64,
     }
 }
 
-/// The type of what a store takes.
-pub fn store_type(store: Store) -> ValueType
+/// Returns the type of the value that a store writes.
+pub fn store_type(store: StoreKind) -> ValueType
     ensures { result ≡ store_type store }
 {
     match store {
-        Store::I32 | Store::I32To8 | Store::I32To16 => ValueType::I32,
-        Store::I64 | Store::I64To8 | Store::I64To16 | Store::I64To32 => ValueType::I64,
+        StoreKind::I32 | StoreKind::I32To8 | StoreKind::I32To16 => ValueType::I32,
+        StoreKind::I64 | StoreKind::I64To8 | StoreKind::I64To16 | StoreKind::I64To32 =>
+            ValueType::I64,
     }
 }
 
-/// The type of what a conversion takes.
+/// Returns the type of a conversion's operand.
 pub fn converted_from(conversion: Conversion) -> ValueType
     ensures { result ≡ converted_from conversion }
 {
@@ -68,7 +70,7 @@ pub fn converted_from(conversion: Conversion) -> ValueType
     }
 }
 
-/// The type of what a conversion gives.
+/// Returns the type of a conversion's result.
 pub fn converted_to(conversion: Conversion) -> ValueType
     ensures { result ≡ converted_to conversion }
 {

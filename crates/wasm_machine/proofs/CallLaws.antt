@@ -74,13 +74,13 @@ own_deep f entry t m args rest e deep =
     let none : room_of m.frames ≡ 0 = let k = most_is in omega arith in
     ap (λ o. taking o (λ args under. enters (room_of m.frames) f entry args under m)) e ∙ ap (λ n. enters n f entry args rest m) none
 
-pub own_enters : (f : Function) (entry : ℕ) (t : FuncType) (m : Machine) (args rest : List Value) → arguments (length t.params) [] m.operands ≡ Some (args, rest) → length m.frames < 511 → calls_own (Some f) (Some entry) t m ≡ Goes (record { place = entry; operands = rest; state = record m.state { locals = start_locals f args }; frames = (record { place = m.place + 1; locals = m.state.locals }) ∷ m.frames })
+pub own_enters : (f : Function) (entry : ℕ) (t : FuncType) (m : Machine) (args rest : List Value) → arguments (length t.params) [] m.operands ≡ Some (args, rest) → length m.frames < 511 → calls_own (Some f) (Some entry) t m ≡ Goes (record { pc = entry; operands = rest; state = record m.state { locals = start_locals f args }; frames = (record { pc = m.pc + 1; locals = m.state.locals }) ∷ m.frames })
 own_enters f entry t m args rest e shallow =
     let some : room_of m.frames ≡ suc (510 - length m.frames) = let k = most_is in omega arith in
     ap (λ o. taking o (λ args under. enters (room_of m.frames) f entry args under m)) e ∙ ap (λ n. enters n f entry args rest m) some
 
 abbrev machine : ℕ → List Value → State → List Frame → Machine
-machine place ops s fs = record { place = place; operands = ops; state = s; frames = fs }
+machine pc ops s fs = record { pc = pc; operands = ops; state = s; frames = fs }
 
 -- functions
 
@@ -100,5 +100,5 @@ function_found source flat true (Some t) f m e h = cc
 function_found source flat false (Some t) f m e h = own_found (slice_get source.functions (f - length source.imports)) (slice_get flat.entries (f - length source.imports)) t m h
 
 -- a function that is entered, where its parts are known by equations
-pub entered : (place : ℕ) (ops ls ls' : List Value) (s : State) (fs fs' : List Frame) → ls ≡ ls' → fs ≡ fs' → machine place ops (record s { locals = ls }) fs ≡ machine place ops (record s { locals = ls' }) fs'
-entered place ops ls ls' s fs fs' e f = ap (λ l. machine place ops (record s { locals = l }) fs) e ∙ ap (machine place ops (record s { locals = ls' })) f
+pub entered : (pc : ℕ) (ops ls ls' : List Value) (s : State) (fs fs' : List Frame) → ls ≡ ls' → fs ≡ fs' → machine pc ops (record s { locals = ls }) fs ≡ machine pc ops (record s { locals = ls' }) fs'
+entered pc ops ls ls' s fs fs' e f = ap (λ l. machine pc ops (record s { locals = l }) fs) e ∙ ap (machine pc ops (record s { locals = ls' })) f

@@ -1,4 +1,4 @@
--- From moves to what a run comes to.
+-- From moves to the pauses of a run.
 use Rattle.std.proofs.Common.{◌≡◌, ℕ, List, ap, ◌∙◌, subst}
 use Rattle.std.specs.Prelude.{slice_get, Vec}
 use Rattle.std.specs.declared.alloc.Global.{Global}
@@ -12,7 +12,7 @@ use Rattle.wasm_machine.specs.declared.machine.Outcome.{Outcome}
 use Rattle.wasm_machine.specs.declared.machine.Outcome.TheVariants as outcome
 use Rattle.wasm_machine.specs.declared.run.Paused.TheVariants as paused
 use Rattle.wasm_machine.specs.Machine.{Machine, Moved, Goes, Ends, Traps, RunsOut, Fails, Asks, move}
-use Rattle.wasm_machine.specs.Running.{IsMove}
+use Rattle.wasm_machine.specs.MachineState.{IsMove}
 use Rattle.wasm_machine.specs.Behaves.{Behaves, Waits}
 use Rattle.wasm_machine.specs.Says.{Says}
 use Rattle.wasm_machine.proofs.Ways.{SaysMove, now_says}

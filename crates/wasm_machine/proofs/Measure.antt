@@ -24,7 +24,7 @@ use Rattle.wasm_machine.specs.Machine.{Frame, Machine, Moved, Goes, Ends, Traps,
 
 -- what is left to do, at most
 abbrev pub weight : FlatCode → Machine → ℕ
-weight flat m = (m.state.left * 2 + length m.frames) * (length flat.steps + 1) + (length flat.steps - m.place)
+weight flat m = (m.state.left * 2 + length m.frames) * (length flat.steps + 1) + (length flat.steps - m.pc)
 
 -- a move with k instructions left, and at most one more frame than f
 abbrev Within : ℕ → ℕ → Moved → Type 0
@@ -54,13 +54,13 @@ lighter_when a b n x y lt h =
 paid_lighter : (flat : FlatCode) (m : Machine) (k : ℕ) (o : Moved) → m.state.left ≡ suc k → Within k (length m.frames) o → Lighter flat m o
 unfolding Lighter
 paid_lighter flat m k (Goes o) e w =
-    lighter_when (o.state.left * 2 + length o.frames) (m.state.left * 2 + length m.frames) (length flat.steps) (length flat.steps - o.place) (length flat.steps - m.place) (omega (arith, w.0, w.1)) (omega arith)
+    lighter_when (o.state.left * 2 + length o.frames) (m.state.left * 2 + length m.frames) (length flat.steps) (length flat.steps - o.pc) (length flat.steps - m.pc) (omega (arith, w.0, w.1)) (omega arith)
 paid_lighter flat m k (Ends ops meter) e w = tt
 paid_lighter flat m k (Traps kind meter) e w = tt
 paid_lighter flat m k (RunsOut meter) e w = tt
 paid_lighter flat m k Fails e w = tt
 paid_lighter flat m k (Asks f args r o) e w =
-    lighter_when (o.state.left * 2 + length o.frames) (m.state.left * 2 + length m.frames) (length flat.steps) (length flat.steps - o.place) (length flat.steps - m.place) (omega (arith, w.0, w.1)) (omega arith)
+    lighter_when (o.state.left * 2 + length o.frames) (m.state.left * 2 + length m.frames) (length flat.steps) (length flat.steps - o.pc) (length flat.steps - m.pc) (omega (arith, w.0, w.1)) (omega arith)
 
 charge_lighter : (flat : FlatCode) (m : Machine) (k : ℕ) (b : Bool) (after : Meter) (go : Machine → Moved) → m.state.left ≡ suc k → ((n : Machine) → n.state.left ≡ k → n.frames ≡ m.frames → Within k (length m.frames) (go n)) → Lighter flat m (charged_if b RunsOut after (record m.state { left = k }) (λ s. go (record m { state = s })))
 unfolding Lighter
@@ -89,7 +89,7 @@ affects_within (Leaves ops locals store) m = (refl, omega arith)
 affects_within (Grows bytes ops locals store) m =
     let used = used_after m.state.meter MemAlloc bytes in
     charged_within (has_room m.state.meter.limits used) (record m.state.meter { used = used }) m
-    (λ s. Goes (record m { place = m.place + 1; operands = ops; state = record s { locals = locals; store = store } })) (refl, omega arith)
+    (λ s. Goes (record m { pc = m.pc + 1; operands = ops; state = record s { locals = locals; store = store } })) (refl, omega arith)
 affects_within (Faults kind) m = tt
 affects_within Lacks m = tt
 
@@ -99,7 +99,7 @@ goes_within p m (Some ops) = (refl, omega arith)
 
 jumps_within : (t : Option Target) (n : ℕ) (m : Machine) → Within m.state.left (length m.frames) (jumps t n m)
 jumps_within None n m = tt
-jumps_within (Some t) n m = goes_within t.place m (cut t.result n m.operands)
+jumps_within (Some t) n m = goes_within t.pc m (cut t.result n m.operands)
 
 row_within : (flat : FlatCode) (o : Option Step) (m : Machine) → Within m.state.left (length m.frames) (jumps_by flat o m)
 row_within flat (Some (step.Jump id n)) m = jumps_within (slice_get flat.targets id) n m
@@ -161,7 +161,7 @@ executes_within source flat (step.Jump id n) m = jumps_within (slice_get flat.ta
 executes_within source flat (step.JumpIf id n) m =
     pop_within m.state.left (length m.frames) m.operands _ (λ v rest. zero_within m.state.left (length m.frames) v _ _ (refl, omega arith) (jumps_within (slice_get flat.targets id) n (record m { operands = rest })))
 executes_within source flat (step.Table count) m =
-    pop_within m.state.left (length m.frames) m.operands _ (λ v rest. row_within flat (slice_get flat.steps (m.place + 1 + min v count)) (record m { operands = rest }))
+    pop_within m.state.left (length m.frames) m.operands _ (λ v rest. row_within flat (slice_get flat.steps (m.pc + 1 + min v count)) (record m { operands = rest }))
 executes_within source flat (step.Call f) m = calls_within source flat (is_import source f) (function_type source f) f m
 executes_within source flat (step.CallIndirect t) m = pop_within m.state.left (length m.frames) m.operands _ (λ v rest. indirect_within source flat (slice_get source.types t) v (record m { operands = rest }))
 executes_within source flat _ m = tt
@@ -170,45 +170,45 @@ returns_lighter : (flat : FlatCode) (frames : List Frame) (m : Machine) → m.fr
 unfolding Lighter
 returns_lighter flat [] m e = tt
 returns_lighter flat (f ∷ fs) m e =
-    lighter_when (m.state.left * 2 + length fs) (m.state.left * 2 + length m.frames) (length flat.steps) (length flat.steps - f.place) (length flat.steps - m.place) (omega (arith, ap length e)) (omega arith)
+    lighter_when (m.state.left * 2 + length fs) (m.state.left * 2 + length m.frames) (length flat.steps) (length flat.steps - f.pc) (length flat.steps - m.pc) (omega (arith, ap length e)) (omega arith)
 
-skips_lighter : (flat : FlatCode) (b : Bool) (to : ℕ) (m : Machine) → nat_lt m.place to ≡ b → m.place < length flat.steps → Lighter flat m (skips b to m)
+skips_lighter : (flat : FlatCode) (b : Bool) (to : ℕ) (m : Machine) → nat_lt m.pc to ≡ b → m.pc < length flat.steps → Lighter flat m (skips b to m)
 unfolding Lighter
 skips_lighter flat false to m e w = tt
 skips_lighter flat true to m e w =
-    let lt = ltb-true m.place to e in
-    let less : length flat.steps - to < length flat.steps - m.place = omega arith in
+    let lt = ltb-true m.pc to e in
+    let less : length flat.steps - to < length flat.steps - m.pc = omega arith in
     omega (arith, less)
 
-outside_lighter : (flat : FlatCode) (o : Option FuncType) (f : ℕ) (m : Machine) → m.place < length flat.steps → Lighter flat m (asks_from_outside o f m)
+outside_lighter : (flat : FlatCode) (o : Option FuncType) (f : ℕ) (m : Machine) → m.pc < length flat.steps → Lighter flat m (asks_from_outside o f m)
 unfolding Lighter
 outside_lighter flat None f m w = tt
 outside_lighter flat (Some t) f m w = taken (arguments (length t.params) [] m.operands)
   where
     taken : (o : Option (List Value × List Value)) → Lighter flat m (taking o (λ args under. Asks f (map number_of args) (result_of t) (on_with under m)))
     taken None = tt
-    taken (Some a) = let less : length flat.steps - (m.place + 1) < length flat.steps - m.place = omega arith in omega (arith, less)
+    taken (Some a) = let less : length flat.steps - (m.pc + 1) < length flat.steps - m.pc = omega arith in omega (arith, less)
 
-passes_lighter : (source : Module) (flat : FlatCode) (i : Step) (m : Machine) → m.place < length flat.steps → Lighter flat m (passes source i m)
+passes_lighter : (source : Module) (flat : FlatCode) (i : Step) (m : Machine) → m.pc < length flat.steps → Lighter flat m (passes source i m)
 unfolding Lighter
-passes_lighter source flat (step.Skip to) m w = skips_lighter flat (nat_lt m.place to) to m refl w
+passes_lighter source flat (step.Skip to) m w = skips_lighter flat (nat_lt m.pc to) to m refl w
 passes_lighter source flat (step.Import f) m w = outside_lighter flat (function_type source f) f m w
 passes_lighter source flat step.End m w = returns_lighter flat m.frames m refl
 passes_lighter source flat _ m w = tt
 
-step_lighter : (source : Module) (flat : FlatCode) (b : Bool) (i : Step) (m : Machine) → m.place < length flat.steps → Lighter flat m (moves_if b source flat i m)
+step_lighter : (source : Module) (flat : FlatCode) (b : Bool) (i : Step) (m : Machine) → m.pc < length flat.steps → Lighter flat m (moves_if b source flat i m)
 step_lighter source flat true i m w = passes_lighter source flat i m w
 step_lighter source flat false i m w = pays_lighter flat m (executes source flat i) (λ o. executes_within source flat i o)
 
-moves_lighter : (source : Module) (flat : FlatCode) (o : Option Step) (m : Machine) → slice_get flat.steps m.place ≡ o → Lighter flat m (moves source flat o m)
+moves_lighter : (source : Module) (flat : FlatCode) (o : Option Step) (m : Machine) → slice_get flat.steps m.pc ≡ o → Lighter flat m (moves source flat o m)
 unfolding Lighter
 moves_lighter source flat None m e = tt
-moves_lighter source flat (Some i) m e = step_lighter source flat (is_free i) i m (slice_get_within flat.steps m.place i e)
+moves_lighter source flat (Some i) m e = step_lighter source flat (is_free i) i m (slice_get_within flat.steps m.pc i e)
 
 pub move_lighter : (source : Module) (flat : FlatCode) (m o : Machine) → move source flat m ≡ Goes o → weight flat o < weight flat m
 unfolding Lighter
-move_lighter source flat m o e = subst (Lighter flat m) e (moves_lighter source flat (slice_get flat.steps m.place) m refl)
+move_lighter source flat m o e = subst (Lighter flat m) e (moves_lighter source flat (slice_get flat.steps m.pc) m refl)
 
 pub asks_lighter : (source : Module) (flat : FlatCode) (m o : Machine) (f : ℕ) (args : List ℕ) (r : _) → move source flat m ≡ Asks f args r o → weight flat o < weight flat m
 unfolding Lighter
-asks_lighter source flat m o f args r e = subst (Lighter flat m) e (moves_lighter source flat (slice_get flat.steps m.place) m refl)
+asks_lighter source flat m o f args r e = subst (Lighter flat m) e (moves_lighter source flat (slice_get flat.steps m.pc) m refl)

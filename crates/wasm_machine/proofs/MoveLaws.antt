@@ -1,4 +1,4 @@
--- What a move that does not fail finds, and what it comes to.
+-- The operands that a move needs, and its outcome.
 use Rattle.std.proofs.Common.{◌≡◌, ◌≢◌, ℕ, zero, suc, ◌⊎◌, inl, inr, false, List, [], ◌∷◌, Option, Some, None, refl, sym, ap, ◌∙◌, subst, arith}
 use Rattle.std.specs.Prelude.{IsSome}
 use Rattle.budget_meter.specs.declared.kind.Kind.TheVariants.{WasmInsnExec}
@@ -11,11 +11,11 @@ use Rattle.wasm_spec.specs.Runs.{State, has_room, charged_if, counted}
 use Rattle.wasm_code.specs.declared.step.Target.{Target}
 use Rattle.wasm_machine.specs.Machine.{Machine, Moved, Goes, RunsOut, Fails, pays, cut, goes_to, jumps}
 use Rattle.wasm_machine.specs.Numbers.{HasTop}
-use Rattle.wasm_machine.specs.Running.{Pays, CannotPay}
+use Rattle.wasm_machine.specs.MachineState.{Pays, CannotPay}
 
 -- branches
 
-cut_found : (t : Target) (n : ℕ) (m : Machine) (o : Option (List Value)) → cut t.result n m.operands ≡ o → goes_to t.place m o ≢ Fails → IsSome (cut t.result n m.operands)
+cut_found : (t : Target) (n : ℕ) (m : Machine) (o : Option (List Value)) → cut t.result n m.operands ≡ o → goes_to t.pc m o ≢ Fails → IsSome (cut t.result n m.operands)
 cut_found t n m None e h = absurd (h refl)
 cut_found t n m (Some ops) e h = subst IsSome (sym e) refl
 
@@ -23,8 +23,8 @@ pub target_found : (o : Option Target) (n : ℕ) (m : Machine) → jumps o n m �
 target_found None n m h = absurd (h refl)
 target_found (Some t) n m h = (t, refl, cut_found t n m (cut t.result n m.operands) refl h)
 
-pub jumps_are : (o : Option Target) (t : Target) (n : ℕ) (m : Machine) (ops : List Value) → o ≡ Some t → cut t.result n m.operands ≡ Some ops → jumps o n m ≡ Goes (record m { place = t.place; operands = ops })
-jumps_are o t n m ops e c = ap (λ x. jumps x n m) e ∙ ap (goes_to t.place m) c
+pub jumps_are : (o : Option Target) (t : Target) (n : ℕ) (m : Machine) (ops : List Value) → o ≡ Some t → cut t.result n m.operands ≡ Some ops → jumps o n m ≡ Goes (record m { pc = t.pc; operands = ops })
+jumps_are o t n m ops e c = ap (λ x. jumps x n m) e ∙ ap (goes_to t.pc m) c
 
 -- numbers that are taken
 

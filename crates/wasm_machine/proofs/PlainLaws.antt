@@ -5,7 +5,7 @@ use Rattle.wasm_spec.specs.declared.types.ValueType.{ValueType}
 use Rattle.wasm_spec.specs.declared.types.ValueType.TheVariants.{I32, I64}
 use Rattle.wasm_spec.specs.declared.types.Taken.{Taken}
 use Rattle.wasm_spec.specs.declared.types.Taken.TheVariants as taken
-use Rattle.wasm_spec.specs.declared.instructions.Load.{Load}
+use Rattle.wasm_spec.specs.declared.instructions.LoadKind.{LoadKind}
 use Rattle.wasm_spec.specs.declared.instructions.Plain.{Plain}
 use Rattle.wasm_spec.specs.declared.values.Value.{Value}
 use Rattle.wasm_spec.specs.declared.instructions.Numeric.{Numeric}
@@ -14,7 +14,7 @@ use Rattle.wasm_spec.specs.Integers.{width, numeric_result}
 use Rattle.wasm_spec.specs.Stores.{type_of, value_of, result_values, pop, Store}
 use Rattle.wasm_spec.specs.Effects.{Effect, Leaves, Grows, Faults, Lacks, with_some, gives, numeric_effect, chosen, loads}
 use Rattle.wasm_spec.specs.declared.values.Value.TheVariants as value
-use Rattle.wasm_spec.specs.declared.instructions.Store.{Store as StoreForm}
+use Rattle.wasm_spec.specs.declared.instructions.StoreKind.{StoreKind}
 use Rattle.wasm_spec.specs.declared.instructions.MemArg.{MemArg}
 use Rattle.wasm_spec.specs.declared.instructions.Plain.TheVariants as op
 use Rattle.wasm_spec.specs.Typing.{store_type, numeric_signature}
@@ -23,7 +23,7 @@ use Rattle.wasm_spec.specs.Effects.{stores, effect_of}
 use Rattle.wasm_num.specs.Operands.{FitsResult}
 use Rattle.wasm_machine.specs.Numbers.{HasTop, HasPair}
 use Rattle.wasm_machine.specs.Machine.{Machine, Fails, affects}
-use Rattle.wasm_machine.specs.Running.{CanApply}
+use Rattle.wasm_machine.specs.MachineState.{CanApply}
 
 pub zero_fits : (t : ValueType) → 0 < 2 ^ width t
 zero_fits I32 = lit< tt
@@ -66,7 +66,7 @@ two_is o t i j ops mid rest locals store e f =
     ap (λ x. numeric_effect o (taken.Two t t) x locals store) e ∙ pop_value Lacks t j mid (λ j ops. pop Lacks t ops (λ i ops. gives o (numeric_result o i j) ops locals store))
     ∙ ap (λ x. pop Lacks t x (λ i ops. gives o (numeric_result o i j) ops locals store)) f ∙ pop_value Lacks t i rest (λ i ops. gives o (numeric_result o i j) ops locals store)
 
-pub store_is : (s : StoreForm) (a : MemArg) (n i : ℕ) (ops mid rest locals : List Value) (store : Store) → ops ≡ value_of (store_type s) n ∷ mid → mid ≡ value.I32 i ∷ rest → effect_of (op.Store s a) ops locals store ≡ stores (stored store.memory.bytes s i a.offset n) rest locals store
+pub store_is : (s : StoreKind) (a : MemArg) (n i : ℕ) (ops mid rest locals : List Value) (store : Store) → ops ≡ value_of (store_type s) n ∷ mid → mid ≡ value.I32 i ∷ rest → effect_of (op.Store s a) ops locals store ≡ stores (stored store.memory.bytes s i a.offset n) rest locals store
 store_is s a n i ops mid rest locals store e f =
     ap (λ x. effect_of (op.Store s a) x locals store) e
     ∙ pop_value Lacks (store_type s) n mid (λ n ops. pop Lacks I32 ops (λ i ops. stores (stored store.memory.bytes s i a.offset n) ops locals store))
@@ -122,7 +122,7 @@ never_chosen n [] locals store = tt
 never_chosen n (v ∷ []) locals store = tt
 never_chosen n (v ∷ w ∷ ops) locals store = tt
 
-never_loads : (l : Load) (o : Option ℕ) (ops locals : List Value) (store : Store) → Never (loads l o ops locals store)
+never_loads : (l : LoadKind) (o : Option ℕ) (ops locals : List Value) (store : Store) → Never (loads l o ops locals store)
 never_loads l None ops locals store = tt
 never_loads l (Some n) ops locals store = tt
 

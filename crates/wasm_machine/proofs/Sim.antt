@@ -26,11 +26,11 @@ joined (more e rest) c = more e (joined rest c)
 pub asks_after : {source : Module} {flat : FlatCode} {m n : Machine} {f : ℕ} {args memory : List ℕ} {meter : Meter} {r : BlockType} {o : Machine} → Comes source flat m n → StopsToAsk source flat n f args memory meter r o → StopsToAsk source flat m f args memory meter r o
 asks_after c h = record { stop = h.stop; comes = joined c h.comes; asks = h.asks; bytes = h.bytes; budget = h.budget }
 
--- the machine at a place, with these operands, in a call
+-- the machine before the step of this index, with these operands, in a call
 abbrev pub at : ℕ → List Value → State → List Frame → Machine
-at p ops s frames = record { place = p; operands = ops; state = s; frames = frames }
+at p ops s frames = record { pc = p; operands = ops; state = s; frames = frames }
 
--- the machine comes to a place with the values that are carried there
+-- the machine reaches the step of this index with the values that a branch carries
 abbrev pub Carries : Module → FlatCode → Machine → ℕ → List Value → State → List Frame → Option (List Value) → Type 0
 Carries source flat m p under s frames None = Unit {0}
 Carries source flat m p under s frames (Some vs) = Comes source flat m (at p (vs ++ under) s frames)
@@ -38,14 +38,14 @@ Carries source flat m p under s frames (Some vs) = Comes source flat m (at p (vs
 abbrev pub Lands : Module → FlatCode → Machine → List Frame → List Label → List (List Value) → ℕ → List Value → State → Type 0
 Lands source flat m frames [] us k ops s = Unit {0}
 Lands source flat m frames (l ∷ ls) [] k ops s = Unit {0}
-Lands source flat m frames (l ∷ ls) (u ∷ us) zero ops s = Carries source flat m l.place u s frames (carried l.result ops)
+Lands source flat m frames (l ∷ ls) (u ∷ us) zero ops s = Carries source flat m l.pc u s frames (carried l.result ops)
 Lands source flat m frames (l ∷ ls) (u ∷ us) (suc k) ops s = Lands source flat m frames ls us k ops s
 
 -- From m, in a block over under, whose end is at q, the machine does what the run says. A branch has executed an instruction at least, so there are fewer than B left.
 abbrev pub Follows : Module → FlatCode → Label → List Value → List Frame → ℕ → Machine → ℕ → List Value → List Label → List (List Value) → Run → Type 0
 Follows source flat home base frames B m q under ls us (Normal ops s) = (s.left ≤ B) × Comes source flat m (at q (ops ++ under) s frames)
 Follows source flat home base frames B m q under ls us (Branch k ops s) = (s.left < B) × Lands source flat m frames ls us k ops s
-Follows source flat home base frames B m q under ls us (Return ops s) = (s.left < B) × Carries source flat m home.place base s frames (carried home.result ops)
+Follows source flat home base frames B m q under ls us (Return ops s) = (s.left < B) × Carries source flat m home.pc base s frames (carried home.result ops)
 Follows source flat home base frames B m q under ls us (Trap kind meter) = Stops source flat m (Traps kind meter)
 Follows source flat home base frames B m q under ls us (Spent meter) = Stops source flat m (RunsOut meter)
 Follows source flat home base frames B m q under ls us Stuck = Unit {0}
@@ -60,7 +60,7 @@ Nested base under [] (u ∷ us) = ⊥
 Nested base under (l ∷ ls) [] = ⊥
 Nested base under (l ∷ ls) (u ∷ us) = (seg : List Value) × (under ≡ seg ++ u) × (length u ≡ length base + l.height) × Nested base u ls us
 
--- what is so of the number of operands at each normal end of the run
+-- a property of the number of operands at each normal end of the run
 abbrev pub EndsWith : (ℕ → Type 0) → Run → Type 0
 EndsWith P (Normal ops s) = P (length ops)
 EndsWith P (Branch k ops s) = Unit {0}
@@ -110,14 +110,14 @@ module _ (source : Module) (flat : FlatCode) (frames : List Frame) where
   comes_lands : (m n : Machine) (ls : List Label) (us : List (List Value)) (k : ℕ) (ops : List Value) (s : State) → Comes source flat m n → Lands source flat n frames ls us k ops s → Lands source flat m frames ls us k ops s
   comes_lands m n [] us k ops s c h = tt
   comes_lands m n (l ∷ ls) [] k ops s c h = tt
-  comes_lands m n (l ∷ ls) (u ∷ us) zero ops s c h = comes_carries m n l.place u s (carried l.result ops) c h
+  comes_lands m n (l ∷ ls) (u ∷ us) zero ops s c h = comes_carries m n l.pc u s (carried l.result ops) c h
   comes_lands m n (l ∷ ls) (u ∷ us) (suc k) ops s c h = comes_lands m n ls us k ops s c h
 
 module _ (source : Module) (flat : FlatCode) (home : Label) (base : List Value) (frames : List Frame) where
   pub comes_follows : (B C : ℕ) (m n : Machine) (q : ℕ) (under : List Value) (ls : List Label) (us : List (List Value)) (r : Run) → B ≤ C → Comes source flat m n → Follows source flat home base frames B n q under ls us r → Follows source flat home base frames C m q under ls us r
   comes_follows B C m n q under ls us (Normal ops s) le c h = (omega (arith, h.0), joined c h.1)
   comes_follows B C m n q under ls us (Branch k ops s) le c h = (omega (arith, h.0), comes_lands source flat frames m n ls us k ops s c h.1)
-  comes_follows B C m n q under ls us (Return ops s) le c h = (omega (arith, h.0), comes_carries source flat frames m n home.place base s (carried home.result ops) c h.1)
+  comes_follows B C m n q under ls us (Return ops s) le c h = (omega (arith, h.0), comes_carries source flat frames m n home.pc base s (carried home.result ops) c h.1)
   comes_follows B C m n q under ls us (Trap kind meter) le c h = (h.0, joined c h.1, h.2)
   comes_follows B C m n q under ls us (Spent meter) le c h = (h.0, joined c h.1, h.2)
   comes_follows B C m n q under ls us Stuck le c h = tt
@@ -135,7 +135,7 @@ module _ (source : Module) (flat : FlatCode) (home : Label) (base : List Value) 
   then_follows B P m q1 q2 under ls us (Ask f args memory meter on) go h e rest =
       (h.0, h.1, h.2, λ v bytes b. then_follows B P (resumed h.0 v bytes b h.1) q1 q2 under ls us (on v bytes b) go (h.3 v bytes b) (e v bytes b) rest)
 
-  -- a step from the end of a run to another place
+  -- a step from the end of a run to another step
   pub skip_follows : (B : ℕ) (m : Machine) (q1 q2 : ℕ) (under : List Value) (ls : List Label) (us : List (List Value)) (r : Run) → ((ops : List Value) (s : State) → move source flat (at q1 ops s frames) ≡ Goes (at q2 ops s frames)) → Follows source flat home base frames B m q1 under ls us r → Follows source flat home base frames B m q2 under ls us r
   skip_follows B m q1 q2 under ls us (Normal ops s) mv h = (h.0, joined h.1 (more (mv (ops ++ under) s) here))
   skip_follows B m q1 q2 under ls us (Branch k ops s) mv h = h
@@ -158,7 +158,7 @@ module _ (source : Module) (flat : FlatCode) (home : Label) (base : List Value) 
   whole_carries m q under s (Some t) (v ∷ []) h = h
   whole_carries m q under s (Some t) (v ∷ w ∷ vs) h = tt
 
-  pub leave_follows : (B : ℕ) (m : Machine) (q h : ℕ) (r : BlockType) (ops under : List Value) (ls : List Label) (us : List (List Value)) (run : Run) → Follows source flat home base frames B m q (ops ++ under) ((record { place = q; result = r; height = h }) ∷ ls) ((ops ++ under) ∷ us) run → Follows source flat home base frames B m q under ls us (leave r ops run)
+  pub leave_follows : (B : ℕ) (m : Machine) (q h : ℕ) (r : BlockType) (ops under : List Value) (ls : List Label) (us : List (List Value)) (run : Run) → Follows source flat home base frames B m q (ops ++ under) ((record { pc = q; result = r; height = h }) ∷ ls) ((ops ++ under) ∷ us) run → Follows source flat home base frames B m q under ls us (leave r ops run)
   leave_follows B m q h r ops under ls us (Normal vs s) f = onto_follows B m q ops under s ls us (whole r vs) f.0 (whole_carries m q (ops ++ under) s r vs f.1)
   leave_follows B m q h r ops under ls us (Branch zero vs s) f = onto_follows B m q ops under s ls us (carried r vs) (omega (arith, f.0)) f.1
   leave_follows B m q h r ops under ls us (Branch (suc k) vs s) f = f
@@ -170,7 +170,7 @@ module _ (source : Module) (flat : FlatCode) (home : Label) (base : List Value) 
       (f.0, f.1, f.2, λ v bytes b. leave_follows B (resumed f.0 v bytes b f.1) q h r ops under ls us (on v bytes b) (f.3 v bytes b))
 
   -- one turn of a loop, whose start is at p and whose end is at q
-  again_follows : (B : ℕ) (m : Machine) (p q h : ℕ) (r : BlockType) (ops under : List Value) (ls : List Label) (us : List (List Value)) (run : Run) (go : State → Run) → Follows source flat home base frames B m q (ops ++ under) ((record { place = p; result = None; height = h }) ∷ ls) ((ops ++ under) ∷ us) run → ((s : State) → s.left < B → Follows source flat home base frames s.left (at p (ops ++ under) s frames) q under ls us (leave r ops (go s))) → Follows source flat home base frames B m q under ls us (leave r ops (again go run))
+  again_follows : (B : ℕ) (m : Machine) (p q h : ℕ) (r : BlockType) (ops under : List Value) (ls : List Label) (us : List (List Value)) (run : Run) (go : State → Run) → Follows source flat home base frames B m q (ops ++ under) ((record { pc = p; result = None; height = h }) ∷ ls) ((ops ++ under) ∷ us) run → ((s : State) → s.left < B → Follows source flat home base frames s.left (at p (ops ++ under) s frames) q under ls us (leave r ops (go s))) → Follows source flat home base frames B m q under ls us (leave r ops (again go run))
   again_follows B m p q h r ops under ls us (Normal vs s) go f next = onto_follows B m q ops under s ls us (whole r vs) f.0 (whole_carries m q (ops ++ under) s r vs f.1)
   again_follows B m p q h r ops under ls us (Branch zero vs s) go f next = comes_follows s.left B m (at p (ops ++ under) s frames) q under ls us (leave r ops (go s)) (omega (arith, f.0)) f.1 (next s f.0)
   again_follows B m p q h r ops under ls us (Branch (suc k) vs s) go f next = f
@@ -181,7 +181,7 @@ module _ (source : Module) (flat : FlatCode) (home : Label) (base : List Value) 
   again_follows B m p q h r ops under ls us (Ask g args memory meter on) go f next =
       (f.0, f.1, f.2, λ v bytes b. again_follows B (resumed f.0 v bytes b f.1) p q h r ops under ls us (on v bytes b) go (f.3 v bytes b) next)
 
-  pub turns_follow : (n : ℕ) (p q h : ℕ) (r : BlockType) (ops under : List Value) (ls : List Label) (us : List (List Value)) (body : State → Run) → ((s : State) → Follows source flat home base frames s.left (at p (ops ++ under) s frames) q (ops ++ under) ((record { place = p; result = None; height = h }) ∷ ls) ((ops ++ under) ∷ us) (body s)) → (s : State) → s.left < n → Follows source flat home base frames s.left (at p (ops ++ under) s frames) q under ls us (leave r ops (turns n body s))
+  pub turns_follow : (n : ℕ) (p q h : ℕ) (r : BlockType) (ops under : List Value) (ls : List Label) (us : List (List Value)) (body : State → Run) → ((s : State) → Follows source flat home base frames s.left (at p (ops ++ under) s frames) q (ops ++ under) ((record { pc = p; result = None; height = h }) ∷ ls) ((ops ++ under) ∷ us) (body s)) → (s : State) → s.left < n → Follows source flat home base frames s.left (at p (ops ++ under) s frames) q under ls us (leave r ops (turns n body s))
   turns_follow zero p q h r ops under ls us body bf s lt = absurd (omega arith)
   turns_follow (suc n) p q h r ops under ls us body bf s lt =
       again_follows s.left (at p (ops ++ under) s frames) p q h r ops under ls us (body s) (turns n body) (bf s) (λ t l. turns_follow n p q h r ops under ls us body bf t (omega arith))
@@ -213,22 +213,22 @@ module _ (source : Module) (flat : FlatCode) (home : Label) (base : List Value) 
 
 -- branches
 
-removed_front : (a u : List Value) (n : ℕ) → n ≡ length a → removed n (a ++ u) ≡ Some u
-removed_front [] u n e = ap (λ k. removed k u) e
-removed_front (v ∷ a) u zero e = absurd (omega arith)
-removed_front (v ∷ a) u (suc n) e = removed_front a u n (omega arith)
+removed_prefix : (a u : List Value) (n : ℕ) → n ≡ length a → removed n (a ++ u) ≡ Some u
+removed_prefix [] u n e = ap (λ k. removed k u) e
+removed_prefix (v ∷ a) u zero e = absurd (omega arith)
+removed_prefix (v ∷ a) u (suc n) e = removed_prefix a u n (omega arith)
 
 -- A jump to a label, from operands that have those of this block on top.
 cut_carries : (r : BlockType) (n : ℕ) (ops mid u all : List Value) → all ≡ ops ++ (mid ++ u) → n + arity r + length u ≡ length all → (vs : List Value) → carried r ops ≡ Some vs → cut r n all ≡ Some (vs ++ u)
 cut_carries None n ops mid u all e len vs c =
     let a : all ≡ (ops ++ mid) ++ u = e ∙ sym (append_assoc ops mid u) in
     let k : n ≡ length (ops ++ mid) = omega (arith, ap length a, length-append (ops ++ mid) u) in
-    ap (removed n) a ∙ removed_front (ops ++ mid) u n k ∙ cc
+    ap (removed n) a ∙ removed_prefix (ops ++ mid) u n k ∙ cc
 cut_carries (Some t) n [] mid u all e len vs c = cc
 cut_carries (Some t) n (v ∷ ops) mid u all e len vs c =
     let a : all ≡ v ∷ ((ops ++ mid) ++ u) = e ∙ ap (λ l. v ∷ l) (sym (append_assoc ops mid u)) in
     let j : n ≡ length (ops ++ mid) = omega (arith, ap length a, length-append (ops ++ mid) u) in
-    ap (cut (Some t) n) a ∙ ap (keeping v) (removed_front (ops ++ mid) u n j) ∙ cc
+    ap (cut (Some t) n) a ∙ ap (keeping v) (removed_prefix (ops ++ mid) u n j) ∙ cc
 
 carried_fits : (r : BlockType) (ops vs : List Value) → carried r ops ≡ Some vs → arity r ≤ length ops
 carried_fits None ops vs e = omega arith
@@ -240,15 +240,15 @@ module _ (source : Module) (flat : FlatCode) (frames : List Frame) where
   carries_if m p u s None f = tt
   carries_if m p u s (Some vs) f = f vs refl
 
-  pub jump_carries : (m : Machine) (l : Label) (id p h : ℕ) (base ops mid u all : List Value) (s : State) → slice_get flat.targets id ≡ Some (record { place = l.place; result = l.result }) → all ≡ ops ++ (mid ++ u) → length all ≡ length base + h → length u ≡ length base + l.height → move source flat m ≡ jumps (slice_get flat.targets id) (h - l.height - arity l.result) (at p all s frames) → Carries source flat m l.place u s frames (carried l.result ops)
+  pub jump_carries : (m : Machine) (l : Label) (id p h : ℕ) (base ops mid u all : List Value) (s : State) → slice_get flat.targets id ≡ Some (record { pc = l.pc; result = l.result }) → all ≡ ops ++ (mid ++ u) → length all ≡ length base + h → length u ≡ length base + l.height → move source flat m ≡ jumps (slice_get flat.targets id) (h - l.height - arity l.result) (at p all s frames) → Carries source flat m l.pc u s frames (carried l.result ops)
   jump_carries m l id p h base ops mid u all s t e len lu mv =
-      carries_if m l.place u s (carried l.result ops) (λ vs c.
+      carries_if m l.pc u s (carried l.result ops) (λ vs c.
       let d = h - l.height - arity l.result in
       let n : d + arity l.result + length u ≡ length all =
       omega (arith, carried_fits l.result ops vs c, ap length e, length-append ops (mid ++ u), length-append mid u) in
-      more (mv ∙ ap (λ o. jumps o d (at p all s frames)) t ∙ ap (goes_to l.place (at p all s frames)) (cut_carries l.result d ops mid u all e n vs c)) here)
+      more (mv ∙ ap (λ o. jumps o d (at p all s frames)) t ∙ ap (goes_to l.pc (at p all s frames)) (cut_carries l.result d ops mid u all e n vs c)) here)
 
-  -- the step at a branch's place, and where it leads
+  -- the step of a branch, and its target
   pub label_jump : (make : ℕ → ℕ → Step) (k p h : ℕ) (base under : List Value) (ls : List Label) (us : List (List Value)) → Nested base under ls us → LabelAt ls k (JumpsTo flat make p h) → (id : ℕ) × (d : ℕ) × (slice_get flat.steps p ≡ Some (make id d))
       × ((a : ℕ) (ops mid all : List Value) (m : Machine) (s : State) → all ≡ ops ++ (mid ++ under) → length all ≡ length base + h → move source flat m ≡ jumps (slice_get flat.targets id) d (at a all s frames) → Lands source flat m frames ls us k ops s)
   label_jump make k p h base under [] us nest to = absurd to

@@ -84,20 +84,20 @@ call_ends source (suc room) f ops s = any_ends source (is_import source f) (func
 
 -- the end of a function's code, back to the caller
 module _ (source : Module) (flat : FlatCode) (frames : List Frame) (last p : ℕ) (rest under : List Value) (caller : State) (ends : slice_get flat.steps last ≡ Some step.End) where
-  back : (m : Machine) (B : ℕ) (s : State) (o : Option (List Value)) → s.left ≤ B → Carries source flat m last (rest ++ under) s ((record { place = p + 1; locals = caller.locals }) ∷ frames) o → Returns source flat frames B m (p + 1) under (onto rest (back_in caller s) o)
+  back : (m : Machine) (B : ℕ) (s : State) (o : Option (List Value)) → s.left ≤ B → Carries source flat m last (rest ++ under) s ((record { pc = p + 1; locals = caller.locals }) ∷ frames) o → Returns source flat frames B m (p + 1) under (onto rest (back_in caller s) o)
   back m B s None le h = tt
   back m B s (Some vs) le h =
-      let ending = at last (vs ++ (rest ++ under)) s ((record { place = p + 1; locals = caller.locals }) ∷ frames) in
+      let ending = at last (vs ++ (rest ++ under)) s ((record { pc = p + 1; locals = caller.locals }) ∷ frames) in
       (le, subst (λ l. Comes source flat m (at (p + 1) l (back_in caller s) frames)) (sym (append_assoc vs rest under)) (joined h (more (ap (λ o. moves source flat o ending) ends) here)))
 
-  whole_back : (m : Machine) (s : State) (r : BlockType) (vs : List Value) → Comes source flat m (at last (vs ++ (rest ++ under)) s ((record { place = p + 1; locals = caller.locals }) ∷ frames)) → Carries source flat m last (rest ++ under) s ((record { place = p + 1; locals = caller.locals }) ∷ frames) (whole r vs)
+  whole_back : (m : Machine) (s : State) (r : BlockType) (vs : List Value) → Comes source flat m (at last (vs ++ (rest ++ under)) s ((record { pc = p + 1; locals = caller.locals }) ∷ frames)) → Carries source flat m last (rest ++ under) s ((record { pc = p + 1; locals = caller.locals }) ∷ frames) (whole r vs)
   whole_back m s None [] h = h
   whole_back m s None (v ∷ vs) h = tt
   whole_back m s (Some t) [] h = tt
   whole_back m s (Some t) (v ∷ []) h = h
   whole_back m s (Some t) (v ∷ w ∷ vs) h = tt
 
-  finish_returns : (B : ℕ) (m : Machine) (t : FuncType) (run : Run) → Follows source flat (home_of last t) (rest ++ under) ((record { place = p + 1; locals = caller.locals }) ∷ frames) B m last (rest ++ under) (home_of last t ∷ []) ((rest ++ under) ∷ []) run → Returns source flat frames B m (p + 1) under (finish (result_of t) rest caller run)
+  finish_returns : (B : ℕ) (m : Machine) (t : FuncType) (run : Run) → Follows source flat (home_of last t) (rest ++ under) ((record { pc = p + 1; locals = caller.locals }) ∷ frames) B m last (rest ++ under) (home_of last t ∷ []) ((rest ++ under) ∷ []) run → Returns source flat frames B m (p + 1) under (finish (result_of t) rest caller run)
   finish_returns B m t (Normal ops s) h = back m B s (whole (result_of t) ops) h.0 (whole_back m s (result_of t) ops h.1)
   finish_returns B m t (Branch zero ops s) h = back m B s (carried (result_of t) ops) (omega (arith, h.0)) h.1
   finish_returns B m t (Branch (suc d) ops s) h = tt
@@ -153,15 +153,15 @@ module _ (source : Module) (flat : FlatCode) (compiled : IsCompiled source flat)
   any_returns false (Some t) p f frames ops under s m go ib e mv h =
       let own = own_function source f t ib e in
       own_returns t p (f - length source.imports) frames ops under s m go (slice_get source.functions (f - length source.imports)) refl mv
-      (λ g place g_is isat step.
+      (λ g pc g_is isat step.
       let q : own.0 ≡ g = let a = own.1 in cc in
-      h g t place (subst (λ (x : Function). slice_get source.types x.type_index ≡ Some t) q own.2) isat step)
+      h g t pc (subst (λ (x : Function). slice_get source.types x.type_index ≡ Some t) q own.2) isat step)
 
   -- one call more
   enter_returns : (go : Calls) (room p : ℕ) (frames : List Frame) (ops under : List Value) (s : State) (m : Machine) (f : Function) (t : FuncType) (e : ℕ) → CallsEnd source go → ((fs : List Frame) → room ≡ room_of fs → CallsFollow source flat go fs) → suc room ≡ room_of frames → slice_get source.types f.type_index ≡ Some t → IsFunctionAt source flat f e → move source flat m ≡ calls_own (Some f) (Some e) t (at p (ops ++ under) s frames) → Returns source flat frames s.left m (p + 1) under (enter source go f t ops s)
   enter_returns go room p frames ops under s m f t e go_ends go_follows more_room known isat mv =
       let a = at p (ops ++ under) s frames in
-      let within : List Frame = (record { place = p + 1; locals = s.locals }) ∷ frames in
+      let within : List Frame = (record { pc = p + 1; locals = s.locals }) ∷ frames in
       let q : isat.type_ ≡ t = let k = isat.known in cc in
       taken_returns (length t.params) frames s.left (p + 1) m ops under (arguments (length t.params) [] ops)
       (λ args rest. finish (result_of t) rest s (exec source go f.body [] (record s { locals = start_locals f args })))

@@ -13,7 +13,7 @@ use Rattle.wasm_spec.specs.declared.values.Value.{Value}
 use Rattle.wasm_spec.specs.declared.values.Value.TheVariants as value
 use Rattle.wasm_spec.specs.declared.values.TrapKind.TheVariants.{Unreachable}
 use Rattle.wasm_spec.specs.declared.instructions.Numeric.{Numeric}
-use Rattle.wasm_spec.specs.declared.instructions.Load.{Load}
+use Rattle.wasm_spec.specs.declared.instructions.LoadKind.{LoadKind}
 use Rattle.wasm_spec.specs.declared.instructions.Plain.{Plain}
 use Rattle.wasm_spec.specs.declared.instructions.Plain.TheVariants as op
 use Rattle.wasm_spec.specs.declared.instructions.Control.TheVariants as jump
@@ -86,7 +86,7 @@ module _ (under locals : List Value) (store : Store) where
   global_set_fits n i (v ∷ ops) len =
       with_some_fits under n (slice_get store.globals i) (λ _. Leaves ops locals (record store { globals = slice_set store.globals i v })) (λ _. Leaves (ops ++ under) locals (record store { globals = slice_set store.globals i v })) (λ _. (refl, omega arith))
 
-  loads_fits : (n : ℕ) (l : Load) (o : Option ℕ) (ops : List Value) → suc (length ops) + length under ≡ n → Fits under n (loads l o ops locals store) (loads l o (ops ++ under) locals store)
+  loads_fits : (n : ℕ) (l : LoadKind) (o : Option ℕ) (ops : List Value) → suc (length ops) + length under ≡ n → Fits under n (loads l o ops locals store) (loads l o (ops ++ under) locals store)
   loads_fits n l None ops len = refl
   loads_fits n l (Some i) ops len = (refl, len)
 
@@ -159,7 +159,7 @@ effect_ends under n Lacks e' s h = tt
 
 -- calls
 
--- The machine does what a call does, up to the place behind it.
+-- The machine does what a call does, up to the step behind it.
 abbrev pub Returns : Module → FlatCode → List Frame → ℕ → Machine → ℕ → List Value → Run → Type 0
 Returns source flat frames B m q under (Normal ops s) = (s.left ≤ B) × Comes source flat m (at q (ops ++ under) s frames)
 Returns source flat frames B m q under (Branch k ops s) = ⊥
@@ -300,7 +300,7 @@ module _ (source : Module) (flat : FlatCode) (home : Label) (base : List Value) 
   half_follows p q other (suc v) B r ops under ls us m s ys ns le mv fn fy = comes_follows source flat home base frames s.left B m (at (p + 1) (ops ++ under) s frames) q under ls us (leave r ops ys) le (more mv here) fy
 
 module _ (source : Module) (flat : FlatCode) (go : Calls) (go_ends : CallsEnd source go) (home : Label) (base : List Value) (frames : List Frame) (go_follows : CallsFollow source flat go frames) (ground : home.height ≡ 0) where
-  -- The machine does what the code's meaning says, from its place on.
+  -- From the index of the code's first step, the machine behaves as the code's meaning.
   pub sim : (c : Code) (p q h : ℕ) (ls : List Label) (us : List (List Value)) (ops under : List Value) (s : State) → Placed source flat home p c q ls h → Nested base under ls us → length ops + length under ≡ length base + h → Follows source flat home base frames s.left (at p (ops ++ under) s frames) q under ls us (exec source go c ops s)
   sim end p q h ls us ops under s pl nest len =
       (omega arith, subst (λ x. Comes source flat (at p (ops ++ under) s frames) (at x (ops ++ under) s frames)) pl here)
@@ -336,7 +336,7 @@ module _ (source : Module) (flat : FlatCode) (go : Calls) (go_ends : CallsEnd so
       (λ ops' s' len'. sim rest (p + 1) q (h - 1) ls us ops' under s' pl.1 nest len'))
   sim (control (jump.BrTable ds d) rest) p q h ls us ops under s pl nest len =
       let le = base_under base under ls us nest in
-      step_follows source flat home base frames (step.Table (length ds)) (λ m. pop Fails I32 m.operands (λ v ops. jumps_by flat (slice_get flat.steps (m.place + 1 + min v (length ds))) (record m { operands = ops }))) p q (ops ++ under) s under ls us
+      step_follows source flat home base frames (step.Table (length ds)) (λ m. pop Fails I32 m.operands (λ v ops. jumps_by flat (slice_get flat.steps (m.pc + 1 + min v (length ds))) (record m { operands = ops }))) p q (ops ++ under) s under ls us
       (λ s. then_do (control_run source go (jump.BrTable ds d) ops s) (exec source go rest)) pl.0 (λ m. refl) (λ k after el mv.
       let t : State = record s { left = k; meter = after } in
       let m = at p (ops ++ under) s frames in
@@ -386,7 +386,7 @@ module _ (source : Module) (flat : FlatCode) (go : Calls) (go_ends : CallsEnd so
       let m = at p (ops ++ under) s frames in
       let all : length (ops ++ under) ≡ length base + h = length-append ops under ∙ len in
       let run = exec source go body [] t in
-      let l : Label = record { place = pl.0; result = r; height = h } in
+      let l : Label = record { pc = pl.0; result = r; height = h } in
       let inner = sim body (p + 1) pl.0 h (l ∷ ls) ((ops ++ under) ∷ us) [] (ops ++ under) t pl.2 ([], refl, all, nested_more base ops under ls us nest) (omega arith) in
       then_follows source flat home base frames s.left (λ x. x ≡ arity r + length ops) m pl.0 q under ls us (leave r ops run) (exec source go rest)
       (comes_follows source flat home base frames k s.left m (at (p + 1) (ops ++ under) t frames) pl.0 under ls us (leave r ops run) (omega arith) (more mv here) (leave_follows source flat home base frames k (at (p + 1) (ops ++ under) t frames) pl.0 h r ops under ls us run inner))
@@ -399,7 +399,7 @@ module _ (source : Module) (flat : FlatCode) (go : Calls) (go_ends : CallsEnd so
       let m = at p (ops ++ under) s frames in
       let all : length (ops ++ under) ≡ length base + h = length-append ops under ∙ len in
       let run = turns (suc k) (exec source go body []) t in
-      let l : Label = record { place = p + 1; result = None; height = h } in
+      let l : Label = record { pc = p + 1; result = None; height = h } in
       let turn = (λ (u : State). sim body (p + 1) pl.0 h (l ∷ ls) ((ops ++ under) ∷ us) [] (ops ++ under) u pl.2 ([], refl, all, nested_more base ops under ls us nest) (omega arith)) in
       then_follows source flat home base frames s.left (λ x. x ≡ arity r + length ops) m pl.0 q under ls us (leave r ops run) (exec source go rest)
       (comes_follows source flat home base frames k s.left m (at (p + 1) (ops ++ under) t frames) pl.0 under ls us (leave r ops run) (omega arith) (more mv here)
@@ -408,11 +408,11 @@ module _ (source : Module) (flat : FlatCode) (go : Calls) (go_ends : CallsEnd so
       (λ ops' s' e. sim rest pl.0 q (h + arity r) ls us ops' under s' pl.3 nest (omega arith)))
   sim (choose r ys ns rest) p q h ls us ops under s pl nest len =
       let le = base_under base under ls us nest in
-      step_follows source flat home base frames (step.Unless (pl.0 + 1)) (λ m. pop Fails I32 m.operands (λ n ops. Goes (record m { place = at_zero n (pl.0 + 1) (m.place + 1); operands = ops }))) p q (ops ++ under) s under ls us
+      step_follows source flat home base frames (step.Unless (pl.0 + 1)) (λ m. pop Fails I32 m.operands (λ n ops. Goes (record m { pc = at_zero n (pl.0 + 1) (m.pc + 1); operands = ops }))) p q (ops ++ under) s under ls us
       (λ s. pop Stuck I32 ops (λ n ops. then_do (leave r ops (at_zero n (exec source go ns [] s) (exec source go ys [] s))) (exec source go rest))) pl.2 (λ m. refl) (λ k after el mv.
       let t : State = record s { left = k; meter = after } in
       let m = at p (ops ++ under) s frames in
-      let l : Label = record { place = pl.1; result = r; height = h - 1 } in
+      let l : Label = record { pc = pl.1; result = r; height = h - 1 } in
       let yes_run = exec source go ys [] t in
       let no_run = exec source go ns [] t in
       let skips = (λ (x : List Value) (u : State). ap (λ o. moves source flat o (at pl.0 x u frames)) pl.4 ∙ ap (λ b. skips b pl.1 (at pl.0 x u frames)) (lt-ltb pl.0 pl.1 pl.5)) in

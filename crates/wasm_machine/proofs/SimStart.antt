@@ -38,15 +38,15 @@ append-nil : (vs : List Value) → vs ++ [] ≡ vs
 append-nil [] = refl
 append-nil (v ∷ vs) = ap (λ x. v ∷ x) (append-nil vs)
 
-arguments_front : (vs args rest : List Value) → arguments (length vs) args (vs ++ rest) ≡ Some (reverse vs ++ args, rest)
-arguments_front [] args rest = refl
-arguments_front (v ∷ vs) args rest = arguments_front vs (v ∷ args) rest ∙ ap (λ x. Some (x, rest)) (reverse_more v vs args)
+arguments_prefix : (vs args rest : List Value) → arguments (length vs) args (vs ++ rest) ≡ Some (reverse vs ++ args, rest)
+arguments_prefix [] args rest = refl
+arguments_prefix (v ∷ vs) args rest = arguments_prefix vs (v ∷ args) rest ∙ ap (λ x. Some (x, rest)) (reverse_more v vs args)
 
 arguments_all : (n : ℕ) (vs : List Value) → n ≡ length vs → arguments n [] (reverse vs) ≡ Some (vs, [])
 arguments_all n vs e =
     let l : n ≡ length (reverse vs) = e ∙ sym (length-reverse vs) in
-    let front = arguments_front (reverse vs) [] [] in
-    ap (λ k. arguments k [] (reverse vs)) l ∙ ap (λ x. arguments (length (reverse vs)) [] x) (sym (append-nil (reverse vs))) ∙ front
+    let prefix = arguments_prefix (reverse vs) [] [] in
+    ap (λ k. arguments k [] (reverse vs)) l ∙ ap (λ x. arguments (length (reverse vs)) [] x) (sym (append-nil (reverse vs))) ∙ prefix
     ∙ ap (λ x. Some (x, [])) (append-nil (reverse (reverse vs)) ∙ reverse-reverse vs)
 
 length-replicate : (n : ℕ) (t : ValueType) → length (replicate n t) ≡ n

@@ -62,7 +62,7 @@ affects_leads (Leaves ops locals store) m = same m.state.meter
 affects_leads (Grows bytes ops locals store) m =
     let used = used_after m.state.meter MemAlloc bytes in
     let after : Meter = record m.state.meter { used = used } in
-    charge_leads (has_room m.state.meter.limits used) m.state.meter after m.state (λ s. Goes (record m { place = m.place + 1; operands = ops; state = record s { locals = locals; store = store } })) refl
+    charge_leads (has_room m.state.meter.limits used) m.state.meter after m.state (λ s. Goes (record m { pc = m.pc + 1; operands = ops; state = record s { locals = locals; store = store } })) refl
     (record { limits = refl; terms = refl; instructions = omega arith; memory = omega arith })
     (λ t e. subst (λ b. IsLater after b) (sym e) (same after))
 affects_leads (Faults kind) m = same m.state.meter
@@ -74,7 +74,7 @@ goes_leads p m (Some ops) = same m.state.meter
 
 jumps_lead : (t : Option Target) (n : ℕ) (m : Machine) → Leads m.state.meter (jumps t n m)
 jumps_lead None n m = tt
-jumps_lead (Some t) n m = goes_leads t.place m (cut t.result n m.operands)
+jumps_lead (Some t) n m = goes_leads t.pc m (cut t.result n m.operands)
 
 row_leads : (flat : FlatCode) (o : Option Step) (m : Machine) → Leads m.state.meter (jumps_by flat o m)
 row_leads flat (Some (step.Jump id n)) m = jumps_lead (slice_get flat.targets id) n m
@@ -137,7 +137,7 @@ executes_leads source flat (step.Jump id n) m = jumps_lead (slice_get flat.targe
 executes_leads source flat (step.JumpIf id n) m =
     pop_leads m.state.meter m.operands _ (λ v rest. zero_leads m.state.meter v _ _ (same m.state.meter) (jumps_lead (slice_get flat.targets id) n (record m { operands = rest })))
 executes_leads source flat (step.Table count) m =
-    pop_leads m.state.meter m.operands _ (λ v rest. row_leads flat (slice_get flat.steps (m.place + 1 + min v count)) (record m { operands = rest }))
+    pop_leads m.state.meter m.operands _ (λ v rest. row_leads flat (slice_get flat.steps (m.pc + 1 + min v count)) (record m { operands = rest }))
 executes_leads source flat (step.Call f) m = calls_lead source flat (is_import source f) (function_type source f) f m
 executes_leads source flat (step.CallIndirect t) m = pop_leads m.state.meter m.operands _ (λ v rest. indirect_leads source flat (slice_get source.types t) v (record m { operands = rest }))
 executes_leads source flat _ m = tt
@@ -155,7 +155,7 @@ outside_leads None f m = tt
 outside_leads (Some t) f m = asks_lead t f m
 
 passes_lead : (source : Module) (i : Step) (m : Machine) → Leads m.state.meter (passes source i m)
-passes_lead source (step.Skip to) m = skips_lead (nat_lt m.place to) to m
+passes_lead source (step.Skip to) m = skips_lead (nat_lt m.pc to) to m
 passes_lead source (step.Import f) m = outside_leads (function_type source f) f m
 passes_lead source step.End m = returns_lead m.frames m
 passes_lead source _ m = tt
@@ -169,4 +169,4 @@ moves_lead source flat None m = tt
 moves_lead source flat (Some i) m = step_leads source flat (is_free i) i m
 
 pub move_leads : (source : Module) (flat : FlatCode) (m : Machine) (x : Moved) → move source flat m ≡ x → Leads m.state.meter x
-move_leads source flat m x e = subst (Leads m.state.meter) e (moves_lead source flat (slice_get flat.steps m.place) m)
+move_leads source flat m x e = subst (Leads m.state.meter) e (moves_lead source flat (slice_get flat.steps m.pc) m)

@@ -22,8 +22,8 @@ vector_of xs a w e = sym (reverse-reverse xs) ∙ ap reverse e ∙ reverse-appen
 length_of : (xs a w : List Value) → reverse xs ≡ a ++ w → length xs ≡ length a + length w
 length_of xs a w e = sym (length-reverse xs) ∙ ap length e ∙ length-append a w
 
-front_of : (xs a w : List Value) (i : ℕ) → reverse xs ≡ a ++ w → i ≡ length xs - length a → take i xs ≡ reverse w
-front_of xs a w i e k =
+prefix_of : (xs a w : List Value) (i : ℕ) → reverse xs ≡ a ++ w → i ≡ length xs - length a → take i xs ≡ reverse w
+prefix_of xs a w i e k =
     let n : i ≡ length (reverse w) = omega (arith, length_of xs a w e, length-reverse w) in
     ap (take i) (vector_of xs a w e) ∙ ap (λ m. take m (reverse w ++ reverse a)) n ∙ take-append_seam (reverse w) (reverse a)
 
@@ -34,7 +34,7 @@ removed_view xs n i k some = go (removed n (reverse xs)) refl some
     go None e h = cc
     go (Some w) e h =
         let s = split_removed n (reverse xs) w e in
-        let f = front_of xs s.0 w i s.1 (omega (arith, s.2)) in
+        let f = prefix_of xs s.0 w i s.1 (omega (arith, s.2)) in
         e ∙ ap Some (sym (reverse-reverse w)) ∙ ap (λ x. Some (reverse x)) (sym f)
 
 pub removed_length : (xs : List Value) (n : ℕ) → IsSome (removed n (reverse xs)) → n ≤ length xs
@@ -79,9 +79,9 @@ cut_view k xs n top i j value et ei ej ev some =
         let e' : reverse xs ≡ (v ∷ s.0) ++ w = e ∙ ap (λ x. v ∷ x) s.1 in
         let l = length_of xs (v ∷ s.0) w e' in
         let within : i < length xs = omega (arith, l, s.2) in
-        let front = front_of xs (v ∷ s.0) w i e' (omega (arith, l, s.2)) in
+        let prefix = prefix_of xs (v ∷ s.0) w i e' (omega (arith, l, s.2)) in
         let is_v : value ≡ v = ev ∙ last_of xs rest v top value e et in
-        let kept : take (suc i) (slice_set xs i value) ≡ reverse w ++ v ∷ [] = take-suc-set xs i value within ∙ ap (λ x. x ++ value ∷ []) front ∙ ap (λ x. reverse w ++ x ∷ []) is_v in
+        let kept : take (suc i) (slice_set xs i value) ≡ reverse w ++ v ∷ [] = take-suc-set xs i value within ∙ ap (λ x. x ++ value ∷ []) prefix ∙ ap (λ x. reverse w ++ x ∷ []) is_v in
         let back : reverse (reverse w ++ v ∷ []) ≡ v ∷ w = reverse-append (reverse w) (v ∷ []) ∙ ap (λ x. v ∷ x) (reverse-reverse w) in
         ap (keeping v) r ∙ ap Some (sym (ap reverse kept ∙ back))
 
@@ -118,21 +118,21 @@ arguments_view xs n i k some = go (arguments n [] (reverse xs)) refl some
     go (Some r) e h =
         let s = split_arguments n [] (reverse xs) r e in
         let l = length_of xs s.0 r.1 s.1 in
-        let f = front_of xs s.0 r.1 i s.1 (omega (arith, s.2)) in
+        let f = prefix_of xs s.0 r.1 i s.1 (omega (arith, s.2)) in
         let at : length (reverse r.1) ≡ i = omega (arith, length-reverse r.1, l, s.2) in
         let d : drop i xs ≡ reverse s.0 = ap (drop i) (vector_of xs s.0 r.1 s.1) ∙ drop_at (reverse r.1) (reverse s.0) i at in
         let a : r.0 ≡ drop i xs = s.3 ∙ append-nil (reverse s.0) ∙ sym d in
         let b : r.1 ≡ reverse (take i xs) = sym (reverse-reverse r.1) ∙ ap reverse (sym f) in
         e ∙ ap (λ x. Some (x, r.1)) a ∙ ap (λ x. Some (drop i xs, x)) b
 
--- another value in place of the topmost
+-- the topmost value replaced
 pub top_replaced : (xs below : List Value) (v x : Value) (i : ℕ) → reverse xs ≡ v ∷ below → i ≡ length xs - 1 → reverse (slice_set xs i x) ≡ x ∷ below
 top_replaced xs below v x i e k =
     let n : i ≡ length (reverse below) = omega (arith, length_of xs (v ∷ []) below e, length-reverse below) in
     ap (λ ys. reverse (slice_set ys i x)) (vector_of xs (v ∷ []) below e) ∙ ap (λ j. reverse (slice_set (reverse below ++ v ∷ []) j x)) n
     ∙ ap reverse (set-append_seam (reverse below) v [] x) ∙ reverse-append (reverse below) (x ∷ []) ∙ ap (λ ys. x ∷ ys) (reverse-reverse below)
 
--- one number more in place of a value
+-- one more value replaced by a number
 number_put : (i : ℕ) (ns : List ℕ) (vs : List Value) → i < length ns → length ns ≤ length vs → slice_set (map value.I64 (take i ns) ++ drop i vs) i (value.I64 (get_or ns i 0)) ≡ map value.I64 (take (suc i) ns) ++ drop (suc i) vs
 number_put i [] vs h g = absurd (omega (arith, h))
 number_put i (n ∷ ns) [] h g = absurd (omega (arith, g))

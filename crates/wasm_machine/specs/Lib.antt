@@ -3,6 +3,6 @@ pub mod Frames
 pub mod Lending
 pub mod Machine
 pub mod Numbers
-pub mod Running
+pub mod MachineState
 pub mod Says
 pub mod Spending

@@ -1,4 +1,4 @@
--- What the machine does with flat code (own).
+-- The machine that runs flat code (own).
 use Rattle.std.specs.Prelude.{ℕ, zero, suc, ◌+◌, ◌-◌, nat_lt, min, List, [], ◌∷◌, ◌++◌, length, map, Option, Some, None, slice_get, Bool, true, false}
 use Rattle.budget_meter.specs.declared.kind.Kind.TheVariants.{MemAlloc}
 use Rattle.budget_meter.specs.Meter.{Meter}
@@ -20,19 +20,19 @@ use Rattle.wasm_code.specs.declared.step.Step.TheVariants as step
 use Rattle.wasm_code.specs.declared.step.Target.{Target}
 use Rattle.wasm_code.specs.declared.step.FlatCode.{FlatCode}
 
--- a call that waits for another's end: where it goes on, and its locals
+-- a call that waits for its callee: the index of the step behind the call, and its locals
 pub record Frame : Type 0 where
-  pub place : ℕ
+  pub pc : ℕ
   pub locals : List Value
 
--- where a run is: the operands of all open calls, the topmost first, what the last call has besides, and the calls that wait
+-- the state of a run: the index of the next step, the operands of all open calls with the topmost first, the state of the innermost call, and the waiting calls
 pub record Machine : Type 0 where
-  pub place : ℕ
+  pub pc : ℕ
   pub operands : List Value
   pub state : State
   pub frames : List Frame
 
--- one move
+-- the outcome of one move
 pub data Moved : Type 0 where
   Goes : Machine → Moved
   Ends : (operands : List Value) (meter : Meter) → Moved
@@ -41,24 +41,24 @@ pub data Moved : Type 0 where
   Fails : Moved
   Asks : (function : ℕ) (args : List ℕ) (result : BlockType) → Machine → Moved
 
--- once an instruction is paid for
+-- charges an instruction and goes on
 abbrev pub pays : Machine → (Machine → Moved) → Moved
 pays m go = executed RunsOut m.state (λ s. go (record m { state = s }))
 
--- to the next place, with these operands
+-- to the next step, with these operands
 abbrev pub on_with : List Value → Machine → Machine
-on_with ops m = record m { place = m.place + 1; operands = ops }
+on_with ops m = record m { pc = m.pc + 1; operands = ops }
 
 abbrev pub affects : Effect → Machine → Moved
-affects (Leaves ops locals store) m = Goes (record m { place = m.place + 1; operands = ops; state = record m.state { locals = locals; store = store } })
+affects (Leaves ops locals store) m = Goes (record m { pc = m.pc + 1; operands = ops; state = record m.state { locals = locals; store = store } })
 affects (Grows bytes ops locals store) m =
-    charged MemAlloc bytes RunsOut m.state (λ s. Goes (record m { place = m.place + 1; operands = ops; state = record s { locals = locals; store = store } }))
+    charged MemAlloc bytes RunsOut m.state (λ s. Goes (record m { pc = m.pc + 1; operands = ops; state = record s { locals = locals; store = store } }))
 affects (Faults kind) m = Traps kind m.state.meter
 affects Lacks m = Fails
 
 -- branches
 
--- without the n topmost
+-- without the n topmost operands
 abbrev pub removed : ℕ → List Value → Option (List Value)
 removed zero ops = Some ops
 removed (suc n) [] = None
@@ -68,32 +68,32 @@ abbrev pub keeping : Value → Option (List Value) → Option (List Value)
 keeping v None = None
 keeping v (Some ops) = Some (v ∷ ops)
 
--- without n operands under the value that is carried
+-- without n operands under the value that a branch carries
 abbrev pub cut : BlockType → ℕ → List Value → Option (List Value)
 cut None n ops = removed n ops
 cut (Some t) n [] = None
 cut (Some t) n (v ∷ ops) = keeping v (removed n ops)
 
 abbrev pub goes_to : ℕ → Machine → Option (List Value) → Moved
-goes_to place m None = Fails
-goes_to place m (Some ops) = Goes (record m { place = place; operands = ops })
+goes_to pc m None = Fails
+goes_to pc m (Some ops) = Goes (record m { pc = pc; operands = ops })
 
 abbrev pub jumps : Option Target → ℕ → Machine → Moved
 jumps None n m = Fails
-jumps (Some t) n m = goes_to t.place m (cut t.result n m.operands)
+jumps (Some t) n m = goes_to t.pc m (cut t.result n m.operands)
 
--- as the step of a row says
+-- branches as an entry of a branch table says
 abbrev pub jumps_by : FlatCode → Option Step → Machine → Moved
 jumps_by flat (Some (step.Jump id n)) m = jumps (slice_get flat.targets id) n m
 jumps_by flat _ m = Fails
 
 abbrev pub skips : Bool → ℕ → Machine → Moved
-skips true to m = Goes (record m { place = to })
+skips true to m = Goes (record m { pc = to })
 skips false to m = Fails
 
 -- calls
 
--- how many more calls may be open
+-- the number of further calls that can be open
 abbrev pub room_of : List Frame → ℕ
 room_of frames = MOST_CALLS - 1 - length frames
 
@@ -104,10 +104,10 @@ taking (Some a) go = go a.0 a.1
 abbrev pub enters : ℕ → Function → ℕ → List Value → List Value → Machine → Moved
 enters zero f entry args under m = Traps CallDepth m.state.meter
 enters (suc room) f entry args under m = Goes (record {
-  place = entry;
+  pc = entry;
   operands = under;
   state = record m.state { locals = start_locals f args };
-  frames = (record { place = m.place + 1; locals = m.state.locals }) ∷ m.frames;
+  frames = (record { pc = m.pc + 1; locals = m.state.locals }) ∷ m.frames;
 })
 
 abbrev pub calls_own : Option Function → Option ℕ → FuncType → Machine → Moved
@@ -118,13 +118,13 @@ calls_own (Some f) (Some entry) t m = taking (arguments (length t.params) [] m.o
 abbrev pub asks : FuncType → ℕ → Machine → Moved
 asks t f m = taking (arguments (length t.params) [] m.operands) (λ args under. Asks f (map number_of args) (result_of t) (on_with under m))
 
--- the call of a function of the type: an import, or one of the module's own
+-- the call of a function of the type, an import or a function of the module
 abbrev pub calls : Module → FlatCode → Bool → Option FuncType → ℕ → Machine → Moved
 calls source flat imported None f m = Fails
 calls source flat true (Some t) f m = asks t f m
 calls source flat false (Some t) f m = calls_own (slice_get source.functions (f - length source.imports)) (slice_get flat.entries (f - length source.imports)) t m
 
--- the call of the function of this index
+-- the call of the function of the index
 abbrev pub calls_at : Module → FlatCode → ℕ → Machine → Moved
 calls_at source flat f m = calls source flat (is_import source f) (function_type source f) f m
 
@@ -151,9 +151,9 @@ asks_from_outside (Some t) f m = asks t f m
 
 abbrev pub returns : List Frame → Machine → Moved
 returns [] m = Ends m.operands m.state.meter
-returns (f ∷ fs) m = Goes (record { place = f.place; operands = m.operands; state = record m.state { locals = f.locals }; frames = fs })
+returns (f ∷ fs) m = Goes (record { pc = f.pc; operands = m.operands; state = record m.state { locals = f.locals }; frames = fs })
 
--- the steps that are not paid for
+-- the steps that are free of charge
 
 abbrev pub is_free : Step → Bool
 is_free (step.Skip to) = true
@@ -162,23 +162,23 @@ is_free step.End = true
 is_free _ = false
 
 abbrev pub passes : Module → Step → Machine → Moved
-passes source (step.Skip to) m = skips (nat_lt m.place to) to m
+passes source (step.Skip to) m = skips (nat_lt m.pc to) to m
 passes source (step.Import f) m = asks_from_outside (function_type source f) f m
 passes source step.End m = returns m.frames m
 passes source _ m = Fails
 
--- the steps that are, once they are paid for
+-- the other steps, once they are charged
 
 abbrev pub executes : Module → FlatCode → Step → Machine → Moved
 executes source flat (step.Plain p) m = affects (effect_of p m.operands m.state.locals m.state.store) m
 executes source flat step.Unreachable m = Traps Unreachable m.state.meter
 executes source flat step.Pass m = Goes (on_with m.operands m)
-executes source flat (step.Unless to) m = pop Fails I32 m.operands (λ n ops. Goes (record m { place = at_zero n to (m.place + 1); operands = ops }))
+executes source flat (step.Unless to) m = pop Fails I32 m.operands (λ n ops. Goes (record m { pc = at_zero n to (m.pc + 1); operands = ops }))
 executes source flat (step.Jump id n) m = jumps (slice_get flat.targets id) n m
 executes source flat (step.JumpIf id n) m =
     pop Fails I32 m.operands (λ v ops. at_zero v (Goes (on_with ops m)) (jumps (slice_get flat.targets id) n (record m { operands = ops })))
 executes source flat (step.Table count) m =
-    pop Fails I32 m.operands (λ v ops. jumps_by flat (slice_get flat.steps (m.place + 1 + min v count)) (record m { operands = ops }))
+    pop Fails I32 m.operands (λ v ops. jumps_by flat (slice_get flat.steps (m.pc + 1 + min v count)) (record m { operands = ops }))
 executes source flat (step.Call f) m = calls_at source flat f m
 executes source flat (step.CallIndirect t) m = pop Fails I32 m.operands (λ v ops. calls_indirect source flat (slice_get source.types t) v (record m { operands = ops }))
 executes source flat _ m = Fails
@@ -192,8 +192,8 @@ moves source flat None m = Fails
 moves source flat (Some i) m = moves_if (is_free i) source flat i m
 
 abbrev pub move : Module → FlatCode → Machine → Moved
-move source flat m = moves source flat (slice_get flat.steps m.place) m
+move source flat m = moves source flat (slice_get flat.steps m.pc) m
 
--- goes on with an answer, the memory's bytes and the budget after it
+-- goes on with an import's result, and the memory and budget after the import's call
 abbrev pub resumed : BlockType → ℕ → List ℕ → Meter → Machine → Machine
 resumed r v bytes b m = record m { operands = answered r v ++ m.operands; state = record m.state { store = with_bytes bytes m.state.store; meter = b } }

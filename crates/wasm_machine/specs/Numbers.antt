@@ -1,4 +1,4 @@
--- Operands of the two types, and locals (own).
+-- Types of the topmost operands, and initial values of locals (own).
 use Rattle.std.specs.Prelude.{◌≡◌, List, [], ◌∷◌, replicate}
 use Rattle.std.specs.List.{flat_map}
 use Rattle.wasm_spec.specs.declared.module.Locals.{Locals}
@@ -16,11 +16,11 @@ HasTop I32 (value.I64 n ∷ ops) = ⊥
 HasTop I64 (value.I32 n ∷ ops) = ⊥
 HasTop I64 (value.I64 n ∷ ops) = Unit {0}
 
--- the two topmost operands have the types, the topmost the first
+-- the topmost operand has the first type, the one under it the second
 abbrev pub HasPair : ValueType → ValueType → List Value → Type 0
 HasPair t u [] = ⊥
 HasPair t u (v ∷ ops) = (type_of v ≡ t) × HasTop u ops
 
--- what a function's own locals begin with
+-- the initial values of a function's own locals
 abbrev pub first_locals : List Locals → List Value
 first_locals = flat_map (λ (l : Locals). replicate l.count (zero_of l.value_type))

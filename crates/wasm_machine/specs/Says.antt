@@ -1,4 +1,4 @@
--- What an event says of a run (own).
+-- The machine's pauses against a run (own).
 use Rattle.std.specs.Prelude.{◌≡◌, ℕ, ◌<◌, ◌+◌, ◌-◌, ◌*◌, length, slice_get}
 use Rattle.wasm_spec.specs.declared.module.Module.{Module}
 use Rattle.wasm_spec.specs.Runs.{Run, Normal, Branch, Return, Trap, Spent, Stuck, Ask}
@@ -8,7 +8,7 @@ use Rattle.wasm_machine.specs.declared.run.Paused.TheVariants as paused
 use Rattle.wasm_machine.specs.Machine.{Machine}
 use Rattle.wasm_machine.specs.Behaves.{Waits}
 
--- The run comes to this, with this budget, and the machine waits for an answer where it asks for one.
+-- The run pauses or ends so, with this budget. At a call of an import the machine waits for its result.
 abbrev pub Says : Module → FlatCode → Run → Paused → Machine → Type 0
 Says source flat (Normal ops s) (paused.Done o) m = (o ≡ slice_get ops 0) × (m.state.meter ≡ s.meter)
 Says source flat (Normal ops s) _ m = ⊥
@@ -23,11 +23,11 @@ Says source flat (Branch k ops s) _ m = ⊥
 Says source flat (Return ops s) _ m = ⊥
 Says source flat Stuck _ m = ⊥
 
--- what is left to do, at most
+-- a measure of the work that is left
 abbrev pub work_of : FlatCode → Machine → ℕ
-work_of flat m = (m.state.left * 2 + length m.frames) * (length flat.steps + 1) + (length flat.steps - m.place)
+work_of flat m = (m.state.left * 2 + length m.frames) * (length flat.steps + 1) + (length flat.steps - m.pc)
 
--- there is less to do after the call of an import
+-- at a call of an import less work is left than before
 abbrev pub IsLess : FlatCode → Paused → Machine → Machine → Type 0
 IsLess flat (paused.HostCall f vs r) old new = work_of flat new < work_of flat old
 IsLess flat (paused.Done o) old new = Unit {0}

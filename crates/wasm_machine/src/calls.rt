@@ -1,22 +1,22 @@
-//! Calls.
+//! Calls of functions and imports.
 
 ghost use Rattle.std.specs.Prelude.{◌≡◌, ◌<◌, ◌≤◌, ◌^◌, ◌++◌, false, map, length, replicate, IfOk, OnOk, Some};
 ghost use Rattle.wasm_spec.specs.Typing.{function_type};
 ghost use Rattle.wasm_spec.specs.Stores.{number_of, zero_of};
 ghost use Rattle.wasm_spec.specs.Meaning.{same_types, same_function_type, is_import, start_locals};
 ghost use Rattle.wasm_machine.specs.Machine.{asks, calls_own, calls, calls_at, calls_typed, calls_element, calls_indirect, asks_from_outside};
-ghost use Rattle.wasm_machine.specs.Running.{CanMove, Moves};
+ghost use Rattle.wasm_machine.specs.MachineState.{CanMove, Moves};
 
 use crate::frames::Waiting;
-use crate::machine::{Outcome, Running};
+use crate::machine::{MachineState, Outcome};
 use std::alloc::{AllocError, Global};
 use wasm_code::{FlatCode, function_type};
 use wasm_spec::{FuncType, Function, Locals, Module, TrapKind, Value, ValueType};
 
-/// The most calls that may be open at once, the one that runs included.
+/// The largest number of open calls, the running one included.
 const MOST_CALLS: usize = 512;
 
-/// The number of a value.
+/// Returns the value as an unsigned number.
 fn number_of(value: Value) -> u64
     ensures { result ≡ number_of value }
 {
@@ -26,7 +26,7 @@ fn number_of(value: Value) -> u64
     }
 }
 
-/// What a local of the type begins with.
+/// Returns the initial value of a local of the type.
 fn zero_of(value_type: ValueType) -> Value
     ensures { result ≡ zero_of value_type }
 {
@@ -36,14 +36,14 @@ fn zero_of(value_type: ValueType) -> Value
     }
 }
 
-/// The numbers of the values.
+/// Returns the values as unsigned numbers.
 fn numbers(alloc: Global, values: &[Value]) -> Result<Vec<u64>, AllocError>
     ensures { IfOk result (λ numbers. numbers.items ≡ map number_of values.now) }
 {
     values.iter().map(|value| number_of(*value)).collect(alloc)
 }
 
-/// Adds so many locals of a type.
+/// Pushes the initial values of a group of locals.
 fn push_zeros(locals: &mut Vec<Value>, group: Locals) -> Result<(), AllocError>
     ensures { OnOk result (locals.new.items ≡ locals.old.items ++ replicate group.count (zero_of group.value_type)) }
 {
@@ -53,7 +53,7 @@ fn push_zeros(locals: &mut Vec<Value>, group: Locals) -> Result<(), AllocError>
     Ok(())
 }
 
-/// Adds a function's own locals to its arguments.
+/// Pushes the initial values of a function's own locals behind its arguments.
 pub fn add_locals(locals: &mut Vec<Value>, function: &Function) -> Result<(), AllocError>
     ensures { OnOk result (locals.new.items ≡ start_locals function.now locals.old.items) }
 {
@@ -63,14 +63,14 @@ pub fn add_locals(locals: &mut Vec<Value>, function: &Function) -> Result<(), Al
     Ok(())
 }
 
-/// Whether these types are the same.
+/// Returns whether two lists of value types are equal.
 pub fn same_types(left: &[ValueType], right: &[ValueType]) -> bool
     ensures { result ≡ same_types left.now right.now }
 {
     left == right
 }
 
-/// Whether two functions take and give the same.
+/// Returns whether two function types are equal.
 fn same_function_type(left: &FuncType, right: &FuncType) -> bool
     ensures { result ≡ same_function_type left.now right.now }
 {
@@ -78,7 +78,7 @@ fn same_function_type(left: &FuncType, right: &FuncType) -> bool
         && same_types(left.results.as_slice(), right.results.as_slice())
 }
 
-/// Whether the function of this index is an import.
+/// Returns whether the function of the index is an import.
 pub fn is_import(source: &Module, function_index: u32) -> bool
     ensures { result ≡ is_import source.now function_index }
 {
@@ -89,20 +89,20 @@ pub fn is_import(source: &Module, function_index: u32) -> bool
         .is_some()
 }
 
-/// The call of an import, which waits for its answer.
+/// Pauses the run at a call of an import.
 fn ask(
-    machine: &mut Running,
+    machine: &mut MachineState,
     function_index: u32,
     func_type: &FuncType,
 ) -> Result<Outcome, AllocError>
-    requires place { machine.old.place < 2 ^ 63 }
+    requires pc { machine.old.pc < 2 ^ 63 }
     requires moves { CanMove (asks func_type.now function_index) machine.old }
     ensures { IfOk result (λ o. Moves (asks func_type.now function_index) machine.old o machine.new) }
 {
     let args = machine
         .operands
         .take_arguments(func_type.params.as_slice().len())?;
-    machine.place += 1;
+    machine.pc += 1;
     let words = numbers(*args.allocator(), &args)?;
     Ok(Outcome::Asks(
         function_index,
@@ -111,14 +111,14 @@ fn ask(
     ))
 }
 
-/// The call of a function of the module's own.
+/// Enters a function of the module, or traps if too many calls are open.
 fn enter(
-    machine: &mut Running,
+    machine: &mut MachineState,
     function: &Function,
     entry: usize,
     func_type: &FuncType,
 ) -> Result<Outcome, AllocError>
-    requires place { machine.old.place < 2 ^ 63 }
+    requires pc { machine.old.pc < 2 ^ 63 }
     requires moves { CanMove (calls_own (Some function.now) (Some entry) func_type.now) machine.old }
     ensures { IfOk result (λ o. Moves (calls_own (Some function.now) (Some entry) func_type.now) machine.old o machine.new) }
 {
@@ -130,24 +130,24 @@ fn enter(
     }
     add_locals(&mut locals, function)?;
     let waiting = Waiting {
-        place: machine.place + 1,
+        pc: machine.pc + 1,
         locals: std::mem::replace(&mut machine.locals, locals),
     };
     machine.frames.push(waiting)?;
-    machine.place = entry;
+    machine.pc = entry;
     Ok(Outcome::Goes)
 }
 
-/// The call of a function of this type that is not an import.
+/// Calls a function of the module.
 fn call_own(
     source: &Module,
     code: &FlatCode,
-    machine: &mut Running,
+    machine: &mut MachineState,
     function_index: u32,
     func_type: &FuncType,
 ) -> Result<Outcome, AllocError>
     requires own { length source.now.imports ≤ function_index }
-    requires place { machine.old.place < 2 ^ 63 }
+    requires pc { machine.old.pc < 2 ^ 63 }
     requires moves { CanMove (calls source.now code.now false (Some func_type.now) function_index) machine.old }
     ensures { IfOk result (λ o. Moves (calls source.now code.now false (Some func_type.now) function_index) machine.old o machine.new) }
 {
@@ -161,15 +161,15 @@ fn call_own(
     }
 }
 
-/// The call of a function of this type.
+/// Calls a function, whose type is `func_type`.
 fn call_of_type(
     source: &Module,
     code: &FlatCode,
-    machine: &mut Running,
+    machine: &mut MachineState,
     function_index: u32,
     func_type: &FuncType,
 ) -> Result<Outcome, AllocError>
-    requires place { machine.old.place < 2 ^ 63 }
+    requires pc { machine.old.pc < 2 ^ 63 }
     requires moves { CanMove (calls source.now code.now (is_import source.now function_index) (Some func_type.now) function_index) machine.old }
     ensures { IfOk result (λ o. Moves (calls source.now code.now (is_import source.now function_index) (Some func_type.now) function_index) machine.old o machine.new) }
 {
@@ -180,14 +180,14 @@ fn call_of_type(
     }
 }
 
-/// The call of the function of this index.
+/// Calls the function of the index.
 pub fn call(
     source: &Module,
     code: &FlatCode,
-    machine: &mut Running,
+    machine: &mut MachineState,
     function_index: u32,
 ) -> Result<Outcome, AllocError>
-    requires place { machine.old.place < 2 ^ 63 }
+    requires pc { machine.old.pc < 2 ^ 63 }
     requires moves { CanMove (calls_at source.now code.now function_index) machine.old }
     ensures { IfOk result (λ o. Moves (calls_at source.now code.now function_index) machine.old o machine.new) }
 {
@@ -197,15 +197,15 @@ pub fn call(
     }
 }
 
-/// The call of a function that has this type, if it is the type wanted.
+/// Calls a function for `call_indirect`, or traps if its type is not `wanted`. Types are compared by structure.
 fn call_typed(
     source: &Module,
     code: &FlatCode,
-    machine: &mut Running,
+    machine: &mut MachineState,
     function_index: u32,
     wanted: &FuncType,
 ) -> Result<Outcome, AllocError>
-    requires place { machine.old.place < 2 ^ 63 }
+    requires pc { machine.old.pc < 2 ^ 63 }
     requires moves { CanMove (calls_typed source.now code.now wanted.now (function_type source.now function_index) function_index) machine.old }
     ensures { IfOk result (λ o. Moves (calls_typed source.now code.now wanted.now (function_type source.now function_index) function_index) machine.old o machine.new) }
 {
@@ -221,15 +221,15 @@ fn call_typed(
     }
 }
 
-/// The call of an element of the table that is there.
+/// Calls the function that a table element holds, or traps if the element is empty.
 fn call_element(
     source: &Module,
     code: &FlatCode,
-    machine: &mut Running,
+    machine: &mut MachineState,
     element: Option<u32>,
     wanted: &FuncType,
 ) -> Result<Outcome, AllocError>
-    requires place { machine.old.place < 2 ^ 63 }
+    requires pc { machine.old.pc < 2 ^ 63 }
     requires moves { CanMove (calls_element source.now code.now wanted.now (Some element)) machine.old }
     ensures { IfOk result (λ o. Moves (calls_element source.now code.now wanted.now (Some element)) machine.old o machine.new) }
 {
@@ -239,15 +239,15 @@ fn call_element(
     }
 }
 
-/// The call of an element of the table, as a function of the type wanted.
+/// Calls the function of the table element of the index, whose type has to be `wanted`.
 pub fn call_indirect(
     source: &Module,
     code: &FlatCode,
-    machine: &mut Running,
+    machine: &mut MachineState,
     index: u32,
     wanted: &FuncType,
 ) -> Result<Outcome, AllocError>
-    requires place { machine.old.place < 2 ^ 63 }
+    requires pc { machine.old.pc < 2 ^ 63 }
     requires moves { CanMove (calls_indirect source.now code.now (Some wanted.now) index) machine.old }
     ensures { IfOk result (λ o. Moves (calls_indirect source.now code.now (Some wanted.now) index) machine.old o machine.new) }
 {
@@ -257,13 +257,13 @@ pub fn call_indirect(
     }
 }
 
-/// The call of an import from outside.
+/// Calls an import that the module exports, from outside the module.
 pub fn call_import(
     source: &Module,
-    machine: &mut Running,
+    machine: &mut MachineState,
     function_index: u32,
 ) -> Result<Outcome, AllocError>
-    requires place { machine.old.place < 2 ^ 63 }
+    requires pc { machine.old.pc < 2 ^ 63 }
     requires moves { CanMove (asks_from_outside (function_type source.now function_index) function_index) machine.old }
     ensures { IfOk result (λ o. Moves (asks_from_outside (function_type source.now function_index) function_index) machine.old o machine.new) }
 {

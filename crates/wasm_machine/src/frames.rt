@@ -1,4 +1,4 @@
-//! The calls that wait for another's end.
+//! The stack of waiting calls.
 
 ghost use Rattle.std.specs.Prelude.{◌≡◌, [], ◌∷◌, length, OnOk, OnErr, IfSome, IfNone};
 ghost use Rattle.wasm_machine.specs.Frames.{frame_of};
@@ -7,14 +7,14 @@ use std::alloc::{AllocError, Global};
 use std::marker::Model;
 use wasm_spec::Value;
 
-/// A call that waits: where it goes on, and its locals.
+/// A call that waits for its callee: the index of the step behind the call, and its locals.
 #[derive(Drop)]
 pub struct Waiting {
-    pub place: usize,
+    pub pc: usize,
     pub locals: Vec<Value>,
 }
 
-/// The calls that wait: contracts see them as a list, the last one first.
+/// The stack of waiting calls. Contracts see it as a list, the innermost call first.
 #[derive(Drop)]
 pub struct Frames {
     calls: Vec<Waiting>,
@@ -32,7 +32,7 @@ impl Model for Frames {
 }
 
 impl Frames {
-    /// No call waits.
+    /// Makes an empty stack.
     pub fn new(alloc: Global) -> Self
         ensures { result ≡ [] }
     {
@@ -41,14 +41,14 @@ impl Frames {
         }
     }
 
-    /// How many calls wait.
+    /// Returns the number of waiting calls.
     pub fn count(&self) -> usize
         ensures { result ≡ length self.now }
     {
         self.calls.len()
     }
 
-    /// A call waits for the one that it made.
+    /// Pushes a call that waits for its callee.
     pub fn push(&mut self, call: Waiting) -> Result<(), AllocError>
         ensures ok { OnOk result (self.new ≡ frame_of call ∷ self.old) }
         ensures err { OnErr result (self.new ≡ self.old) }
@@ -57,7 +57,7 @@ impl Frames {
         Ok(())
     }
 
-    /// The call that waited last, if one waits.
+    /// Pops the innermost waiting call, if there is one.
     pub fn pop(&mut self) -> Option<Waiting>
         ensures some { IfSome result (λ call. self.old ≡ frame_of call ∷ self.new) }
         ensures none { IfNone result ((self.old ≡ []) × (self.new ≡ [])) }

@@ -1,4 +1,4 @@
-//! Runs of WebAssembly code (core section 4), paid for from a budget.
+//! A machine that runs the flat code of WebAssembly functions (core section 4) and charges a budget for it.
 #![tactic(auto)]
 
 mod calls;
@@ -15,7 +15,7 @@ mod store;
 pub use calls::{add_locals, call, call_import, call_indirect, is_import, same_types};
 pub use frames::{Frames, Waiting};
 pub use jumps::{jump, leave};
-pub use machine::{Outcome, Running};
+pub use machine::{MachineState, Outcome};
 pub use operands::{Operands, put_numbers};
 pub use payment::pay;
 pub use run::{Paused, run as go_on};

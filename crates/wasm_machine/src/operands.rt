@@ -1,4 +1,4 @@
-//! The operands of all open calls.
+//! The operand stack of all open calls.
 
 ghost use Rattle.std.specs.Prelude.{◌≡◌, ◌<◌, ◌≤◌, List, [], ◌∷◌, ◌++◌, drop, length, map, reverse, slice_get, Some, IsSome, OnOk, OnErr, IfOk};
 ghost use Rattle.wasm_spec.specs.declared.values.Value.{Value as Value_};
@@ -13,7 +13,7 @@ use std::alloc::{AllocError, Global};
 use std::marker::Model;
 use wasm_spec::{Value, ValueType};
 
-/// A stack of values: contracts see it as the list of them, the topmost first.
+/// A stack of values. Contracts see it as a list, the topmost value first.
 #[derive(Drop)]
 pub struct Operands {
     values: Vec<Value>,
@@ -28,7 +28,7 @@ impl Model for Operands {
     ghost view = { λ o. reverse o.values.items };
 }
 
-/// Puts these numbers in place of the first values.
+/// Replaces the first values by these numbers, as `i64`.
 pub fn put_numbers(values: &mut [Value], numbers: &[u64])
     requires { length numbers.now ≤ length values.old }
     ensures { values.new ≡ map value.I64 numbers.now ++ drop (length numbers.now) values.old }
@@ -39,7 +39,7 @@ pub fn put_numbers(values: &mut [Value], numbers: &[u64])
 }
 
 impl Operands {
-    /// No operands.
+    /// Makes an empty stack.
     pub fn new(alloc: Global) -> Self
         ensures { result ≡ [] }
     {
@@ -48,14 +48,14 @@ impl Operands {
         }
     }
 
-    /// These values, the last one the topmost. Takes no memory.
+    /// Makes a stack of these values, the last one the topmost. Allocates no memory.
     pub fn from_vec(values: Vec<Value>) -> Self
         ensures { result ≡ reverse values.items }
     {
         Operands { values }
     }
 
-    /// Adds an operand.
+    /// Pushes an operand.
     pub fn push(&mut self, value: Value) -> Result<(), AllocError>
         ensures ok { OnOk result (self.new ≡ value ∷ self.old) }
         ensures err { OnErr result (self.new ≡ self.old) }
@@ -64,7 +64,7 @@ impl Operands {
         Ok(())
     }
 
-    /// Takes the last operand; there is one.
+    /// Pops the topmost operand.
     pub fn pop(&mut self) -> Value
         requires { 0 < length self.old }
         ensures { self.old ≡ result ∷ self.new }
@@ -75,14 +75,14 @@ impl Operands {
         }
     }
 
-    /// The topmost value.
+    /// Returns the topmost operand, if there is one.
     pub fn top(&self) -> Option<Value>
         ensures { result ≡ slice_get self.now 0 }
     {
         self.values.last().copied()
     }
 
-    /// Puts another value in place of the topmost.
+    /// Replaces the topmost operand.
     pub fn replace(&mut self, value: Value)
         requires { 0 < length self.old }
         ensures { (v : Value_) (below : List Value_) → self.old ≡ v ∷ below → self.new ≡ value ∷ below }
@@ -91,7 +91,7 @@ impl Operands {
         self.values[top] = value;
     }
 
-    /// Puts these numbers in place of all values, as the last one the topmost.
+    /// Replaces all operands by these numbers, as `i64`. The last number becomes the topmost.
     pub fn replace_all(&mut self, numbers: &[u64])
         requires { length self.old ≡ length numbers.now }
         ensures { self.new ≡ reverse (map value.I64 numbers.now) }
@@ -99,7 +99,7 @@ impl Operands {
         put_numbers(&mut self.values, numbers);
     }
 
-    /// The topmost number, which has 32 bits.
+    /// Pops the topmost operand, which is an `i32`.
     pub fn pop32(&mut self) -> u32
         requires { HasTop I32 self.old }
         ensures { self.old ≡ value.I32 result ∷ self.new }
@@ -110,7 +110,7 @@ impl Operands {
         }
     }
 
-    /// The topmost number, which has 64 bits.
+    /// Pops the topmost operand, which is an `i64`.
     pub fn pop64(&mut self) -> u64
         requires { HasTop I64 self.old }
         ensures { self.old ≡ value.I64 result ∷ self.new }
@@ -121,7 +121,7 @@ impl Operands {
         }
     }
 
-    /// Takes so many of the topmost away.
+    /// Removes the `count` topmost operands.
     pub fn remove(&mut self, count: usize)
         requires { IsSome (removed count self.old) }
         ensures { removed count self.old ≡ Some self.new }
@@ -129,7 +129,7 @@ impl Operands {
         self.values.truncate(self.values.len() - count);
     }
 
-    /// Takes so many away from under the value that is carried.
+    /// Removes `count` operands under the one that a branch carries, if it carries one.
     pub fn cut(&mut self, carried: Option<ValueType>, count: usize)
         requires { IsSome (cut carried count self.old) }
         ensures { cut carried count self.old ≡ Some self.new }
@@ -144,7 +144,7 @@ impl Operands {
         }
     }
 
-    /// Takes so many of the topmost away, the first pushed first.
+    /// Pops the `count` topmost operands and returns them in the order in which they were pushed.
     pub fn take_arguments(&mut self, count: usize) -> Result<Vec<Value>, AllocError>
         requires { IsSome (arguments count [] self.old) }
         ensures { IfOk result (λ args. arguments count [] self.old ≡ Some (args.items, self.new)) }

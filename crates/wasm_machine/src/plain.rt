@@ -1,4 +1,4 @@
-//! Instructions that go on to the next one or trap.
+//! Instructions without control flow: the next instruction follows, or they trap.
 
 ghost use Rattle.std.specs.Prelude.{◌≡◌, ◌≢◌, ◌<◌, ◌^◌, ◌∷◌, List, slice_get, IfOk, OnOk, IfSome, Some, None};
 ghost use Rattle.wasm_spec.specs.Integers.{width};
@@ -12,16 +12,16 @@ ghost use Rattle.wasm_spec.specs.declared.instructions.Plain.TheVariants as op;
 ghost use Rattle.wasm_spec.specs.Effects.{effect_of, numeric_effect, gives};
 ghost use Rattle.wasm_num.specs.Operands.{operand_type, FitsResult};
 ghost use Rattle.wasm_machine.specs.Numbers.{HasTop, HasPair};
-ghost use Rattle.wasm_machine.specs.Running.{CanApply, IsEffect};
+ghost use Rattle.wasm_machine.specs.MachineState.{CanApply, IsEffect};
 
 use crate::operands::Operands;
 use crate::store::Store;
 use std::alloc::AllocError;
 use wasm_code::{converted_from, converted_to, load_type, store_type};
 use wasm_num::{load, numeric};
-use wasm_spec::{Load, MemArg, Numeric, Plain, TrapKind, Value, ValueType};
+use wasm_spec::{LoadKind, MemArg, Numeric, Plain, TrapKind, Value, ValueType};
 
-/// The value of a number of this type.
+/// Returns the number as a value of the type.
 fn value_of(value_type: ValueType, number: u64) -> Value
     requires { number < 2 ^ width value_type }
     ensures { result ≡ value_of value_type number }
@@ -32,7 +32,7 @@ fn value_of(value_type: ValueType, number: u64) -> Value
     }
 }
 
-/// Takes the topmost operand, which has the type.
+/// Pops the topmost operand, which has the type.
 fn pop_number(operands: &mut Operands, value_type: ValueType) -> u64
     requires { HasTop value_type operands.old }
     ensures number { operands.old ≡ value_of value_type result ∷ operands.new }
@@ -44,7 +44,7 @@ fn pop_number(operands: &mut Operands, value_type: ValueType) -> u64
     }
 }
 
-/// The type of what a numeric instruction gives.
+/// Returns the result type of a numeric instruction.
 fn given_type(operation: Numeric) -> ValueType
     ensures { (numeric_signature operation).gives ≡ Some result }
 {
@@ -57,7 +57,7 @@ fn given_type(operation: Numeric) -> ValueType
     }
 }
 
-/// Gives what a numeric instruction came to.
+/// Pushes the result of a numeric instruction, or returns its trap if it has no result.
 fn give(
     operation: Numeric,
     number: Option<u64>,
@@ -75,7 +75,7 @@ fn give(
     }
 }
 
-/// A numeric instruction with one operand.
+/// Executes a numeric instruction with one operand.
 fn apply_one(
     operation: Numeric,
     operand: ValueType,
@@ -89,9 +89,9 @@ fn apply_one(
     give(operation, numeric(operation, number, 0), operands)
 }
 
-/// A load.
+/// Executes a load.
 fn apply_load(
-    kind: Load,
+    kind: LoadKind,
     argument: MemArg,
     operands: &mut Operands,
     store: &Store,
@@ -109,7 +109,7 @@ fn apply_load(
     }
 }
 
-/// A numeric instruction with two operands of one type.
+/// Executes a numeric instruction with two operands of one type.
 fn apply_two(
     operation: Numeric,
     operand: ValueType,
@@ -124,9 +124,9 @@ fn apply_two(
     give(operation, numeric(operation, first, second), operands)
 }
 
-/// A store.
+/// Executes a store.
 fn apply_store(
-    kind: wasm_spec::Store,
+    kind: wasm_spec::StoreKind,
     argument: MemArg,
     operands: &mut Operands,
     store: &mut Store,
@@ -142,7 +142,7 @@ fn apply_store(
     }
 }
 
-/// A numeric instruction.
+/// Executes a numeric instruction.
 fn apply_numeric(
     operation: Numeric,
     operands: &mut Operands,
@@ -161,7 +161,7 @@ fn apply_numeric(
     }
 }
 
-/// Chooses between the two values under a number.
+/// Executes `select`.
 fn apply_select(operands: &mut Operands) -> Result<(), AllocError>
     requires { (locals : List Operand) × (store : Contents) × CanApply (effect_of op.Select operands.old locals store) }
     ensures { OnOk result ((locals : List Operand) (store : Contents) → IsEffect (effect_of op.Select operands.old locals store) None operands.new locals store) }
@@ -176,15 +176,14 @@ fn apply_select(operands: &mut Operands) -> Result<(), AllocError>
     }
 }
 
-/// The local of this index.
+/// Returns the local of the index, if there is one.
 fn local_at(locals: &[Value], index: u32) -> Option<Value>
     ensures { result ≡ slice_get locals.now index }
 {
     locals.get(index as usize).copied()
 }
 
-/// What a plain instruction that takes no new memory does with the operands, the locals and the
-/// store, or why it traps.
+/// Executes a plain instruction other than `memory.grow`. Returns the trap if it traps.
 pub fn apply(
     plain: Plain,
     operands: &mut Operands,

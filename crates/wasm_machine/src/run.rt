@@ -1,35 +1,36 @@
-//! Runs up to the next call of an import.
+//! Runs up to their end or to the next call of an import.
 
 ghost use Rattle.std.specs.Prelude.{◌≡◌, slice_get, IfOk, OnOk};
 ghost use Rattle.wasm_spec.specs.Runs.{Run};
 ghost use Rattle.wasm_machine.specs.Behaves.{Behaves};
-ghost use Rattle.wasm_machine.specs.Running.{machine_of};
+ghost use Rattle.wasm_machine.specs.MachineState.{machine_of};
 ghost use Rattle.wasm_machine.specs.Says.{Says, IsLess};
 ghost use Rattle.wasm_machine.specs.Spending.{IsLater};
 
-use crate::machine::{Outcome, Running};
+use crate::machine::{MachineState, Outcome};
 use crate::step::step;
 use budget_meter::Budget;
 use std::alloc::AllocError;
 use wasm_code::FlatCode;
 use wasm_spec::{Module, TrapKind, Value, ValueType};
 
-/// What a run comes to.
+/// Why a run paused or ended.
 #[derive(Drop)]
 pub enum Paused {
-    /// The end, with the topmost operand.
+    /// The outermost call returned. The topmost operand is its result.
     Done(Option<Value>),
-    /// The call of an import, which waits for an answer of this type.
+    /// The run called the import of this index with these arguments and waits for its result, which has this type.
     HostCall(u32, Vec<u64>, Option<ValueType>),
     Trap(TrapKind),
+    /// The budget cannot pay for the next instruction.
     Spent,
 }
 
-/// Goes on as far as the budget allows: to the run's end, or to the next call of an import.
+/// Runs to the end, to the next call of an import, or until the budget is spent.
 pub fn run(
     source: &Module,
     code: &FlatCode,
-    machine: &mut Running,
+    machine: &mut MachineState,
     budget: &mut Budget,
 ) -> Result<Paused, AllocError>
     requires { (r : Run) × Behaves source.now code.now (machine_of machine.old budget.old) r }

@@ -1,15 +1,15 @@
-//! One step.
+//! One step of the machine.
 
 ghost use Rattle.std.specs.Prelude.{◌≡◌, ◌≢◌, ◌<◌, ◌^◌, ◌∷◌, slice_get, IfOk, Some};
 ghost use Rattle.wasm_spec.specs.declared.instructions.Plain.TheVariants as op;
 ghost use Rattle.wasm_spec.specs.Effects.{effect_of};
 ghost use Rattle.wasm_machine.specs.Machine.{Fails, affects, executes, passes, is_free, jumps_by, pays, moves, move};
 ghost use Rattle.wasm_code.specs.declared.step.Step.TheVariants as flat;
-ghost use Rattle.wasm_machine.specs.Running.{IsMove, machine_of, CanMove, Moves};
+ghost use Rattle.wasm_machine.specs.MachineState.{IsMove, machine_of, CanMove, Moves};
 
 use crate::calls::{call, call_import, call_indirect};
 use crate::jumps::{jump, leave};
-use crate::machine::{Outcome, Running};
+use crate::machine::{MachineState, Outcome};
 use crate::payment::pay;
 use crate::plain::apply;
 use crate::store::PAGE_BYTES;
@@ -18,16 +18,16 @@ use std::alloc::AllocError;
 use wasm_code::{FlatCode, Step, type_at};
 use wasm_spec::{Module, Plain, TrapKind, Value};
 
-/// Whether the step is not paid for.
+/// Returns whether the step is free of charge.
 fn is_free(step: Step) -> bool
     ensures { result ≡ is_free step }
 {
     matches!(step, Step::Skip(_) | Step::Import(_) | Step::End)
 }
 
-/// New pages, if there may be so many, and if the budget allows it.
-fn grow(machine: &mut Running, budget: &mut Budget) -> Result<Outcome, AllocError>
-    requires place { machine.old.place < 2 ^ 63 }
+/// Executes `memory.grow`. A growth past the memory's largest size fails without a charge.
+fn grow(machine: &mut MachineState, budget: &mut Budget) -> Result<Outcome, AllocError>
+    requires pc { machine.old.pc < 2 ^ 63 }
     requires moves { affects (effect_of op.MemoryGrow machine.old.operands machine.old.locals.items machine.old.store) (machine_of machine.old budget.old) ≢ Fails }
     ensures { IfOk result (λ o. IsMove (affects (effect_of op.MemoryGrow machine.old.operands machine.old.locals.items machine.old.store) (machine_of machine.old budget.old)) o (machine_of machine.new budget.new)) }
 {
@@ -35,7 +35,7 @@ fn grow(machine: &mut Running, budget: &mut Budget) -> Result<Outcome, AllocErro
     let pages = machine.store.pages();
     if u64::from(pages) + u64::from(more) > u64::from(machine.store.most_pages()) {
         machine.operands.push(Value::I32(u32::MAX))?;
-        machine.place += 1;
+        machine.pc += 1;
         return Ok(Outcome::Goes);
     }
     if budget
@@ -46,13 +46,13 @@ fn grow(machine: &mut Running, budget: &mut Budget) -> Result<Outcome, AllocErro
     }
     machine.store.grow(more)?;
     machine.operands.push(Value::I32(pages))?;
-    machine.place += 1;
+    machine.pc += 1;
     Ok(Outcome::Goes)
 }
 
-/// A plain instruction that takes no new memory.
-fn go_on(machine: &mut Running, budget: &Budget, plain: Plain) -> Result<Outcome, AllocError>
-    requires place { machine.old.place < 2 ^ 63 }
+/// Executes a plain instruction other than `memory.grow`.
+fn go_on(machine: &mut MachineState, budget: &Budget, plain: Plain) -> Result<Outcome, AllocError>
+    requires pc { machine.old.pc < 2 ^ 63 }
     requires other { plain ≢ op.MemoryGrow }
     requires moves { affects (effect_of plain machine.old.operands machine.old.locals.items machine.old.store) (machine_of machine.old budget.now) ≢ Fails }
     ensures { IfOk result (λ o. IsMove (affects (effect_of plain machine.old.operands machine.old.locals.items machine.old.store) (machine_of machine.old budget.now)) o (machine_of machine.new budget.now)) }
@@ -65,13 +65,17 @@ fn go_on(machine: &mut Running, budget: &Budget, plain: Plain) -> Result<Outcome
     )? {
         return Ok(Outcome::Traps(kind));
     }
-    machine.place += 1;
+    machine.pc += 1;
     Ok(Outcome::Goes)
 }
 
-/// A plain instruction.
-fn affect(machine: &mut Running, budget: &mut Budget, plain: Plain) -> Result<Outcome, AllocError>
-    requires place { machine.old.place < 2 ^ 63 }
+/// Executes a plain instruction.
+fn affect(
+    machine: &mut MachineState,
+    budget: &mut Budget,
+    plain: Plain,
+) -> Result<Outcome, AllocError>
+    requires pc { machine.old.pc < 2 ^ 63 }
     requires moves { affects (effect_of plain machine.old.operands machine.old.locals.items machine.old.store) (machine_of machine.old budget.old) ≢ Fails }
     ensures { IfOk result (λ o. IsMove (affects (effect_of plain machine.old.operands machine.old.locals.items machine.old.store) (machine_of machine.old budget.old)) o (machine_of machine.new budget.new)) }
 {
@@ -81,20 +85,20 @@ fn affect(machine: &mut Running, budget: &mut Budget, plain: Plain) -> Result<Ou
     }
 }
 
-/// A step that is not paid for.
+/// Executes a step that is free of charge.
 fn pass(
     source: &Module,
-    machine: &mut Running,
+    machine: &mut MachineState,
     budget: &Budget,
     step: Step,
 ) -> Result<Outcome, AllocError>
-    requires place { machine.old.place < 2 ^ 63 }
+    requires pc { machine.old.pc < 2 ^ 63 }
     requires moves { passes source.now step (machine_of machine.old budget.now) ≢ Fails }
     ensures { IfOk result (λ o. IsMove (passes source.now step (machine_of machine.old budget.now)) o (machine_of machine.new budget.now)) }
 {
     match step {
         Step::Skip(to) => {
-            machine.place = to;
+            machine.pc = to;
             Ok(Outcome::Goes)
         }
         Step::Import(function_index) => call_import(source, machine, function_index),
@@ -103,49 +107,49 @@ fn pass(
     }
 }
 
-/// Goes on at the place where the number is 0.
+/// Jumps to the step `to` if the topmost operand is 0.
 #[tactic(auto, using(crate::proofs::MoveLaws::top_found))]
-fn unless(source: &Module, code: &FlatCode, machine: &mut Running, to: usize)
-    requires place { machine.old.place < 2 ^ 63 }
+fn unless(source: &Module, code: &FlatCode, machine: &mut MachineState, to: usize)
+    requires pc { machine.old.pc < 2 ^ 63 }
     requires moves { CanMove (executes source.now code.now (flat.Unless to)) machine.old }
     ensures { Moves (executes source.now code.now (flat.Unless to)) machine.old Outcome.Goes machine.new }
 {
     if machine.operands.pop32() == 0 {
-        machine.place = to;
+        machine.pc = to;
     } else {
-        machine.place += 1;
+        machine.pc += 1;
     }
 }
 
-/// Jumps where the number is not 0.
+/// Branches to the target if the topmost operand is not 0.
 #[tactic(auto, using(crate::proofs::MoveLaws::top_found))]
 fn jump_if(
     source: &Module,
     code: &FlatCode,
-    machine: &mut Running,
+    machine: &mut MachineState,
     target_index: usize,
     dropped: usize,
 )
-    requires place { machine.old.place < 2 ^ 63 }
+    requires pc { machine.old.pc < 2 ^ 63 }
     requires moves { CanMove (executes source.now code.now (flat.JumpIf target_index dropped)) machine.old }
     ensures { Moves (executes source.now code.now (flat.JumpIf target_index dropped)) machine.old Outcome.Goes machine.new }
 {
     if machine.operands.pop32() == 0 {
-        machine.place += 1;
+        machine.pc += 1;
     } else {
         jump(code, machine, target_index, dropped);
     }
 }
 
-/// Calls the element of the table that the number says.
+/// Executes `call_indirect`: the topmost operand is the index of the table element.
 #[tactic(auto, using(crate::proofs::MoveLaws::top_found))]
 fn call_by_table(
     source: &Module,
     code: &FlatCode,
-    machine: &mut Running,
+    machine: &mut MachineState,
     index: u32,
 ) -> Result<Outcome, AllocError>
-    requires place { machine.old.place < 2 ^ 63 }
+    requires pc { machine.old.pc < 2 ^ 63 }
     requires moves { CanMove (executes source.now code.now (flat.CallIndirect index)) machine.old }
     ensures { IfOk result (λ o. Moves (executes source.now code.now (flat.CallIndirect index)) machine.old o machine.new) }
 {
@@ -156,8 +160,8 @@ fn call_by_table(
     }
 }
 
-/// Jumps as the step says, which stands in the row behind a table.
-fn jump_by(code: &FlatCode, machine: &mut Running, step: Step)
+/// Branches as an entry of a branch table says.
+fn jump_by(code: &FlatCode, machine: &mut MachineState, step: Step)
     requires { CanMove (jumps_by code.now (Some step)) machine.old }
     ensures { Moves (jumps_by code.now (Some step)) machine.old Outcome.Goes machine.new }
 {
@@ -167,29 +171,29 @@ fn jump_by(code: &FlatCode, machine: &mut Running, step: Step)
     }
 }
 
-/// Jumps as the step in the row behind this one says that the number picks.
+/// Branches by the branch table behind this step. The topmost operand selects the entry; the last one is the default.
 #[tactic(auto, using(crate::proofs::MoveLaws::top_found))]
-fn jump_by_table(source: &Module, code: &FlatCode, machine: &mut Running, count: usize)
-    requires place { machine.old.place < 2 ^ 63 }
+fn jump_by_table(source: &Module, code: &FlatCode, machine: &mut MachineState, count: usize)
+    requires pc { machine.old.pc < 2 ^ 63 }
     requires moves { CanMove (executes source.now code.now (flat.Table count)) machine.old }
     ensures { Moves (executes source.now code.now (flat.Table count)) machine.old Outcome.Goes machine.new }
 {
     let picked = (machine.operands.pop32() as usize).min(count);
-    match code.steps.as_slice().get(machine.place + 1 + picked) {
+    match code.steps.as_slice().get(machine.pc + 1 + picked) {
         None => unreachable!(),
         Some(step) => jump_by(code, machine, *step),
     }
 }
 
-/// A step that is paid for, once it is.
+/// Executes a step that has been charged.
 fn execute(
     source: &Module,
     code: &FlatCode,
-    machine: &mut Running,
+    machine: &mut MachineState,
     budget: &mut Budget,
     step: Step,
 ) -> Result<Outcome, AllocError>
-    requires place { machine.old.place < 2 ^ 63 }
+    requires pc { machine.old.pc < 2 ^ 63 }
     requires moves { executes source.now code.now step (machine_of machine.old budget.old) ≢ Fails }
     ensures { IfOk result (λ o. IsMove (executes source.now code.now step (machine_of machine.old budget.old)) o (machine_of machine.new budget.new)) }
 {
@@ -197,7 +201,7 @@ fn execute(
         Step::Plain(plain) => affect(machine, budget, plain),
         Step::Unreachable => Ok(Outcome::Traps(TrapKind::Unreachable)),
         Step::Pass => {
-            machine.place += 1;
+            machine.pc += 1;
             Ok(Outcome::Goes)
         }
         Step::Unless(to) => {
@@ -224,15 +228,15 @@ fn execute(
     }
 }
 
-/// A step that is paid for.
+/// Charges a step and executes it.
 fn pay_and_execute(
     source: &Module,
     code: &FlatCode,
-    machine: &mut Running,
+    machine: &mut MachineState,
     budget: &mut Budget,
     step: Step,
 ) -> Result<Outcome, AllocError>
-    requires place { machine.old.place < 2 ^ 63 }
+    requires pc { machine.old.pc < 2 ^ 63 }
     requires moves { pays (machine_of machine.old budget.old) (executes source.now code.now step) ≢ Fails }
     ensures { IfOk result (λ o. IsMove (pays (machine_of machine.old budget.old) (executes source.now code.now step)) o (machine_of machine.new budget.new)) }
 {
@@ -242,15 +246,15 @@ fn pay_and_execute(
     execute(source, code, machine, budget, step)
 }
 
-/// The step, which is the next one.
+/// Executes the next step, which is `step`.
 fn take(
     source: &Module,
     code: &FlatCode,
-    machine: &mut Running,
+    machine: &mut MachineState,
     budget: &mut Budget,
     step: Step,
 ) -> Result<Outcome, AllocError>
-    requires place { machine.old.place < 2 ^ 63 }
+    requires pc { machine.old.pc < 2 ^ 63 }
     requires moves { moves source.now code.now (Some step) (machine_of machine.old budget.old) ≢ Fails }
     ensures { IfOk result (λ o. IsMove (moves source.now code.now (Some step) (machine_of machine.old budget.old)) o (machine_of machine.new budget.new)) }
 {
@@ -261,17 +265,17 @@ fn take(
     }
 }
 
-/// One step, which never fails.
+/// Executes the next step.
 pub fn step(
     source: &Module,
     code: &FlatCode,
-    machine: &mut Running,
+    machine: &mut MachineState,
     budget: &mut Budget,
 ) -> Result<Outcome, AllocError>
     requires { move source.now code.now (machine_of machine.old budget.old) ≢ Fails }
     ensures { IfOk result (λ o. IsMove (move source.now code.now (machine_of machine.old budget.old)) o (machine_of machine.new budget.new)) }
 {
     let steps = code.steps.as_slice();
-    let next = steps[machine.place];
+    let next = steps[machine.pc];
     take(source, code, machine, budget, next)
 }

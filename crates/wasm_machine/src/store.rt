@@ -1,4 +1,4 @@
-//! What the code of an instance reads and writes.
+//! The memory, globals and table of an instance.
 
 ghost use Rattle.std.specs.Prelude.{◌≡◌, ◌≤◌, ◌<◌, ◌+◌, ◌*◌, ◌%◌, ◌++◌, length, replicate, slice_get, slice_set, IsSome, Some, None, IfSome, IfNone, MatchOption, OnOk, OnErr, option_copied};
 ghost use Rattle.wasm_spec.specs.Memory.{loaded, stored};
@@ -10,10 +10,10 @@ use std::alloc::AllocError;
 use std::marker::Model;
 use wasm_spec::Value;
 
-/// Bytes of a page.
+/// The size of a page, in bytes.
 pub const PAGE_BYTES: usize = 65_536;
 
-/// Memory, globals and the table.
+/// The memory, the globals and the table of an instance.
 #[derive(Drop)]
 pub struct Store {
     memory: Vec<u8>,
@@ -36,7 +36,7 @@ impl Model for Store {
 }
 
 impl Store {
-    /// A store of these parts. Takes no memory.
+    /// Makes a store of these parts. Allocates no memory.
     pub fn new(
         memory: Vec<u8>,
         most_pages: u32,
@@ -56,14 +56,14 @@ impl Store {
         }
     }
 
-    /// The bytes of the memory, lent.
+    /// Returns the bytes of the memory.
     pub fn memory(&self) -> &[u8]
         ensures { result.now ≡ self.now.memory.bytes }
     {
         &self.memory
     }
 
-    /// The memory, to be written to.
+    /// Returns the bytes of the memory for writing.
     pub fn memory_mut(&mut self) -> &mut [u8]
         ensures* writes_back { sem 𝓛 (LendsMemory self.entry result) }
         ensures value { result.now ≡ self.old.memory.bytes }
@@ -71,14 +71,14 @@ impl Store {
         &mut self.memory
     }
 
-    /// How many pages the memory has.
+    /// Returns the size of the memory, in pages.
     pub fn pages(&self) -> u32
         ensures { result ≡ pages self.now.memory }
     {
         (self.memory.len() / PAGE_BYTES) as u32
     }
 
-    /// How many pages the memory may have.
+    /// Returns the largest size that the memory can grow to, in pages.
     pub fn most_pages(&self) -> u32
         ensures value { result ≡ self.now.memory.most_pages }
         ensures few { result ≤ 64 }
@@ -86,11 +86,11 @@ impl Store {
         self.most_pages
     }
 
-    /// Stores the integer, of which a narrow store takes the lowest bytes. None where a byte would
-    /// lie outside the memory, and then the store stays as it was.
+    /// Stores the integer, of which a narrow store takes the lowest bytes. Returns `None` and changes nothing if a byte
+    /// would lie outside the memory.
     pub fn write(
         &mut self,
-        kind: wasm_spec::Store,
+        kind: wasm_spec::StoreKind,
         address: u32,
         offset: u32,
         number: u64,
@@ -102,14 +102,14 @@ impl Store {
         wasm_num::store(kind, &mut self.memory, address, offset, number)
     }
 
-    /// The value of a global, if there is one of this index.
+    /// Returns the value of the global of the index, if there is one.
     pub fn global(&self, index: u32) -> Option<Value>
         ensures { result ≡ slice_get self.now.globals index }
     {
         self.globals.get(index as usize).copied()
     }
 
-    /// Writes the value of a global.
+    /// Sets the value of a global.
     pub fn set_global(&mut self, index: u32, value: Value)
         requires { index < length self.old.globals }
         ensures { self.new ≡ record self.old { globals = slice_set self.old.globals index value } }
@@ -117,14 +117,14 @@ impl Store {
         self.globals[index as usize] = value;
     }
 
-    /// The element of the table, which may be none where it was never set.
+    /// Returns the table element of the index, if there is one. An element that was never set holds `None`.
     pub fn element(&self, index: u32) -> Option<Option<u32>>
         ensures { result ≡ slice_get self.now.table index }
     {
         self.table.get(index as usize).copied()
     }
 
-    /// Adds pages of zeros to the memory.
+    /// Grows the memory by `more` pages of zeros.
     pub fn grow(&mut self, more: u32) -> Result<(), AllocError>
         requires { pages self.old.memory + more ≤ 64 }
         ensures { OnOk result (self.new ≡ with_bytes (self.old.memory.bytes ++ replicate (more * PAGE) 0) self.old) }

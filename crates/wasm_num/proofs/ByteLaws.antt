@@ -10,7 +10,7 @@ use Rattle.wasm_spec.specs.Memory.{integer_of_bytes, bytes_of_integer, bytes_at,
 
 -- reading
 
--- n bytes, from place a + k on
+-- the n bytes from address a + k on
 abbrev pub cells : List ℕ → (a k n : ℕ) → List ℕ
 cells m a k zero = []
 cells m a k (suc n) = get_or m (a + k) 0 ∷ cells m a (suc k) n
@@ -19,8 +19,8 @@ cells_is : (m : List ℕ) (a k n : ℕ) → a + k + n ≤ length m → take n (d
 cells_is m a k zero h = refl
 cells_is m a k (suc n) h =
     let first = drop-cons m (a + k) 0 (omega (arith, h)) in
-    let place : suc (a + k) ≡ a + suc k = omega arith in
-    ap (take (suc n)) first ∙ ap (λ x. get_or m (a + k) 0 ∷ take n (drop x m)) place ∙ ap (λ x. get_or m (a + k) 0 ∷ x) (cells_is m a (suc k) n (omega (arith, h)))
+    let start : suc (a + k) ≡ a + suc k = omega arith in
+    ap (take (suc n)) first ∙ ap (λ x. get_or m (a + k) 0 ∷ take n (drop x m)) start ∙ ap (λ x. get_or m (a + k) 0 ∷ x) (cells_is m a (suc k) n (omega (arith, h)))
 
 inside : (m : List ℕ) (a n : ℕ) → a + n ≤ length m → leb (a + n) (length m) ≡ true
 inside m a n h = grind (arith, nat_tests)
@@ -35,8 +35,8 @@ read_none m a n h = ap (λ b. option_map integer_of_bytes (cond b (Some (take n 
 read_some : (m : List ℕ) (a n r : ℕ) → a + n ≤ length m → r ≡ integer_of_bytes (cells m a 0 n) → Some r ≡ option_map integer_of_bytes (bytes_at m a n)
 unfolding bytes_at
 read_some m a n r h e =
-    let place : a + 0 ≡ a = omega arith in
-    let same : take n (drop a m) ≡ cells m a 0 n = ap (λ x. take n (drop x m)) (sym place) ∙ cells_is m a 0 n (omega (arith, h)) in
+    let start : a + 0 ≡ a = omega arith in
+    let same : take n (drop a m) ≡ cells m a 0 n = ap (λ x. take n (drop x m)) (sym start) ∙ cells_is m a 0 n (omega (arith, h)) in
     ap Some e ∙ ap (λ bs. Some (integer_of_bytes bs)) (sym same) ∙ ap (λ b. option_map integer_of_bytes (cond b (Some (take n (drop a m))) None)) (sym (inside m a n h))
 
 pub read_1 : (m : List ℕ) (a : ℕ) → a + 1 ≤ length m → Some (get_or m a 0) ≡ option_map integer_of_bytes (bytes_at m a 1)
@@ -59,7 +59,7 @@ read_8 m a r h e = read_some m a 8 r h (let f : a + 0 ≡ a = omega arith in ome
 
 -- writing
 
--- the memory with these bytes written one after another, from place a + k on
+-- the memory with these bytes written one after another, from address a + k on
 abbrev pub puts : List ℕ → (a k : ℕ) → List ℕ → List ℕ
 puts m a k [] = m
 puts m a k (b ∷ bs) = puts (set m (a + k) b) a (suc k) bs
@@ -70,12 +70,12 @@ puts_is m a k [] h =
     sym (take-append-drop (a + k) m) ∙ ap₂ (λ x y. x ++ y) (sym (append-nil (take (a + k) m))) (ap (λ x. drop x m) same)
 puts_is m a k (b ∷ bs) h =
     let n = set m (a + k) b in
-    let place : a + suc k ≡ suc (a + k) = omega arith in
-    let front : take (a + suc k) n ≡ take (a + k) m ++ b ∷ [] = ap (λ x. take x n) place ∙ take-suc-set m (a + k) b (omega (arith, h)) in
+    let start : a + suc k ≡ suc (a + k) = omega arith in
+    let prefix : take (a + suc k) n ≡ take (a + k) m ++ b ∷ [] = ap (λ x. take x n) start ∙ take-suc-set m (a + k) b (omega (arith, h)) in
     let back : drop (a + suc k + length bs) n ≡ drop (a + k + suc (length bs)) m =
     drop-set-lt (a + suc k + length bs) m (a + k) b (omega arith) ∙ ap (λ x. drop x m) (omega arith) in
     puts_is n a (suc k) bs (omega (arith, h, length-set m (a + k) b))
-    ∙ ap₂ (λ x y. x ++ bs ++ y) front back
+    ∙ ap₂ (λ x y. x ++ bs ++ y) prefix back
     ∙ ap (λ x. x ++ drop (a + k + suc (length bs)) m) (append_assoc (take (a + k) m) (b ∷ []) bs)
 
 lowest : (i n : ℕ) → byte_at i n ≡ n / 256 ^ i % 256
@@ -106,9 +106,9 @@ write_none m a n i h =
 write_some : (m : List ℕ) (a : ℕ) (bs : List ℕ) → a + length bs ≤ length m → with_bytes_at m a bs ≡ Some (puts m a 0 bs)
 unfolding with_bytes_at
 write_some m a bs h =
-    let place : a + 0 ≡ a = omega arith in
+    let start : a + 0 ≡ a = omega arith in
     ap (λ b. cond b (Some (take a m ++ bs ++ drop (a + length bs) m)) None) (inside m a (length bs) h)
-    ∙ ap (λ x. Some (take x m ++ bs ++ drop (x + length bs) m)) (sym place) ∙ ap Some (sym (puts_is m a 0 bs (omega (arith, h))))
+    ∙ ap (λ x. Some (take x m ++ bs ++ drop (x + length bs) m)) (sym start) ∙ ap Some (sym (puts_is m a 0 bs (omega (arith, h))))
 
 pub write_bytes : (w : Width) (m n : List ℕ) (a i : ℕ) → a + byte_len w ≤ length m → n ≡ puts m a 0 (to_le_bytes w i) → with_bytes_at m a (bytes_of_integer (byte_len w) i) ≡ Some n
 write_bytes w m n a i h e =
@@ -117,14 +117,14 @@ write_bytes w m n a i h e =
 
 pub write_1 : (m : List ℕ) (a i : ℕ) (bs : List ℕ) → a + 1 ≤ length m → bs ≡ to_le_bytes w8 i → with_bytes_at m a (bytes_of_integer 1 i) ≡ Some (set m a (get_or bs 0 0))
 write_1 m a i bs h e =
-    let place : a ≡ a + 0 = omega arith in
-    write_bytes w8 m _ a i h (ap (λ xs. set m a (get_or xs 0 0)) e ∙ ap (λ x. set m x (get_or (to_le_bytes w8 i) 0 0)) place)
+    let start : a ≡ a + 0 = omega arith in
+    write_bytes w8 m _ a i h (ap (λ xs. set m a (get_or xs 0 0)) e ∙ ap (λ x. set m x (get_or (to_le_bytes w8 i) 0 0)) start)
 
 pub write_2 : (m : List ℕ) (a i : ℕ) (bs : List ℕ) → a + 2 ≤ length m → bs ≡ to_le_bytes w16 i
     → with_bytes_at m a (bytes_of_integer 2 i) ≡ Some (set (set m a (get_or bs 0 0)) (a + 1) (get_or bs 1 0))
 write_2 m a i bs h e =
-    let place : a ≡ a + 0 = omega arith in
-    write_bytes w16 m _ a i h (ap (λ xs. set (set m a (get_or xs 0 0)) (a + 1) (get_or xs 1 0)) e ∙ ap (λ x. set (set m x (get_or (to_le_bytes w16 i) 0 0)) (a + 1) (get_or (to_le_bytes w16 i) 1 0)) place)
+    let start : a ≡ a + 0 = omega arith in
+    write_bytes w16 m _ a i h (ap (λ xs. set (set m a (get_or xs 0 0)) (a + 1) (get_or xs 1 0)) e ∙ ap (λ x. set (set m x (get_or (to_le_bytes w16 i) 0 0)) (a + 1) (get_or (to_le_bytes w16 i) 1 0)) start)
 
 abbrev four : List ℕ → List ℕ → (a b : ℕ) → List ℕ
 four m xs a b = set (set (set (set m b (get_or xs 0 0)) (a + 1) (get_or xs 1 0)) (a + 2) (get_or xs 2 0)) (a + 3) (get_or xs 3 0)
@@ -134,13 +134,13 @@ eight m xs a b = set (set (set (set (four m xs a b) (a + 4) (get_or xs 4 0)) (a 
 
 pub write_4 : (m : List ℕ) (a i : ℕ) (bs : List ℕ) → a + 4 ≤ length m → bs ≡ to_le_bytes w32 i → with_bytes_at m a (bytes_of_integer 4 i) ≡ Some (four m bs a a)
 write_4 m a i bs h e =
-    let place : a ≡ a + 0 = omega arith in
-    write_bytes w32 m _ a i h (ap (λ xs. four m xs a a) e ∙ ap (four m (to_le_bytes w32 i) a) place)
+    let start : a ≡ a + 0 = omega arith in
+    write_bytes w32 m _ a i h (ap (λ xs. four m xs a a) e ∙ ap (four m (to_le_bytes w32 i) a) start)
 
 pub write_8 : (m : List ℕ) (a i : ℕ) (bs : List ℕ) → a + 8 ≤ length m → bs ≡ to_le_bytes w64 i → with_bytes_at m a (bytes_of_integer 8 i) ≡ Some (eight m bs a a)
 write_8 m a i bs h e =
-    let place : a ≡ a + 0 = omega arith in
-    write_bytes w64 m _ a i h (ap (λ xs. eight m xs a a) e ∙ ap (eight m (to_le_bytes w64 i) a) place)
+    let start : a ≡ a + 0 = omega arith in
+    write_bytes w64 m _ a i h (ap (λ xs. eight m xs a a) e ∙ ap (eight m (to_le_bytes w64 i) a) start)
 
 -- the lowest bytes are those of what is left of the integer
 pub bytes_of_1 : (i : ℕ) → bytes_of_integer 1 (i % 256) ≡ bytes_of_integer 1 i

@@ -27,7 +27,7 @@ max_zero x y e = omega (arith, e)
 max_same : (x y : ℕ) → x ≡ y → max x y ≡ y
 max_same x y e = omega (arith, e)
 
--- a is turned by u places up and by d places down, which together make n places, or none
+-- a is shifted up by u bits and down by d bits, which together are n bits, or none
 turned : (n a u d k : ℕ) → a < 2 ^ n → k < n → (u + d ≡ n) ⊎ ((u ≡ 0) × (d ≡ 0))
     → bit (bit_or ((a * 2 ^ u) % 2 ^ n) (a / 2 ^ d)) k ≡ bit a ((k + d) % n)
 turned n a u d k h l whole = bit_at_or ((a * 2 ^ u) % 2 ^ n) (a / 2 ^ d) k ∙ at_end whole (cases_lt k u)
@@ -41,15 +41,15 @@ turned n a u d k h l whole = bit_at_or ((a * 2 ^ u) % 2 ^ n) (a / 2 ^ d) k ∙ a
         ∙ ap (bit a) (sym (mod-eq_of_lt (omega (arith, e, g))))
     at_end (inl e) (inr g) =
         let beyond : bit (a / 2 ^ d) k ≡ 0 = down ∙ bit_at_above a n (k + d) h (omega (arith, e, g)) in
-        let place : (k + d) % n ≡ k - u = ap (λ x. x % n) (omega (arith, e, g)) ∙ add-mod_right (k - u) n ∙ mod-eq_of_lt (omega (arith, l)) in
-        max_zero (bit ((a * 2 ^ u) % 2 ^ n) k) (bit (a / 2 ^ d) k) beyond ∙ bit_up n a u k l g ∙ ap (bit a) (sym place)
+        let start : (k + d) % n ≡ k - u = ap (λ x. x % n) (omega (arith, e, g)) ∙ add-mod_right (k - u) n ∙ mod-eq_of_lt (omega (arith, l)) in
+        max_zero (bit ((a * 2 ^ u) % 2 ^ n) k) (bit (a / 2 ^ d) k) beyond ∙ bit_up n a u k l g ∙ ap (bit a) (sym start)
     at_end (inr e) (inl g) = absurd (omega (arith, e.0, g))
     at_end (inr e) (inr g) =
-        let place : (k + d) % n ≡ k + d = mod-eq_of_lt (omega (arith, e.1, l)) in
+        let start : (k + d) % n ≡ k + d = mod-eq_of_lt (omega (arith, e.1, l)) in
         let up : bit ((a * 2 ^ u) % 2 ^ n) k ≡ bit (a / 2 ^ d) k = bit_up n a u k l g ∙ ap (bit a) (omega (arith, e.0, e.1)) ∙ sym down in
-        max_same (bit ((a * 2 ^ u) % 2 ^ n) k) (bit (a / 2 ^ d) k) up ∙ down ∙ ap (bit a) (sym place)
+        max_same (bit ((a * 2 ^ u) % 2 ^ n) k) (bit (a / 2 ^ d) k) up ∙ down ∙ ap (bit a) (sym start)
 
--- the places that are left
+-- the bits that are left
 left : (n u : ℕ) → u < n → (u + (n - u) % n ≡ n) ⊎ ((u ≡ 0) × ((n - u) % n ≡ 0))
 left n zero h = inr (refl, ap (λ x. x % n) (omega arith) ∙ mod_self n)
 left n (suc u) h = let e : (n - suc u) % n ≡ n - suc u = mod-eq_of_lt (omega (arith, h)) in inl (omega (arith, h, e))

@@ -1,32 +1,23 @@
 //! Counts of bits (core section 4.3.2).
 
-ghost use Rattle.std.specs.Prelude.{◌≡◌};
-ghost use Rattle.wasm_spec.specs.Integers.{unary_of};
+ghost use Rattle.std.specs.Prelude.{◌≡◌, ◌<◌, ◌^◌};
+ghost use Rattle.wasm_spec.specs.Integers.{unary_of, width};
 
-use wasm_spec::Unary;
+use wasm_spec::{Unary, ValueType};
 
-/// What the instruction gives at i32.
+/// Returns the result of an operation on one integer of the type.
 #[inline]
 #[tactic(auto, using(crate::proofs::WidthLaws::count_laws), unfolding(wasm_spec::specs::Integers::unary_of))]
-pub fn unary32(operation: Unary, operand: u32) -> u32
-    ensures { result ≡ unary_of 32 operation operand }
+pub fn unary(value_type: ValueType, operation: Unary, operand: u64) -> u64
+    requires { operand < 2 ^ width value_type }
+    ensures value { result ≡ unary_of (width value_type) operation operand }
+    ensures fits { result < 2 ^ width value_type }
 {
-    match operation {
-        Unary::Clz => operand.leading_zeros(),
-        Unary::Ctz => operand.trailing_zeros(),
-        Unary::Popcnt => operand.count_ones(),
-    }
-}
-
-/// What the instruction gives at i64.
-#[inline]
-#[tactic(auto, using(crate::proofs::WidthLaws::count_laws), unfolding(wasm_spec::specs::Integers::unary_of))]
-pub fn unary64(operation: Unary, operand: u64) -> u64
-    ensures { result ≡ unary_of 64 operation operand }
-{
-    match operation {
-        Unary::Clz => u64::from(operand.leading_zeros()),
-        Unary::Ctz => u64::from(operand.trailing_zeros()),
-        Unary::Popcnt => u64::from(operand.count_ones()),
+    match (operation, value_type) {
+        (Unary::Clz, ValueType::I32) => u64::from((operand as u32).leading_zeros()),
+        (Unary::Clz, ValueType::I64) => u64::from(operand.leading_zeros()),
+        (Unary::Ctz, ValueType::I32) => u64::from((operand as u32).trailing_zeros()),
+        (Unary::Ctz, ValueType::I64) => u64::from(operand.trailing_zeros()),
+        (Unary::Popcnt, _) => u64::from(operand.count_ones()),
     }
 }

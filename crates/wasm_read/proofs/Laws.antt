@@ -249,7 +249,7 @@ module _ {A : Type 0} {P : Spelling A} {read : Reader A} (r : Reads P read) wher
           ∙ ap (λ o. o >>= λ n. row_at read n.0 n.1) (reads_u32.again (length xs) h.0 (h.1 ++ rest) h.3)
           ∙ row_again xs h.1 rest h.4
 
--- the bytes at the front
+-- the bytes at the prefix
 split_is : (n : ℕ) (bs : List ℕ) (y : List ℕ × List ℕ) → split_at n bs ≡ Some y → (bs ≡ y.0 ++ y.1) × (length y.0 ≡ n)
 split_is n bs y e =
     let p = passed (nat_le n (length bs)) (Some (take n bs, drop n bs)) y e in

@@ -159,11 +159,11 @@ customs_found bs rest e = customs_take (suc (length bs)) bs rest e
 record ReadsSection {A : Type 0} (k : ℕ) (P : Spelling A) (read : Reader A) : Type 0 where
   pub takes : (bs : List ℕ) (y : A × List ℕ) → read bs ≡ Some y → (a : List ℕ) × (bs ≡ a ++ y.1) × P y.0 a
   pub again : (x : A) (a rest : List ℕ) → P x a → Above k rest → read (a ++ rest) ≡ Some (x, rest)
-  pub front : (x : A) (a rest : List ℕ) (j : ℕ) → P x a → Above k rest → j < k → Above j (a ++ rest)
+  pub prefix : (x : A) (a rest : List ℕ) (j : ℕ) → P x a → Above k rest → j < k → Above j (a ++ rest)
 
 reads_section : {A : Type 0} (k : ℕ) {P : Spelling A} {read : Reader A} → 0 < k → Reads P read → ReadsSection k (IsSection k P) (section_at k read)
 unfolding section_at
-reads_section {A} k {P} {read} pos r = record { takes = takes; again = again; front = front }
+reads_section {A} k {P} {read} pos r = record { takes = takes; again = again; prefix = prefix }
   where
     content : Reads (Sized (IsVector P)) (sized_at (vector_at read))
     content = reads_sized (reads_vector r)
@@ -209,8 +209,8 @@ reads_section {A} k {P} {read} pos r = record { takes = takes; again = again; fr
         ∙ ap (λ o. o >>= λ after. Some (xs, after)) (customs_all q.0 body.1 rest body.4 (lower 0 k rest (omega arith) up)))
         h
 
-    front : (xs : List A) (a rest : List ℕ) (j : ℕ) → IsSection k P xs a → Above k rest → j < k → Above j (a ++ rest)
-    front xs a rest j h up lt =
+    prefix : (xs : List A) (a rest : List ℕ) (j : ℕ) → IsSection k P xs a → Above k rest → j < k → Above j (a ++ rest)
+    prefix xs a rest j h up lt =
         ⊎_elim
         (λ (q : (xs ≡ []) × (a ≡ [])). subst (λ l. Above j (l ++ rest)) (sym q.1) (lower j k rest (omega arith) up))
         (λ q. subst (λ l. Above j (l ++ rest)) (sym q.1.1) lt)
@@ -220,19 +220,19 @@ reads_section {A} k {P} {read} pos r = record { takes = takes; again = again; fr
 record ReadsRest {A : Type 0} (k : ℕ) (P : Spelling A) (read : Reader A) : Type 0 where
   pub takes : (bs : List ℕ) (y : A × List ℕ) → read bs ≡ Some y → (a : List ℕ) × (bs ≡ a ++ y.1) × P y.0 a
   pub again : (x : A) (a : List ℕ) → P x a → read a ≡ Some (x, [])
-  pub front : (x : A) (a : List ℕ) (j : ℕ) → P x a → j < k → Above j a
+  pub prefix : (x : A) (a : List ℕ) (j : ℕ) → P x a → j < k → Above j a
 
 last_section : {A : Type 0} (k : ℕ) {P : Spelling A} {read : Reader A} → ReadsSection k P read → ReadsRest k P read
-last_section {A} k {P} {read} r = record { takes = r.takes; again = again; front = front }
+last_section {A} k {P} {read} r = record { takes = r.takes; again = again; prefix = prefix }
   where
     again : (x : A) (a : List ℕ) → P x a → read a ≡ Some (x, [])
     again x a h = ap read (sym (append_nil a)) ∙ r.again x a [] h tt
 
-    front : (x : A) (a : List ℕ) (j : ℕ) → P x a → j < k → Above j a
-    front x a j h lt = subst (Above j) (append_nil a) (r.front x a [] j h tt lt)
+    prefix : (x : A) (a : List ℕ) (j : ℕ) → P x a → j < k → Above j a
+    prefix x a j h lt = subst (Above j) (append_nil a) (r.prefix x a [] j h tt lt)
 
 then_rest : {A B : Type 0} (j k : ℕ) {P : Spelling A} {Q : Spelling B} {p : Reader A} {q : Reader B} → j < k → ReadsSection j P p → ReadsRest k Q q → ReadsRest j (P ⊗ Q) (both_at p q)
-then_rest {A} {B} j k {P} {Q} {p} {q} jk r s = record { takes = takes; again = again; front = front }
+then_rest {A} {B} j k {P} {Q} {p} {q} jk r s = record { takes = takes; again = again; prefix = prefix }
   where
     takes : (bs : List ℕ) (y : (A × B) × List ℕ) → both_at p q bs ≡ Some y → (a : List ℕ) × (bs ≡ a ++ y.1) × (P ⊗ Q) y.0 a
     takes bs y e =
@@ -247,11 +247,11 @@ then_rest {A} {B} j k {P} {Q} {p} {q} jk r s = record { takes = takes; again = a
     again : (x : A × B) (a : List ℕ) → (P ⊗ Q) x a → both_at p q a ≡ Some (x, [])
     again x a h =
         ap (both_at p q) h.2
-        ∙ ap (λ o. o >>= λ x. q x.1 >>= λ y. Some ((x.0, y.0), y.1)) (r.again x.0 h.0 h.1 h.3 (s.front x.1 h.1 j h.4 jk))
+        ∙ ap (λ o. o >>= λ x. q x.1 >>= λ y. Some ((x.0, y.0), y.1)) (r.again x.0 h.0 h.1 h.3 (s.prefix x.1 h.1 j h.4 jk))
         ∙ ap (λ o. o >>= λ y. Some ((x.0, y.0), y.1)) (s.again x.1 h.1 h.4)
 
-    front : (x : A × B) (a : List ℕ) (i : ℕ) → (P ⊗ Q) x a → i < j → Above i a
-    front x a i h lt = subst (Above i) (sym h.2) (r.front x.0 h.0 h.1 i h.3 (s.front x.1 h.1 j h.4 jk) lt)
+    prefix : (x : A × B) (a : List ℕ) (i : ℕ) → (P ⊗ Q) x a → i < j → Above i a
+    prefix x a i h lt = subst (Above i) (sym h.2) (r.prefix x.0 h.0 h.1 i h.3 (s.prefix x.1 h.1 j h.4 jk) lt)
 
 abbrev AreSections : Spelling Sections
 AreSections =
@@ -332,6 +332,6 @@ module_again bs m h =
     ap (λ l. expect_all MAGIC l >>= customs_at >>= sections_at >>= whole >>= finish) h.2
     ∙ ap (λ o. o >>= customs_at >>= sections_at >>= whole >>= finish) (expect_all_again MAGIC h.1)
     ∙ ap (λ l. customs_at l >>= sections_at >>= whole >>= finish) s.2
-    ∙ ap (λ o. o >>= sections_at >>= whole >>= finish) (customs_all h.0 s.0 s.1 s.3 (reads_sections.front (sections_of m) s.1 0 s.4 (omega arith)))
+    ∙ ap (λ o. o >>= sections_at >>= whole >>= finish) (customs_all h.0 s.0 s.1 s.3 (reads_sections.prefix (sections_of m) s.1 0 s.4 (omega arith)))
     ∙ ap (λ o. o >>= whole >>= finish) (reads_sections.again (sections_of m) s.1 s.4)
     ∙ ap (λ o. o >>= λ fs. Some (module_of (sections_of m) fs)) (functions_again m.functions)

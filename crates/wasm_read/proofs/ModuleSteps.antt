@@ -94,12 +94,12 @@ one_made ts all left left' made made' f t x split at is more m =
     let size : length left ≡ length left' + 1 = ap length split ∙ length-append left' (f ∷ []) in
     let there : length left' < length ts = omega (arith, m.enough) in
     let next : suc (length left') ≡ length left = omega (arith, size) in
-    let front : drop (length left') ts ≡ t ∷ drop (length left) ts = drop-cons ts (length left') t there ∙ ap₂ (λ (a n : ℕ). a ∷ drop n ts) (sym at) next in
+    let prefix : drop (length left') ts ≡ t ∷ drop (length left) ts = drop-cons ts (length left') t there ∙ ap₂ (λ (a n : ℕ). a ∷ drop n ts) (sym at) next in
     let turned : reverse made' ≡ x ∷ reverse made = ap reverse more ∙ reverse-append made (x ∷ []) in
     record {
       done = f ∷ m.done;
       split = m.split ∙ ap (λ l. l ++ m.done) split ∙ append_assoc left' (f ∷ []) m.done;
-      same = ap (λ l. functions_of l (f ∷ m.done)) front ∙ ap (λ o. o >>= λ xs. Some (function_of t f ∷ xs)) m.same ∙ ap (λ (y : Function). Some (y ∷ reverse made)) (sym is) ∙ ap Some (sym turned);
+      same = ap (λ l. functions_of l (f ∷ m.done)) prefix ∙ ap (λ o. o >>= λ xs. Some (function_of t f ∷ xs)) m.same ∙ ap (λ (y : Function). Some (y ∷ reverse made)) (sym is) ∙ ap Some (sym turned);
       enough = omega arith;
     }
 
@@ -113,7 +113,7 @@ too_few [] (f ∷ fs) ne = refl
 too_few (t ∷ ts) [] ne = refl
 too_few (t ∷ ts) (f ∷ fs) ne = ap (λ o. o >>= λ xs. Some (function_of t f ∷ xs)) (too_few ts fs (λ e. ne (ap suc e)))
 
--- what stands at a place of a list does not depend on what stands for no place
+-- the item at an index within a list does not depend on the default
 pub get_or_any : (xs : List ℕ) (i d e : ℕ) → i < length xs → get_or xs i d ≡ get_or xs i e
 get_or_any [] i d e lt = absurd (omega arith)
 get_or_any (x ∷ xs) zero d e lt = refl

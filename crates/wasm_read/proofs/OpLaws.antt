@@ -3,10 +3,10 @@ use Rattle.std.proofs.Common.{◌≡◌, ℕ, ◌<◌, ◌≤◌, Bool, true, fa
 use Rattle.std.specs.Prelude.{nat_lt, ◌==◌, if◌then◌else◌}
 use Rattle.std.proofs.lemmas.Bool.{eqb-true, ltb-true, lt-ltb, ltb-false, le-ltb}
 use Rattle.wasm_spec.specs.Typing.{◌>>=◌}
-use Rattle.wasm_spec.specs.declared.types.Limits.{Limits}
+use Rattle.wasm_spec.specs.declared.types.ResizableLimits.{ResizableLimits}
 use Rattle.wasm_spec.specs.declared.instructions.MemArg.{MemArg}
-use Rattle.wasm_spec.specs.declared.instructions.Load.{Load}
-use Rattle.wasm_spec.specs.declared.instructions.Store.{Store}
+use Rattle.wasm_spec.specs.declared.instructions.LoadKind.{LoadKind}
+use Rattle.wasm_spec.specs.declared.instructions.StoreKind.{StoreKind}
 use Rattle.wasm_spec.specs.declared.instructions.Numeric.{Numeric}
 use Rattle.wasm_spec.specs.declared.instructions.Plain.{Plain}
 use Rattle.wasm_spec.specs.declared.instructions.Plain.TheVariants as op
@@ -87,7 +87,7 @@ pub reads_limits : Reads IsLimits limits_at
 unfolding limits_at
 reads_limits = record { takes = takes; again = again }
   where
-    takes : (bs : List ℕ) (y : Limits × List ℕ) → limits_at bs ≡ Some y → (a : List ℕ) × (bs ≡ a ++ y.1) × IsLimits y.0 a
+    takes : (bs : List ℕ) (y : ResizableLimits × List ℕ) → limits_at bs ≡ Some y → (a : List ℕ) × (bs ≡ a ++ y.1) × IsLimits y.0 a
     takes [] y e = cc
     takes (b ∷ bs) y e =
         let t : Behinds IsLimits b bs y =
@@ -99,7 +99,7 @@ reads_limits = record { takes = takes; again = again }
     again_of min None a rest h = ap limits_at (ap (λ l. l ++ rest) h.1) ∙ via_again reads_u32 (λ min. limits min None) min h.0 rest h.2
     again_of min (Some most) a rest h = ap limits_at (ap (λ l. l ++ rest) h.1) ∙ via_again (reads_both reads_u32 reads_u32) (λ (x : ℕ × ℕ). limits x.0 (Some x.1)) (min, most) h.0 rest h.2
 
-    again : (x : Limits) (a rest : List ℕ) → IsLimits x a → limits_at (a ++ rest) ≡ Some (x, rest)
+    again : (x : ResizableLimits) (a rest : List ℕ) → IsLimits x a → limits_at (a ++ rest) ≡ Some (x, rest)
     again x a rest h = again_of x.min x.max a rest h
 
 pub reads_mem_arg : Reads IsMemArg mem_arg_at
@@ -111,7 +111,7 @@ reads_mem_arg = reads_via mem_arg (λ (m : MemArg). (m.align, m.offset)) (λ _. 
 bound : {A : Type 0} (low high b k : ℕ) (x rest : Option A) (y : A) → low ≤ k → k < high → (rest ≡ Some y → (low ≤ b) × (b < high)) → (if b == k then x else rest) ≡ Some y → (low ≤ b) × (b < high)
 bound low high b k x rest y lo hi other e = at_test b k x rest y (λ q _. (omega arith, omega arith)) other e
 
-load_bound : (b : ℕ) (l : Load) → load_of b ≡ Some l → (0x28 ≤ b) × (b < 0x36)
+load_bound : (b : ℕ) (l : LoadKind) → load_of b ≡ Some l → (0x28 ≤ b) × (b < 0x36)
 load_bound b l e =
     bound 0x28 0x36 b 0x28 _ _ l (omega arith) (omega arith) (
     bound 0x28 0x36 b 0x29 _ _ l (omega arith) (omega arith) (
@@ -126,7 +126,7 @@ load_bound b l e =
     bound 0x28 0x36 b 0x34 _ _ l (omega arith) (omega arith) (
     bound 0x28 0x36 b 0x35 _ _ l (omega arith) (omega arith) (λ (e : None ≡ Some l). cc)))))))))))) e
 
-store_bound : (b : ℕ) (s : Store) → store_of b ≡ Some s → (0x36 ≤ b) × (b < 0x3F)
+store_bound : (b : ℕ) (s : StoreKind) → store_of b ≡ Some s → (0x36 ≤ b) × (b < 0x3F)
 store_bound b s e =
     bound 0x36 0x3F b 0x36 _ _ s (omega arith) (omega arith) (
     bound 0x36 0x3F b 0x37 _ _ s (omega arith) (omega arith) (
@@ -194,14 +194,14 @@ high_plain b le =
 abbrev pub Begins : {B : Type 0} → Head → (ℕ → Reader B) → List ℕ → List ℕ → B → Type 0
 Begins h read a rest x = (b : ℕ) × (l : List ℕ) × (a ≡ b ∷ l) × (head_of b ≡ h) × (read b (l ++ rest) ≡ Some (x, rest))
 
-load_again : (b : ℕ) (l : Load) (m : MemArg) (a rest : List ℕ) → load_of b ≡ Some l → IsMemArg m a → plain_at b (a ++ rest) ≡ Some (op.Load l m, rest)
+load_again : (b : ℕ) (l : LoadKind) (m : MemArg) (a rest : List ℕ) → load_of b ≡ Some l → IsMemArg m a → plain_at b (a ++ rest) ≡ Some (op.Load l m, rest)
 unfolding plain_at memory_at
 load_again b l m a rest e h =
     let k = load_bound b l e in
     above b 0x20 _ _ (omega (arith, k)) ∙ above b 0x28 _ _ k.0 ∙ below b 0x41 _ _ (omega (arith, k)) ∙ below b 0x36 _ _ k.1
     ∙ ap (λ o. o >>= λ l. via_at (op.Load l) mem_arg_at (a ++ rest)) e ∙ via_again reads_mem_arg (op.Load l) m a rest h
 
-store_again : (b : ℕ) (s : Store) (m : MemArg) (a rest : List ℕ) → store_of b ≡ Some s → IsMemArg m a → plain_at b (a ++ rest) ≡ Some (op.Store s m, rest)
+store_again : (b : ℕ) (s : StoreKind) (m : MemArg) (a rest : List ℕ) → store_of b ≡ Some s → IsMemArg m a → plain_at b (a ++ rest) ≡ Some (op.Store s m, rest)
 unfolding plain_at memory_at
 store_again b s m a rest e h =
     let k = store_bound b s e in

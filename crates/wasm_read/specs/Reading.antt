@@ -1,9 +1,10 @@
--- Reading, as functions on lists of bytes: a value and the bytes after it, or none (own, after core section 5.1).
+-- The reader as functions on lists of bytes (after core section 5): each returns a value and the bytes after it, or None.
+-- ModuleLaws proves that module_at returns exactly the modules of ModuleBytes, so no reader of the main theorems has to believe this page.
 use Rattle.std.specs.Prelude.{ℕ, zero, suc, ◌+◌, ◌-◌, ◌*◌, ◌^◌, Bool, false, ◌==◌, nat_lt, nat_le, List, [], ◌∷◌, length, take, drop, Option, Some, None, if◌then◌else◌}
 use Rattle.std.specs.Str.{is_utf8}
 use Rattle.wasm_spec.specs.declared.types.ValueType.{ValueType}
 use Rattle.wasm_spec.specs.declared.types.FuncType.{FuncType}
-use Rattle.wasm_spec.specs.declared.types.Limits.{Limits}
+use Rattle.wasm_spec.specs.declared.types.ResizableLimits.{ResizableLimits}
 use Rattle.wasm_spec.specs.declared.types.TableType.{TableType}
 use Rattle.wasm_spec.specs.declared.types.Mutability.{Mutability}
 use Rattle.wasm_spec.specs.declared.instructions.MemArg.{MemArg}
@@ -30,7 +31,7 @@ use Rattle.wasm_read.specs.declared.head.Head.TheVariants as head
 abbrev pub Reader : Type 0 → Type 0
 Reader A = List ℕ → Option (A × List ℕ)
 
--- parts of any kind
+-- general combinators
 
 abbrev pub byte_at : Reader ℕ
 byte_at [] = None
@@ -90,7 +91,7 @@ bytes_at bs = u32_at bs >>= λ n. split_at n.0 n.1
 unfoldable pub name_at : Reader (List ℕ)
 name_at bs = bytes_at bs >>= λ x. if is_utf8 x.0 then Some (x.0, x.1) else None
 
--- the value, if nothing is left
+-- the value, if no bytes are left
 abbrev pub whole : {A : Type 0} → A × List ℕ → Option A
 whole (x, []) = Some x
 whole (x, b ∷ bs) = None
@@ -109,19 +110,19 @@ func_type x = record { params = x.0; results = x.1 }
 unfoldable pub func_type_at : Reader FuncType
 func_type_at = via_at func_type (behind_at 0x60 (both_at (vector_at value_type_at) (vector_at value_type_at)))
 
-abbrev pub limits : ℕ → Option ℕ → Limits
+abbrev pub limits : ℕ → Option ℕ → ResizableLimits
 limits min most = record { min = min; max = most }
 
-abbrev pub limits_behind : ℕ → Reader Limits
+abbrev pub limits_behind : ℕ → Reader ResizableLimits
 limits_behind b bs =
     if b == 0x00 then via_at (λ min. limits min None) u32_at bs else
     if b == 0x01 then via_at (λ (x : ℕ × ℕ). limits x.0 (Some x.1)) (both_at u32_at u32_at) bs else None
 
-unfoldable pub limits_at : Reader Limits
+unfoldable pub limits_at : Reader ResizableLimits
 limits_at [] = None
 limits_at (b ∷ bs) = limits_behind b bs
 
-abbrev pub table_of : Limits → TableType
+abbrev pub table_of : ResizableLimits → TableType
 table_of l = record { limits = l }
 
 unfoldable pub table_at : Reader TableType
@@ -135,7 +136,7 @@ mem_arg x = record { align = x.0; offset = x.1 }
 unfoldable pub mem_arg_at : Reader MemArg
 mem_arg_at = via_at mem_arg (both_at u32_at u32_at)
 
--- each behind its opcode b
+-- each reads the immediates of the opcode b
 
 unfoldable pub parametric_at : ℕ → Reader Plain
 parametric_at b bs = if b == 0x01 then Some (op.Nop, bs) else if b == 0x1A then Some (op.Drop, bs) else if b == 0x1B then Some (op.Select, bs) else None
@@ -148,7 +149,7 @@ variable_at b bs =
     if b == 0x23 then via_at op.GlobalGet u32_at bs else
     if b == 0x24 then via_at op.GlobalSet u32_at bs else None
 
--- the value, behind a byte 0
+-- the value, after a byte 0
 abbrev pub zero_at : {A : Type 0} → A → Reader A
 zero_at x = behind_at 0x00 (λ bs. Some (x, bs))
 
@@ -184,7 +185,7 @@ control_at b bs =
 abbrev pub block_type_at : Reader BlockType
 block_type_at = single_at block_type_of
 
--- what an instruction of an opcode is
+-- the kind of an opcode
 abbrev pub head_of : ℕ → Head
 head_of b =
     if b == 0x01 then head.Plain else
@@ -200,16 +201,16 @@ abbrev pub expect : ℕ → List ℕ → Option (List ℕ)
 expect k [] = None
 expect k (b ∷ bs) = if b == k then Some bs else None
 
--- a body, one block deeper
+-- the body of a nested block
 abbrev pub inner : (ℕ → Reader Code) → ℕ → Reader Code
 inner code zero bs = None
 inner code (suc d) bs = code d bs
 
--- a block's body, and the byte that ends it
+-- the type and the body of a block, and the byte that ends it
 abbrev pub block_at : (ℕ → Reader Code) → ℕ → Reader (BlockType × Code)
 block_at code d bs = block_type_at bs >>= λ t. inner code d t.1 >>= λ body. expect 0x0B body.1 >>= λ after. Some ((t.0, body.0), after)
 
--- the second half of an if, and the byte that ends it
+-- the else branch of an if, and the byte that ends it
 abbrev pub else_at : (ℕ → Reader Code) → ℕ → Reader Code
 else_at code d [] = None
 else_at code d (b ∷ bs) = if b == 0x05 then (inner code d bs >>= λ n. expect 0x0B n.1 >>= λ after. Some (n.0, after)) else if b == 0x0B then Some (end, bs) else None
@@ -217,7 +218,7 @@ else_at code d (b ∷ bs) = if b == 0x05 then (inner code d bs >>= λ n. expect 
 abbrev pub if_at : (ℕ → Reader Code) → ℕ → Reader (BlockType × (Code × Code))
 if_at code d bs = block_type_at bs >>= λ t. inner code d t.1 >>= λ y. else_at code d y.1 >>= λ n. Some ((t.0, (y.0, n.0)), n.1)
 
--- an instruction of this head, behind its opcode, and the instructions after it
+-- the rest of an instruction with the opcode b of this kind, and the instructions after it
 abbrev pub tail_at : (ℕ → Reader Code) → ℕ → Head → ℕ → Reader Code
 tail_at code d head.Plain b bs = plain_at b bs >>= λ p. code d p.1 >>= λ r. Some (plain p.0 r.0, r.1)
 tail_at code d head.Control b bs = control_at b bs >>= λ k. code d k.1 >>= λ r. Some (control k.0 r.0, r.1)
@@ -226,7 +227,7 @@ tail_at code d head.Loop b bs = block_at code d bs >>= λ x. code d x.1 >>= λ r
 tail_at code d head.If b bs = if_at code d bs >>= λ x. code d x.1 >>= λ r. Some (choose x.0.0 x.0.1.0 x.0.1.1 r.0, r.1)
 tail_at code d head.End b bs = Some (end, b ∷ bs)
 
--- Instructions up to the byte that ends them, fewer than n of them one after another, and at most d blocks one in another.
+-- Instructions up to the byte that ends them: fewer than n in sequence, and blocks nested at most d deep.
 abbrev pub code_at : ℕ → ℕ → Reader Code
 code_at zero d bs = None
 code_at (suc n) d [] = None
@@ -276,7 +277,7 @@ locals_of x = record { count = x.0; value_type = x.1 }
 unfoldable pub locals_at : Reader Locals
 locals_at = via_at locals_of (both_at u32_at value_type_at)
 
--- fewer than 2 ^ 32 locals
+-- the function, if it has fewer than 2 ^ 32 locals
 abbrev pub if_fewer : List Locals × Code → Option (List Locals × Code)
 if_fewer f = if nat_lt (locals_count f.0) (2 ^ 32) then Some f else None
 
@@ -293,7 +294,7 @@ abbrev pub at_custom : List ℕ → Bool
 at_custom [] = false
 at_custom (b ∷ bs) = b == 0x00
 
--- custom sections, fewer than n, and the bytes after them
+-- the bytes after fewer than n custom sections
 abbrev pub customs_from : ℕ → List ℕ → Option (List ℕ)
 customs_from zero bs = None
 customs_from (suc n) [] = Some []
@@ -315,7 +316,7 @@ abbrev pub Funcs : Type 0
 Funcs = List (List Locals × Code)
 
 abbrev pub Sections : Type 0
-Sections = List FuncType × (List Import × (List ℕ × (List TableType × (List Limits × (List Global × (List Export × (List Element × (Funcs × List Data))))))))
+Sections = List FuncType × (List Import × (List ℕ × (List TableType × (List ResizableLimits × (List Global × (List Export × (List Element × (Funcs × List Data))))))))
 
 unfoldable pub sections_at : Reader Sections
 sections_at =
@@ -325,7 +326,7 @@ sections_at =
 abbrev pub function_of : ℕ → List Locals × Code → Function
 function_of t f = record { type_index = t; locals = f.0; body = f.1 }
 
--- the functions of these types
+-- the functions with these types, locals and bodies
 abbrev pub functions_of : List ℕ → Funcs → Option (List Function)
 functions_of [] [] = Some []
 functions_of [] (f ∷ fs) = None
@@ -345,12 +346,12 @@ module_of x fs = record {
   «data» = x.1.1.1.1.1.1.1.1.1;
 }
 
--- the bytes after these
+-- the bytes after these bytes
 abbrev pub expect_all : List ℕ → List ℕ → Option (List ℕ)
 expect_all [] bs = Some bs
 expect_all (k ∷ ks) bs = expect k bs >>= expect_all ks
 
--- the sections, behind the preamble, if nothing is left
+-- the sections after the preamble, if no bytes are left
 abbrev pub all_sections_at : List ℕ → Option Sections
 all_sections_at bs = expect_all MAGIC bs >>= customs_at >>= sections_at >>= whole
 

@@ -1,4 +1,4 @@
--- The sections of the code, as those of the reading functions.
+-- The program's sections as the tuple of the reading functions.
 use Rattle.wasm_read.specs.declared.module.Sections.{Sections}
 use Rattle.wasm_read.specs.Reading.{Sections as Parts}
 

@@ -1,4 +1,4 @@
-//! Parts of the binary format, and vectors of them.
+//! The trait of what the binary format encodes, and vectors (core section 5.1.3).
 
 ghost use Rattle.std.specs.Prelude.{◌≡◌};
 ghost use Rattle.wasm_read.specs.Gives.{Gives, GivesAs};
@@ -9,19 +9,19 @@ use crate::input::Input;
 use std::alloc::Global;
 use wasm_spec::Items;
 
-/// A part of the binary format.
+/// A value that the binary format encodes.
 pub trait Binary {
     ghost use Rattle.std.specs.Prelude.{List, ℕ, Option};
 
-    /// The value at the front of some bytes, and the bytes after it.
+    /// The value that some bytes begin with, and the bytes after it.
     ghost read_at: { List ℕ → Option (Self × List ℕ) };
 
-    /// Reads the value at the front.
+    /// Reads the value that the input begins with.
     fn read(alloc: Global, input: &mut Input<'_>) -> Result<Self, ReadModErr>
         ensures { Gives read_at input.old input.new result };
 }
 
-/// As many values as are counted. Memory is taken for what is read alone.
+/// Reads `count` values. The memory grows with the values that are there, never with a count that the bytes only claim.
 fn row<T: Binary + Drop>(
     alloc: Global,
     input: &mut Input<'_>,
@@ -36,7 +36,7 @@ fn row<T: Binary + Drop>(
     Ok(items)
 }
 
-/// A vector (core section 5.1.3).
+/// Reads a vector (core section 5.1.3).
 #[tactic(auto, unfolding(crate::specs::Reading::vector_at))]
 pub fn vector<T: Binary + Drop>(
     alloc: Global,

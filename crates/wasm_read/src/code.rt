@@ -1,4 +1,4 @@
-//! Instructions one after another, and blocks of them (core sections 5.4.1 and 5.4.6).
+//! Sequences of instructions, and blocks (core sections 5.4.1 and 5.4.6).
 
 ghost use Rattle.std.specs.Prelude.{◌≡◌, ◌≢◌};
 ghost use Rattle.wasm_read.specs.declared.head.Head.TheVariants.{End};
@@ -13,10 +13,10 @@ use crate::instructions::{block_type_of, control, plain};
 use std::alloc::Global;
 use wasm_spec::{Body, Instr, ValueType};
 
-/// The most blocks that may be nested.
+/// The deepest nesting of blocks.
 const MOST_NESTED: u32 = 1000;
 
-/// An expression: instructions, and the byte that ends them.
+/// Reads an expression: instructions and the byte that ends them.
 #[tactic(auto, unfolding(crate::specs::Reading::expr_at))]
 pub fn expression(alloc: Global, input: &mut Input<'_>) -> Result<Body, ReadModErr>
     ensures { Gives expr_at input.old input.new result }
@@ -26,14 +26,14 @@ pub fn expression(alloc: Global, input: &mut Input<'_>) -> Result<Body, ReadModE
     Ok(body)
 }
 
-/// The instructions of an expression.
+/// Reads the instructions of an expression.
 fn instructions(alloc: Global, input: &mut Input<'_>) -> Result<Body, ReadModErr>
     ensures { Gives instructions_at input.old input.new result }
 {
     code(alloc, input, MOST_NESTED)
 }
 
-/// The next opcode. There is none where the next byte ends the instructions; it stays.
+/// Reads the next opcode. If the next byte ends the instructions, returns `None` and leaves the byte unread.
 fn next_opcode(input: &mut Input<'_>) -> Result<Option<u8>, ReadModErr>
     ensures { ReadsOpcode input.old input.new result }
 {
@@ -47,7 +47,7 @@ fn next_opcode(input: &mut Input<'_>) -> Result<Option<u8>, ReadModErr>
     }
 }
 
-/// Instructions up to the byte that ends them. At most `depth` blocks are nested in them.
+/// Reads instructions up to the byte that ends them. Rejects blocks nested deeper than `depth`.
 #[cycle(code)]
 fn code(alloc: Global, input: &mut Input<'_>, depth: u32) -> Result<Body, ReadModErr>
     ensures { ReadsWith (λ n. code_at n depth) input.old input.new result }
@@ -59,7 +59,7 @@ fn code(alloc: Global, input: &mut Input<'_>, depth: u32) -> Result<Body, ReadMo
     Ok(Body::from_vec(items))
 }
 
-/// What stands behind an opcode.
+/// Reads the rest of an instruction after its opcode.
 #[cycle(code)]
 fn instruction(
     alloc: Global,
@@ -89,7 +89,7 @@ fn instruction(
     }
 }
 
-/// What a block leaves.
+/// Reads the type of a block's result (core section 5.3.2).
 fn block_type(input: &mut Input<'_>) -> Result<Option<ValueType>, ReadModErr>
     ensures { Gives block_type_at input.old input.new result }
 {
@@ -97,7 +97,7 @@ fn block_type(input: &mut Input<'_>) -> Result<Option<ValueType>, ReadModErr>
     block_type_of(byte).ok_or(ReadModErr::NotAModule)
 }
 
-/// The result and the body of a block.
+/// Reads the result type and the body of a block.
 #[cycle(code)]
 fn block(
     alloc: Global,
@@ -112,7 +112,7 @@ fn block(
     Ok((result, body))
 }
 
-/// The result and the two bodies of an `if`.
+/// Reads the result type and the two bodies of an `if`.
 #[cycle(code)]
 fn conditional(
     alloc: Global,
@@ -127,7 +127,7 @@ fn conditional(
     Ok((result, (taken, other)))
 }
 
-/// The second body of an `if`, which may be left out.
+/// Reads the else branch of an `if`, which may be left out.
 #[cycle(code)]
 fn otherwise(alloc: Global, input: &mut Input<'_>, depth: u32) -> Result<Body, ReadModErr>
     ensures { ReadsWith (λ n. else_at (code_at n) depth) input.old input.new result }
@@ -144,7 +144,7 @@ fn otherwise(alloc: Global, input: &mut Input<'_>, depth: u32) -> Result<Body, R
     }
 }
 
-/// Instructions, one block deeper.
+/// Reads the instructions of a nested block.
 #[cycle(code)]
 fn inner(alloc: Global, input: &mut Input<'_>, depth: u32) -> Result<Body, ReadModErr>
     ensures { ReadsWith (λ n. inner_at (code_at n) depth) input.old input.new result }

@@ -1,13 +1,13 @@
-//! Why bytes are not read.
+//! The error of the reader.
 
 use std::alloc::{AllocError, AllocFailed};
 
-/// Why bytes are not read.
+/// Why the reader returns no module.
 #[derive(Debug, PartialEq, Eq, Drop)]
 pub enum ReadModErr {
-    /// The bytes spell no module.
+    /// The bytes do not encode a module.
     NotAModule,
-    /// Memory ran out.
+    /// Out of memory.
     NoMemory,
 }
 

@@ -1,9 +1,9 @@
-//! What an opcode begins.
+//! The kinds of opcodes.
 
 ghost use Rattle.std.specs.Prelude.{◌≡◌};
 ghost use Rattle.wasm_read.specs.Reading.{head_of};
 
-/// What an opcode begins.
+/// The kind of an opcode. `End` also covers the byte of `else`, which ends the first branch of an `if`.
 #[derive(Clone, Copy, PartialEq, Eq, Debug)]
 pub enum Head {
     Plain,
@@ -14,7 +14,7 @@ pub enum Head {
     End,
 }
 
-/// What this opcode begins: anything but control instructions where it is no opcode.
+/// Returns the kind of an opcode. For a byte that is no opcode, the result is `Plain` or `Control`, whose readers reject it.
 pub fn head_of(opcode: u8) -> Head
     ensures { result ≡ head_of opcode }
 {

@@ -1,4 +1,4 @@
-//! What is left of some bytes, and the parts of the format that are not made of others (core sections 5.1 and 5.2).
+//! The input of the reader, and the primitive parts of the format (core sections 5.1 and 5.2).
 
 ghost use Rattle.std.specs.Prelude.{◌≡◌, ◌<◌, ◌≤◌, ◌==◌, length, IfOk, slice_get, option_copied};
 ghost use Rattle.wasm_read.specs.Gives.{Gives, GivesAs, Ends, Skips, IsUnlessMemory};
@@ -8,9 +8,9 @@ use crate::error::ReadModErr;
 use crate::numbers::{signed, unsigned};
 use std::alloc::Global;
 use std::marker::Model;
-use wasm_spec::Bytes;
+use wasm_spec::Blob;
 
-/// Bytes that are read from the front.
+/// The bytes that are still to be read. Contracts see it as their list.
 #[derive(Drop)]
 pub struct Input<'a> {
     rest: &'a [u8],
@@ -25,21 +25,21 @@ impl<'a> Model for Input<'a> {
 }
 
 impl<'a> Input<'a> {
-    /// All of these bytes are left to read.
+    /// Starts reading at the first of these bytes.
     pub fn new(bytes: &'a [u8]) -> Self
         ensures { result ≡ bytes.now }
     {
         Input { rest: bytes }
     }
 
-    /// The next byte, which stays.
+    /// Returns the next byte without reading it.
     pub fn peek(&self) -> Option<u8>
         ensures { result ≡ slice_get self.now 0 }
     {
         self.rest.first().copied()
     }
 
-    /// The next byte (core section 5.2.1); `NotAModule` where none is left.
+    /// Reads the next byte (core section 5.2.1). Returns `NotAModule` at the end of the input.
     pub fn byte(&mut self) -> Result<u8, ReadModErr>
         ensures { Gives byte_at self.old self.new result }
     {
@@ -48,7 +48,7 @@ impl<'a> Input<'a> {
         Ok(*first)
     }
 
-    /// Passes over this byte.
+    /// Reads this byte, and rejects any other.
     pub fn expect(&mut self, byte: u8) -> Result<(), ReadModErr>
         ensures { Skips (expect_at byte) self.old self.new result }
     {
@@ -61,7 +61,7 @@ impl<'a> Input<'a> {
         }
     }
 
-    /// `u32`: at most five bytes.
+    /// Reads a `u32` of at most five bytes (core section 5.2.2).
     #[tactic(auto, unfolding(crate::specs::Reading::u32_at))]
     pub fn u32(&mut self) -> Result<u32, ReadModErr>
         ensures { Gives u32_at self.old self.new result }
@@ -71,7 +71,7 @@ impl<'a> Input<'a> {
         Ok(value as u32)
     }
 
-    /// `i32`: at most five bytes. Without sign.
+    /// Reads an `i32` of at most five bytes (core section 5.2.2), as an unsigned number.
     #[tactic(auto, unfolding(crate::specs::Reading::integer_at))]
     pub fn i32(&mut self) -> Result<u32, ReadModErr>
         ensures { Gives (integer_at 32) self.old self.new result }
@@ -81,7 +81,7 @@ impl<'a> Input<'a> {
         Ok(value as u32)
     }
 
-    /// `i64`: at most ten bytes. Without sign.
+    /// Reads an `i64` of at most ten bytes (core section 5.2.2), as an unsigned number.
     #[tactic(auto, unfolding(crate::specs::Reading::integer_at))]
     pub fn i64(&mut self) -> Result<u64, ReadModErr>
         ensures { Gives (integer_at 64) self.old self.new result }
@@ -91,7 +91,7 @@ impl<'a> Input<'a> {
         Ok(value)
     }
 
-    /// Bytes behind their number.
+    /// Reads a vector of bytes and lends them from the input.
     #[tactic(auto, unfolding(crate::specs::Reading::bytes_at))]
     pub fn bytes(&mut self) -> Result<&'a [u8], ReadModErr>
         ensures { GivesAs (λ s. s.now) bytes_at self.old self.new result }
@@ -105,7 +105,7 @@ impl<'a> Input<'a> {
         Ok(bytes)
     }
 
-    /// Bytes behind their number, which are UTF-8.
+    /// Reads a name (core section 5.2.4), whose bytes must be UTF-8, and lends it from the input.
     #[tactic(auto, unfolding(crate::specs::Reading::name_at))]
     pub fn name(&mut self) -> Result<&'a [u8], ReadModErr>
         ensures { GivesAs (λ s. s.now) name_at self.old self.new result }
@@ -117,23 +117,23 @@ impl<'a> Input<'a> {
         }
     }
 
-    /// A copy of bytes behind their number.
-    pub fn owned_bytes(&mut self, alloc: Global) -> Result<Bytes, ReadModErr>
+    /// Reads a vector of bytes and copies them.
+    pub fn owned_bytes(&mut self, alloc: Global) -> Result<Blob, ReadModErr>
         ensures { Gives bytes_at self.old self.new result }
     {
         let bytes = self.bytes()?;
         owned(alloc, bytes)
     }
 
-    /// A copy of a name.
-    pub fn owned_name(&mut self, alloc: Global) -> Result<Bytes, ReadModErr>
+    /// Reads a name and copies it.
+    pub fn owned_name(&mut self, alloc: Global) -> Result<Blob, ReadModErr>
         ensures { Gives name_at self.old self.new result }
     {
         let name = self.name()?;
         owned(alloc, name)
     }
 
-    /// Refuses bytes that are left.
+    /// Rejects any bytes that are still unread.
     pub fn finish(&self) -> Result<(), ReadModErr>
         ensures { Ends self.now result }
     {
@@ -145,9 +145,9 @@ impl<'a> Input<'a> {
     }
 }
 
-/// A copy of these bytes.
-fn owned(alloc: Global, bytes: &[u8]) -> Result<Bytes, ReadModErr>
+/// Copies these bytes.
+fn owned(alloc: Global, bytes: &[u8]) -> Result<Blob, ReadModErr>
     ensures { IsUnlessMemory bytes.now result }
 {
-    Ok(Bytes::from_vec(Vec::from_slice(alloc, bytes)?))
+    Ok(Blob::from_vec(Vec::from_slice(alloc, bytes)?))
 }

@@ -10,11 +10,11 @@ use crate::error::ReadModErr;
 use crate::input::Input;
 use std::alloc::Global;
 use wasm_spec::{
-    ARITHMETIC, COMPARISONS, Control, Conversion, Load, MemArg, Numeric, Plain, SIGN_EXTENSIONS,
-    Sign, Store, ValueType,
+    ARITHMETIC, COMPARISONS, Control, Conversion, LoadKind, MemArg, Numeric, Plain,
+    SIGN_EXTENSIONS, Sign, StoreKind, ValueType,
 };
 
-/// The value type of a byte (core section 5.3.1).
+/// Returns the value type that a byte encodes (core section 5.3.1).
 pub fn value_type_of(byte: u8) -> Option<ValueType>
     ensures { result ≡ value_type_of byte }
 {
@@ -25,7 +25,7 @@ pub fn value_type_of(byte: u8) -> Option<ValueType>
     }
 }
 
-/// The result of a block, by its byte (core section 5.3.2).
+/// Returns the result type of a block that a byte encodes (core section 5.3.2).
 pub fn block_type_of(byte: u8) -> Option<Option<ValueType>>
     ensures { result ≡ block_type_of byte }
 {
@@ -37,51 +37,51 @@ pub fn block_type_of(byte: u8) -> Option<Option<ValueType>>
     }
 }
 
-/// The load of an opcode.
-fn load_of(opcode: u8) -> Option<Load>
+/// Returns the load that an opcode encodes.
+fn load_of(opcode: u8) -> Option<LoadKind>
     ensures { result ≡ load_of opcode }
 {
     match opcode {
-        0x28 => Some(Load::I32),
-        0x29 => Some(Load::I64),
-        0x2C => Some(Load::I32From8(Sign::Signed)),
-        0x2D => Some(Load::I32From8(Sign::Unsigned)),
-        0x2E => Some(Load::I32From16(Sign::Signed)),
-        0x2F => Some(Load::I32From16(Sign::Unsigned)),
-        0x30 => Some(Load::I64From8(Sign::Signed)),
-        0x31 => Some(Load::I64From8(Sign::Unsigned)),
-        0x32 => Some(Load::I64From16(Sign::Signed)),
-        0x33 => Some(Load::I64From16(Sign::Unsigned)),
-        0x34 => Some(Load::I64From32(Sign::Signed)),
-        0x35 => Some(Load::I64From32(Sign::Unsigned)),
+        0x28 => Some(LoadKind::I32),
+        0x29 => Some(LoadKind::I64),
+        0x2C => Some(LoadKind::I32From8(Sign::Signed)),
+        0x2D => Some(LoadKind::I32From8(Sign::Unsigned)),
+        0x2E => Some(LoadKind::I32From16(Sign::Signed)),
+        0x2F => Some(LoadKind::I32From16(Sign::Unsigned)),
+        0x30 => Some(LoadKind::I64From8(Sign::Signed)),
+        0x31 => Some(LoadKind::I64From8(Sign::Unsigned)),
+        0x32 => Some(LoadKind::I64From16(Sign::Signed)),
+        0x33 => Some(LoadKind::I64From16(Sign::Unsigned)),
+        0x34 => Some(LoadKind::I64From32(Sign::Signed)),
+        0x35 => Some(LoadKind::I64From32(Sign::Unsigned)),
         _ => None,
     }
 }
 
-/// The store of an opcode.
-fn store_of(opcode: u8) -> Option<Store>
+/// Returns the store that an opcode encodes.
+fn store_of(opcode: u8) -> Option<StoreKind>
     ensures { result ≡ store_of opcode }
 {
     match opcode {
-        0x36 => Some(Store::I32),
-        0x37 => Some(Store::I64),
-        0x3A => Some(Store::I32To8),
-        0x3B => Some(Store::I32To16),
-        0x3C => Some(Store::I64To8),
-        0x3D => Some(Store::I64To16),
-        0x3E => Some(Store::I64To32),
+        0x36 => Some(StoreKind::I32),
+        0x37 => Some(StoreKind::I64),
+        0x3A => Some(StoreKind::I32To8),
+        0x3B => Some(StoreKind::I32To16),
+        0x3C => Some(StoreKind::I64To8),
+        0x3D => Some(StoreKind::I64To16),
+        0x3E => Some(StoreKind::I64To32),
         _ => None,
     }
 }
 
-/// What stands at a place of a row of opcodes.
-fn row_item(row: &[Numeric], place: usize) -> Option<Numeric>
-    ensures { result ≡ slice_get row.now place }
+/// Returns the instruction at an index of a table of opcodes.
+fn row_item(row: &[Numeric], index: usize) -> Option<Numeric>
+    ensures { result ≡ slice_get row.now index }
 {
-    row.get(place).copied()
+    row.get(index).copied()
 }
 
-/// The numeric instruction of an opcode.
+/// Returns the numeric instruction that an opcode encodes.
 fn numeric_of(opcode: u8) -> Option<Numeric>
     ensures { result ≡ numeric_of opcode }
 {
@@ -102,7 +102,7 @@ fn numeric_of(opcode: u8) -> Option<Numeric>
     }
 }
 
-/// The sign extension of an opcode.
+/// Returns the sign extension that an opcode encodes.
 fn sign_extension_of(opcode: u8) -> Option<Numeric>
     ensures { result ≡ sign_extension_of opcode }
 {
@@ -112,7 +112,7 @@ fn sign_extension_of(opcode: u8) -> Option<Numeric>
     row_item(&SIGN_EXTENSIONS, opcode as usize - 0xC0)
 }
 
-/// Alignment and offset.
+/// Reads an alignment and an offset.
 #[tactic(auto, unfolding(crate::specs::Reading::mem_arg_at))]
 fn mem_arg(input: &mut Input<'_>) -> Result<MemArg, ReadModErr>
     ensures { Gives mem_arg_at input.old input.new result }
@@ -185,7 +185,7 @@ fn numeric(input: &mut Input<'_>, opcode: u8) -> Result<Plain, ReadModErr>
     }
 }
 
-/// What stands behind the opcode of an instruction other than a control instruction.
+/// Reads the immediates of an instruction that never branches, after its opcode.
 #[tactic(auto, unfolding(crate::specs::Reading::plain_at))]
 pub fn plain(input: &mut Input<'_>, opcode: u8) -> Result<Plain, ReadModErr>
     ensures { Gives (plain_at opcode) input.old input.new result }
@@ -202,7 +202,7 @@ pub fn plain(input: &mut Input<'_>, opcode: u8) -> Result<Plain, ReadModErr>
     numeric(input, opcode)
 }
 
-/// What stands behind the opcode of a control instruction without instructions inside.
+/// Reads the immediates of a control instruction with no instructions inside, after its opcode.
 #[tactic(auto, unfolding(crate::specs::Reading::control_at))]
 pub fn control(alloc: Global, input: &mut Input<'_>, opcode: u8) -> Result<Control, ReadModErr>
     ensures { Gives (control_at opcode) input.old input.new result }

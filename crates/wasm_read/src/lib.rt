@@ -1,4 +1,4 @@
-//! Reading WebAssembly modules from their bytes (core section 5).
+//! The reader of WebAssembly modules (core section 5).
 #![tactic(auto)]
 
 mod binary;
@@ -10,8 +10,6 @@ mod instructions;
 mod module;
 mod numbers;
 mod parts;
-#[cfg(test)]
-mod tests;
 
 pub use error::ReadModErr;
 pub use module::read_module;

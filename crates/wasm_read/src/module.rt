@@ -12,18 +12,18 @@ use crate::error::ReadModErr;
 use crate::input::Input;
 use std::alloc::Global;
 use wasm_spec::{
-    Body, Data, Element, Export, FuncType, Function, Import, Items, Limits, Locals, Module,
-    TableType,
+    Body, Data, Element, Export, FuncType, Function, Import, Items, Locals, Module,
+    ResizableLimits, TableType,
 };
 
-/// What the sections of a module hold.
+/// The contents of a module's sections.
 #[derive(Drop)]
 pub struct Sections {
     pub types: Items<FuncType>,
     pub imports: Items<Import>,
     pub type_indices: Items<u32>,
     pub tables: Items<TableType>,
-    pub memories: Items<Limits>,
+    pub memories: Items<ResizableLimits>,
     pub globals: Items<wasm_spec::Global>,
     pub exports: Items<Export>,
     pub elements: Items<Element>,
@@ -31,19 +31,19 @@ pub struct Sections {
     pub data: Items<Data>,
 }
 
-/// The module that the bytes spell, all of the bytes (core section 5.5.15).
+/// Reads the module that the bytes encode (core section 5.5.15). No byte may follow it.
 ///
-/// `NotAModule` comes exactly where they spell none.
+/// Returns `NotAModule` exactly if the bytes encode no module.
 pub fn read_module(alloc: Global, bytes: &[u8]) -> Result<Module, ReadModErr>
-    // What is read is spelled so.
+    // The bytes encode the returned module.
     ensures found { IfOk result (λ m. ModuleBytes m bytes.now) }
-    // What is spelled so is read, unless memory runs out.
+    // The reader returns every module that the bytes encode, unless it runs out of memory.
     ensures only { (m : Module) → ModuleBytes m bytes.now → IsUnlessMemory m result }
 {
     whole_module(alloc, bytes)
 }
 
-/// The same, by the function that reads.
+/// Does the same as `read_module`, with a contract that names the reading function.
 #[tactic(auto, unfolding(crate::specs::Reading::module_at))]
 fn whole_module(alloc: Global, bytes: &[u8]) -> Result<Module, ReadModErr>
     ensures { Is (module_at bytes.now) result }
@@ -63,7 +63,7 @@ fn whole_module(alloc: Global, bytes: &[u8]) -> Result<Module, ReadModErr>
     })
 }
 
-/// The sections, behind the preamble.
+/// Reads the preamble and the sections.
 fn all_sections(alloc: Global, bytes: &[u8]) -> Result<Sections, ReadModErr>
     ensures { IsAs sections_view (all_sections_at bytes.now) result }
 {
@@ -75,7 +75,7 @@ fn all_sections(alloc: Global, bytes: &[u8]) -> Result<Sections, ReadModErr>
     Ok(sections)
 }
 
-/// "\0asm", and version 1.
+/// Reads the preamble: "\0asm" and version 1.
 fn preamble(input: &mut Input<'_>) -> Result<(), ReadModErr>
     ensures { Skips (expect_all MAGIC) input.old input.new result }
 {
@@ -89,7 +89,7 @@ fn preamble(input: &mut Input<'_>) -> Result<(), ReadModErr>
     input.expect(0x00)
 }
 
-/// Passes over custom sections.
+/// Skips custom sections.
 fn customs(input: &mut Input<'_>) -> Result<(), ReadModErr>
     ensures { Skips customs_at input.old input.new result }
 {
@@ -100,7 +100,7 @@ fn customs(input: &mut Input<'_>) -> Result<(), ReadModErr>
     Ok(())
 }
 
-/// Whether a custom section follows.
+/// Returns whether a custom section follows.
 fn at_custom(input: &Input<'_>) -> bool
     ensures { result ≡ at_custom input.now }
 {
@@ -110,7 +110,7 @@ fn at_custom(input: &Input<'_>) -> bool
     }
 }
 
-/// The name of a custom section, behind its number.
+/// Reads a custom section after its id, and returns its name.
 #[tactic(auto, unfolding(crate::specs::Reading::sized_at, crate::specs::Reading::custom_at))]
 fn custom<'a>(input: &mut Input<'a>) -> Result<&'a [u8], ReadModErr>
     ensures { GivesAs (λ s. s.now) (sized_at custom_at) input.old input.new result }
@@ -119,7 +119,7 @@ fn custom<'a>(input: &mut Input<'a>) -> Result<&'a [u8], ReadModErr>
     Input::new(content).name()
 }
 
-/// The section of this number, or no items where another one or none follows.
+/// Reads the section with this id. If another section or none follows, returns no items.
 #[tactic(auto, unfolding(crate::specs::Reading::section_at))]
 fn section<T: Binary + Drop>(
     alloc: Global,
@@ -137,7 +137,7 @@ fn section<T: Binary + Drop>(
     }
 }
 
-/// What stands behind the number of a section, and the custom sections behind it.
+/// Reads a section after its id, and skips the custom sections after it.
 fn section_content<T: Binary + Drop>(
     alloc: Global,
     input: &mut Input<'_>,
@@ -149,7 +149,7 @@ fn section_content<T: Binary + Drop>(
     Ok(items)
 }
 
-/// A vector behind its size.
+/// Reads the size of a vector in bytes, and then the vector.
 #[tactic(auto, unfolding(crate::specs::Reading::sized_at))]
 fn sized_vector<T: Binary + Drop>(
     alloc: Global,
@@ -163,7 +163,7 @@ fn sized_vector<T: Binary + Drop>(
     Ok(items)
 }
 
-/// The functions of these types.
+/// Pairs the types of the functions with their locals and bodies. Rejects different numbers of them.
 fn functions(
     alloc: Global,
     type_indices: Items<u32>,
@@ -188,7 +188,7 @@ fn functions(
     Ok(Items::from_vec(functions))
 }
 
-/// The sections in their order, each at most once.
+/// Reads the sections in the order of their ids, each at most once.
 #[tactic(auto, unfolding(crate::specs::Reading::sections_at))]
 fn read_sections(alloc: Global, input: &mut Input<'_>) -> Result<Sections, ReadModErr>
     ensures { GivesAs sections_view sections_at input.old input.new result }

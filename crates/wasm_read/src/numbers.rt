@@ -1,9 +1,9 @@
-//! Integers (core section 5.2.2): LEB128.
+//! Integers in LEB128 (core section 5.2.2).
 
 ghost use Rattle.std.specs.Prelude.{◌≡◌, ◌≤◌, ◌<◌, ◌^◌, ℕ, List, option_map, IfSome};
 ghost use Rattle.wasm_read.specs.Reading.{leb_at, unsigned_last, signed_last};
 
-/// An unsigned number of so many bits, and the bytes after it.
+/// Reads an unsigned number of `bits` bits. Returns it and the bytes after it.
 pub fn unsigned(bytes: &[u8], bits: u32) -> Option<(u64, &[u8])>
     requires { bits ≤ 64 }
     ensures value { option_map (λ x. (x.0, x.1.now)) result ≡ leb_at unsigned_last bits bytes.now }
@@ -21,7 +21,7 @@ pub fn unsigned(bytes: &[u8], bits: u32) -> Option<(u64, &[u8])>
     }
 }
 
-/// A signed number of so many bits, plus 2 ^ bits where it is negative, and the bytes after it.
+/// Reads a signed number of `bits` bits. Returns its two's complement as an unsigned number, and the bytes after it.
 pub fn signed(bytes: &[u8], bits: u32) -> Option<(u64, &[u8])>
     requires least { 0 < bits }
     requires most { bits ≤ 64 }
@@ -40,7 +40,7 @@ pub fn signed(bytes: &[u8], bits: u32) -> Option<(u64, &[u8])>
     }
 }
 
-/// The last byte of an unsigned number, whose unused bits are 0.
+/// Returns the value of the last byte of an unsigned number. Rejects unused bits other than 0.
 fn unsigned_last(byte: u64, bits: u32) -> Option<u64>
     requires byte { byte < 128 }
     requires bits { bits ≤ 64 }
@@ -53,7 +53,7 @@ fn unsigned_last(byte: u64, bits: u32) -> Option<u64>
     if byte < 1 << bits { Some(byte) } else { None }
 }
 
-/// The last byte of a signed number, whose unused bits are equal to its sign, bit 6.
+/// Returns the value of the last byte of a signed number. Rejects unused bits that differ from its sign, bit 6.
 fn signed_last(byte: u64, bits: u32) -> Option<u64>
     requires byte { byte < 128 }
     requires least { 0 < bits }

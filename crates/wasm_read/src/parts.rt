@@ -1,4 +1,4 @@
-//! Types, and the parts of sections (core sections 5.3 and 5.5).
+//! Types, and the items of sections (core sections 5.3 and 5.5).
 
 ghost use Rattle.std.specs.Prelude.{◌≡◌, ◌+◌, ◌^◌, nat_lt};
 ghost use Rattle.wasm_spec.specs.Binary.{locals_count};
@@ -13,8 +13,8 @@ use crate::input::Input;
 use crate::instructions::value_type_of;
 use std::alloc::Global;
 use wasm_spec::{
-    Body, Data, Element, Export, ExportKind, FuncType, Import, Items, Limits, Locals, Mutability,
-    TableType, ValueType,
+    Body, Data, Element, Export, ExportKind, FuncType, Import, Items, Locals, Mutability,
+    ResizableLimits, TableType, ValueType,
 };
 
 impl Binary for u32 {
@@ -46,19 +46,19 @@ impl Binary for FuncType {
     }
 }
 
-/// Limits behind the byte that says whether there is a most.
-fn limits(input: &mut Input<'_>, kind: u8) -> Result<Limits, ReadModErr>
+/// Reads limits (core section 5.3.4) after the byte that says whether there is a maximum.
+fn limits(input: &mut Input<'_>, kind: u8) -> Result<ResizableLimits, ReadModErr>
     ensures { Gives (limits_behind kind) input.old input.new result }
 {
     match kind {
         0x00 => {
             let min = input.u32()?;
-            Ok(Limits { min, max: None })
+            Ok(ResizableLimits { min, max: None })
         }
         0x01 => {
             let min = input.u32()?;
             let max = input.u32()?;
-            Ok(Limits {
+            Ok(ResizableLimits {
                 min,
                 max: Some(max),
             })
@@ -68,10 +68,10 @@ fn limits(input: &mut Input<'_>, kind: u8) -> Result<Limits, ReadModErr>
 }
 
 #[tactic(auto, unfolding(crate::specs::Reading::limits_at))]
-impl Binary for Limits {
+impl Binary for ResizableLimits {
     ghost read_at = { limits_at };
 
-    fn read(_alloc: Global, input: &mut Input<'_>) -> Result<Limits, ReadModErr> {
+    fn read(_alloc: Global, input: &mut Input<'_>) -> Result<ResizableLimits, ReadModErr> {
         let kind = input.byte()?;
         limits(input, kind)
     }
@@ -83,7 +83,7 @@ impl Binary for TableType {
 
     fn read(alloc: Global, input: &mut Input<'_>) -> Result<TableType, ReadModErr> {
         input.expect(0x70)?;
-        let limits = Limits::read(alloc, input)?;
+        let limits = ResizableLimits::read(alloc, input)?;
         Ok(TableType { limits })
     }
 }
@@ -105,7 +105,7 @@ impl Binary for Import {
     }
 }
 
-/// Whether a global may be set, by its byte.
+/// Returns the mutability that a byte encodes (core section 5.3.7).
 fn mutability_of(byte: u8) -> Option<Mutability>
     ensures { result ≡ mutability_of byte }
 {
@@ -133,7 +133,7 @@ impl Binary for wasm_spec::Global {
     }
 }
 
-/// What is exported, by its byte.
+/// Returns the kind of export that a byte encodes (core section 5.5.10).
 fn export_kind_of(byte: u8) -> Option<ExportKind>
     ensures { result ≡ export_kind_of byte }
 {
@@ -202,7 +202,7 @@ impl Binary for Locals {
     }
 }
 
-/// Whether there are fewer than 2^32 locals.
+/// Returns whether there are fewer than 2^32 locals.
 fn are_few(groups: &[Locals]) -> bool
     ensures { result ≡ nat_lt (locals_count groups.now) (2 ^ 32) }
 {
@@ -216,7 +216,7 @@ fn are_few(groups: &[Locals]) -> bool
     true
 }
 
-/// The locals and the body of a function.
+/// Reads the locals and the body of a function.
 #[tactic(auto, unfolding(crate::specs::Reading::func_at))]
 fn func(alloc: Global, input: &mut Input<'_>) -> Result<(Items<Locals>, Body), ReadModErr>
     ensures { Gives func_at input.old input.new result }
@@ -230,7 +230,7 @@ fn func(alloc: Global, input: &mut Input<'_>) -> Result<(Items<Locals>, Body), R
     }
 }
 
-// An item of the code section: a function's size, locals and body.
+// An item of the code section: the size in bytes, the locals and the body of a function.
 #[tactic(auto, unfolding(crate::specs::Reading::sized_at))]
 impl Binary for (Items<Locals>, Body) {
     ghost read_at = { sized_at func_at };

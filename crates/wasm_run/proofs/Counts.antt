@@ -27,7 +27,7 @@ module _ {W : Type 0} (host : Host W) (never : NeverLowers host) where
       ∙ reply_same b (host f args memory b w) (λ v bytes c u. interp host (on v bytes c) u) (λ v bytes c u. interp host (h.0 v bytes c) u) (never f args memory b w)
       (λ v bytes c u later. interp_alike j k (on v bytes c) (h.0 v bytes c) u (h.2 v bytes c later))
 
--- So a call comes to the same with any greater count.
+-- A larger count does not change the outcome of a call.
 pub same_with_more : {W : Type 0} → SameWithMore W
 same_with_more {W} host m f args store b w n never small one le =
     let s = beginning store b in

@@ -1,4 +1,4 @@
--- Where calls begin.
+-- Starts of calls.
 use Rattle.std.proofs.Common.{◌≡◌, ℕ, zero, suc, ◌-◌, ◌*◌, ◌≤◌, true, false, List, [], ◌∷◌, length, map, Option, Some, refl, sym, ap, ◌∙◌, subst, arith}
 use Rattle.std.specs.Prelude.{slice_get, reverse, replicate, is_some, IsSome, Result, Ok, Err, IfOk}
 use Rattle.wasm_spec.specs.declared.values.Value.{Value}

@@ -24,8 +24,8 @@ use Rattle.wasm_machine.specs.Machine.{Frame, Machine}
 use Rattle.wasm_machine.specs.Behaves.{Behaves}
 use Rattle.wasm_machine.specs.Says.{Says}
 use Rattle.wasm_machine.proofs.SimStart.{own_starts, import_starts}
-use Rattle.wasm_run.specs.declared.instance.Phase.{Phase}
-use Rattle.wasm_run.specs.declared.instance.Phase.TheVariants as phase
+use Rattle.wasm_run.specs.declared.instance.CallPhase.{CallPhase}
+use Rattle.wasm_run.specs.declared.instance.CallPhase.TheVariants as phase
 use Rattle.wasm_run.specs.declared.instance.Event.TheVariants as event
 use Rattle.wasm_run.specs.Suspended.{Suspended, standing, behind, GivesWord, Goes, GoesOnWith, Tells}
 use Rattle.wasm_run.specs.Able.{BeginsAt, BeginsAs, Begins, Able}
@@ -51,16 +51,16 @@ gives_word m locals (Ask f args memory meter on) h = λ v bytes b. gives_word m 
 -- a start
 
 machine_with : ℕ → List Value → List Value → List Frame → Store → ℕ → Meter → Machine
-machine_with place ops locals frames store left b = record { place = place; operands = ops; state = record { locals = locals; store = store; left = left; meter = b }; frames = frames }
+machine_with pc ops locals frames store left b = record { pc = pc; operands = ops; state = record { locals = locals; store = store; left = left; meter = b }; frames = frames }
 
-stands_at : (i : Suspended) (place : ℕ) (ops locals : List Value) (b : Meter) → BeginsAt i place ops locals → machine_with place ops locals [] i.store (2 ^ 64 - 1) b ≡ standing i b
+stands_at : (i : Suspended) (pc : ℕ) (ops locals : List Value) (b : Meter) → BeginsAt i pc ops locals → machine_with pc ops locals [] i.store (2 ^ 64 - 1) b ≡ standing i b
 unfolding machine_with
-stands_at i place ops locals b h =
-    ap (λ (x : ℕ). machine_with x ops locals [] i.store (2 ^ 64 - 1) b) (sym h.place_)
-    ∙ ap (λ (x : List Value). machine_with i.place x locals [] i.store (2 ^ 64 - 1) b) (sym h.operands_)
-    ∙ ap (λ (x : List Value). machine_with i.place i.operands x [] i.store (2 ^ 64 - 1) b) (sym h.locals_)
-    ∙ ap (λ (x : List Frame). machine_with i.place i.operands i.locals x i.store (2 ^ 64 - 1) b) (sym h.frames_)
-    ∙ ap (λ (x : ℕ). machine_with i.place i.operands i.locals i.frames i.store x b) (sym h.left_)
+stands_at i pc ops locals b h =
+    ap (λ (x : ℕ). machine_with x ops locals [] i.store (2 ^ 64 - 1) b) (sym h.pc_)
+    ∙ ap (λ (x : List Value). machine_with i.pc x locals [] i.store (2 ^ 64 - 1) b) (sym h.operands_)
+    ∙ ap (λ (x : List Value). machine_with i.pc i.operands x [] i.store (2 ^ 64 - 1) b) (sym h.locals_)
+    ∙ ap (λ (x : List Frame). machine_with i.pc i.operands i.locals x i.store (2 ^ 64 - 1) b) (sym h.frames_)
+    ∙ ap (λ (x : ℕ). machine_with i.pc i.operands i.locals i.frames i.store x b) (sym h.left_)
 
 module _ (i : Suspended) (export : List ℕ) (f : ℕ) (args : List ℕ) (typed : Typed i.source) (compiled : IsCompiled i.source i.flat) (e : start_of i.source export (length args) ≡ Ready f i.store) (b : Meter) where
   begun : (x : Bool) → is_import i.source f ≡ x → BeginsAs x i f args → Behaves i.source i.flat (standing i b) (meaning i.source f args i.store b)
@@ -75,7 +75,7 @@ module _ (i : Suspended) (export : List ℕ) (f : ℕ) (args : List ℕ) (typed 
   pub goes_begun : Begins i f args → Goes i.source i.flat (standing i b) (meaning i.source f args i.store b)
   goes_begun h = (begun (is_import i.source f) refl h, gives_word i.source [] (meaning i.source f args i.store b) (meaning_good i.source args f i.store b typed (begins i.source export (length args) f i.store e)))
 
--- arguments in place of zeros
+-- zeros replaced by arguments
 
 begins_as : (i : Suspended) (f : ℕ) (args : List ℕ) (x : Bool) → is_import i.source f ≡ x → Begins i f args → BeginsAs x i f args
 begins_as i f args x e h = subst (λ y. BeginsAs y i f args) e h
@@ -94,7 +94,7 @@ starts_import i f args ops able it eo b =
     let g = begins_as i f (replicate (length args) 0) true it able.3 in
     let j : Suspended = record i { phase = phase.Ready; operands = ops } in
     goes_begun j able.2.0 f args able.0 able.1 able.2.1 b
-    (subst (λ y. BeginsAs y j f args) (sym it) (record { place_ = g.place_; operands_ = eo; locals_ = g.locals_; frames_ = g.frames_; left_ = g.left_ }))
+    (subst (λ y. BeginsAs y j f args) (sym it) (record { pc_ = g.pc_; operands_ = eo; locals_ = g.locals_; frames_ = g.frames_; left_ = g.left_ }))
 
 drop_zeros : (n : ℕ) (vs : List Value) → drop n (map value.I64 (replicate n 0) ++ vs) ≡ vs
 drop_zeros zero vs = refl
@@ -119,10 +119,10 @@ starts_own i f args locals able ib el b =
     let j : Suspended = record i { phase = phase.Ready; locals = locals } in
     goes_begun j able.2.0 f args able.0 able.1 able.2.1 b
     (subst (λ y. BeginsAs y j f args) (sym ib)
-    (g.0, g.1, g.2, g.3, record { place_ = g.4.place_; operands_ = g.4.operands_; locals_ = el ∙ ap (λ (x : List Value). map value.I64 args ++ x) rest; frames_ = g.4.frames_; left_ = g.4.left_ }))
+    (g.0, g.1, g.2, g.3, record { pc_ = g.4.pc_; operands_ = g.4.operands_; locals_ = el ∙ ap (λ (x : List Value). map value.I64 args ++ x) rest; frames_ = g.4.frames_; left_ = g.4.left_ }))
 
 -- an instance by its phase
-pub able_at : (i : Suspended) (p : Phase) → i.phase ≡ p → Able i.phase i → Able p i
+pub able_at : (i : Suspended) (p : CallPhase) → i.phase ≡ p → Able i.phase i → Able p i
 able_at i p e h = subst (λ q. Able q i) e h
 
 -- what an event tells

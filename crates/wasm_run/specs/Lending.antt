@@ -1,4 +1,4 @@
--- What is left where the memory of an instance was written to (own).
+-- The instance after its lent memory was written to (own).
 use Rattle.std.specs.Prelude.{ℕ, List, []}
 use Rattle.std.specs.Borrow.{Lends, MutBor, Fml, Array, u8}
 use mir.Syntax.{named}
@@ -10,6 +10,6 @@ use Rattle.wasm_run.specs.contracts.instance.Instance.{the_row}
 abbrev pub remembering : Suspended → List ℕ → Suspended
 remembering i bytes = record i { store = rewritten i.store bytes }
 
--- i ends with the last bytes behind r in its memory
+-- when the loan ends, the memory of i holds the final bytes of r
 abbrev pub LendsMemory : MutBor Suspended → MutBor (List ℕ) → Fml
 LendsMemory i r = Lends (the_row (record { mir = named 1; lft = [] })) (Array u8 0) i r (remembering i.now)

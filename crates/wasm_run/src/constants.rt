@@ -1,4 +1,4 @@
-//! Constants: what globals begin with, and where segments are put (core section 3.3.7).
+//! Values of constant expressions: initial values of globals, and offsets of segments (core section 3.3.7).
 
 ghost use Rattle.std.specs.Prelude.{◌≡◌, ◌++◌, [], option_to_list, IfOk, OnOk};
 ghost use Rattle.wasm_spec.specs.Instances.{constant_plain, constant_value, offset_of, first_values};
@@ -6,7 +6,7 @@ ghost use Rattle.wasm_spec.specs.Instances.{constant_plain, constant_value, offs
 use std::alloc::{AllocError, Global};
 use wasm_spec::{Body, Instr, Plain, Value};
 
-/// The value of a constant instruction.
+/// Returns the value of a constant instruction, or `None` for any other instruction.
 fn constant_plain(globals: &[Value], plain: Plain) -> Option<Value>
     ensures { result ≡ constant_plain globals.now plain }
 {
@@ -18,7 +18,7 @@ fn constant_plain(globals: &[Value], plain: Plain) -> Option<Value>
     }
 }
 
-/// The value of a constant expression.
+/// Returns the value of a constant expression, or `None` if the body is no constant expression.
 fn constant_value(globals: &[Value], body: &Body) -> Option<Value>
     ensures { result ≡ constant_value globals.now body.now }
 {
@@ -32,7 +32,7 @@ fn constant_value(globals: &[Value], body: &Body) -> Option<Value>
     }
 }
 
-/// Where a segment is put.
+/// Returns the offset of a segment.
 pub fn offset_of(globals: &[Value], body: &Body) -> Option<u32>
     ensures { result ≡ offset_of globals.now body.now }
 {
@@ -43,7 +43,7 @@ pub fn offset_of(globals: &[Value], body: &Body) -> Option<u32>
     }
 }
 
-/// Adds what a global begins with.
+/// Pushes the initial value of a global.
 fn push_first(values: &mut Vec<Value>, global: &wasm_spec::Global) -> Result<(), AllocError>
     ensures { OnOk result (values.new.items ≡ values.old.items ++ option_to_list (constant_value [] global.now.init)) }
 {
@@ -56,7 +56,7 @@ fn push_first(values: &mut Vec<Value>, global: &wasm_spec::Global) -> Result<(),
     }
 }
 
-/// What globals begin with.
+/// Returns the initial values of globals.
 pub fn first_values(alloc: Global, globals: &[wasm_spec::Global]) -> Result<Vec<Value>, AllocError>
     ensures { IfOk result (λ v. v.items ≡ first_values globals.now) }
 {

@@ -1,13 +1,13 @@
-//! Why a call does not begin.
+//! Errors at the start of a call.
 
 use std::alloc::{AllocError, AllocFailed};
 
-/// Why a call does not begin.
+/// Why a call cannot start.
 #[derive(Debug, PartialEq, Eq, Drop)]
 pub enum StartErr {
     /// No function is exported under the name.
     Missing,
-    /// The function does not take so many words and give one.
+    /// The function's type is not that number of `i64` parameters and one `i64` result.
     WrongArity,
     /// An element or data segment does not fit.
     Segment,

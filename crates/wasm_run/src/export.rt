@@ -1,4 +1,4 @@
-//! The export that is called.
+//! The exported function that is called.
 
 ghost use Rattle.std.specs.Prelude.{◌≡◌, replicate, Some};
 ghost use Rattle.wasm_spec.specs.declared.types.ValueType.TheVariants.{I64};
@@ -8,7 +8,7 @@ ghost use Rattle.wasm_spec.specs.Instances.{function_exported, function_named, h
 use wasm_check::same_name;
 use wasm_spec::{Export, ExportKind, FuncType, ValueType};
 
-/// The function that an export names, if it names one.
+/// Returns the index of the function that an export names, if it names a function.
 fn function_exported(export: &Export) -> Option<u32>
     ensures { result ≡ function_exported export.now.kind export.now.index }
 {
@@ -20,7 +20,7 @@ fn function_exported(export: &Export) -> Option<u32>
     }
 }
 
-/// The function that is exported under a name.
+/// Returns the index of the function that is exported under the name.
 pub fn function_named(name: &[u8], exports: &[Export]) -> Option<u32>
     ensures { result ≡ function_named name.now exports.now }
 {
@@ -38,7 +38,7 @@ fn is_word(value_type: ValueType) -> bool
     value_type == ValueType::I64
 }
 
-/// Whether these are so many types of 64 bits.
+/// Returns whether the types are `count` times `i64`.
 fn are_words(count: usize, types: &[ValueType]) -> bool
     ensures { result ≡ same_types types.now (replicate count I64) }
 {
@@ -53,7 +53,7 @@ fn are_words(count: usize, types: &[ValueType]) -> bool
     true
 }
 
-/// Whether a function of the type takes so many words and gives one.
+/// Returns whether the function type is `arity` times `i64` to one `i64`.
 pub fn has_arity(arity: usize, func_type: &FuncType) -> bool
     ensures { result ≡ has_arity arity (Some func_type.now) }
 {

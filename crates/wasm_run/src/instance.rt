@@ -1,4 +1,4 @@
-//! Calls that stop at each call of an import.
+//! Calls of exports, which pause at each call of an import.
 
 ghost use Rattle.std.specs.Prelude.{◌≡◌, ◌<◌, ◌++◌, ℕ, List, drop, length, replicate, slice_get, Option, Some, Ok, Err, IfOk, OnOk};
 ghost use Rattle.budget_meter.specs.Meter.{Meter};
@@ -20,42 +20,42 @@ use std::alloc::{AllocError, Global};
 use std::marker::Model;
 use wasm_check::ValidModule;
 use wasm_code::FlatCode;
-use wasm_machine::{Operands, Paused, Running, go_on, is_import, put_numbers};
+use wasm_machine::{MachineState, Operands, Paused, go_on, is_import, put_numbers};
 use wasm_spec::{Items, Module, TrapKind, Value, ValueType};
 
-/// What an instance is ready for.
+/// The phase of a call.
 #[derive(Clone, Copy, PartialEq, Eq, Debug)]
-pub enum Phase {
-    /// To be started: the function of this index, with so many words.
+pub enum CallPhase {
+    /// The call of the function of this index, with so many arguments, has not been started.
     Fresh(u32, usize),
-    /// To go on.
+    /// The call can continue.
     Ready,
-    /// For the answer to the call of an import, of this type.
+    /// The call waits for an import's result, which has this type.
     Waiting(Option<ValueType>),
-    /// For nothing more.
+    /// The call is over.
     Over,
 }
 
-/// What a call comes to.
+/// Why a call paused or ended.
 #[derive(Drop)]
 pub enum Event {
-    /// The end, with its result.
+    /// The call returned this result.
     Done(u64),
-    /// The call of the import of this index.
+    /// The call waits for the import of this index, which it called with these arguments.
     HostCall { import: u32, args: Items<u64> },
-    /// A trap.
+    /// The call trapped.
     Trap(TrapKind),
-    /// The budget allows no more.
+    /// The budget cannot pay for the next instruction.
     Spent,
 }
 
-/// The call of an export. The instance is made for this call alone.
+/// An instance of a module, made for one call of an export.
 #[derive(Drop)]
 pub struct Instance<'a> {
     source: &'a Module,
     code: &'a FlatCode,
-    phase: Phase,
-    running: Running,
+    phase: CallPhase,
+    running: MachineState,
 }
 
 impl<'a> Model for Instance<'a> {
@@ -72,7 +72,7 @@ impl<'a> Model for Instance<'a> {
     ghost invariant = { λ i. IsAble (suspended i.source.now i.code.now i.phase i.running) };
 }
 
-/// The number of a result, which has 64 bits.
+/// Returns the number of a result, which is an `i64`.
 fn word(result_value: Option<Value>) -> u64
     requires { (n : ℕ) × (result_value ≡ Some (value.I64 n)) }
     ensures { result_value ≡ Some (value.I64 result) }
@@ -83,7 +83,7 @@ fn word(result_value: Option<Value>) -> u64
     }
 }
 
-/// Puts the answer of a call into the place that is held for it.
+/// Writes an import's result into the operand that is reserved for it, or removes that operand if there is no result.
 fn put_answer(operands: &mut Operands, result_type: Option<ValueType>, answer: u64)
     requires { 0 < length operands.old }
     ensures { operands.new ≡ answered result_type answer ++ drop 1 operands.old }
@@ -98,7 +98,7 @@ fn put_answer(operands: &mut Operands, result_type: Option<ValueType>, answer: u
 }
 
 impl<'a> Instance<'a> {
-    /// For the call of an export that takes so many words and gives one.
+    /// Makes an instance for a call of the export, whose type has to be `arity` times `i64` to one `i64`.
     pub fn new(
         alloc: Global,
         source: &'a ValidModule,
@@ -106,7 +106,7 @@ impl<'a> Instance<'a> {
         arity: usize,
     ) -> Result<Instance<'a>, StartErr>
         ensures new { IsNew source.now export.now arity result }
-        ensures fresh { IfOk result (λ i. (f : ℕ) × (i.phase ≡ Phase.Fresh f arity)) }
+        ensures fresh { IfOk result (λ i. (f : ℕ) × (i.phase ≡ CallPhase.Fresh f arity)) }
     {
         let module = source.module();
         let code = source.code();
@@ -115,79 +115,79 @@ impl<'a> Instance<'a> {
         Ok(Instance {
             source: module,
             code,
-            phase: Phase::Fresh(function, arity),
+            phase: CallPhase::Fresh(function, arity),
             running,
         })
     }
 
-    /// Puts the arguments. Takes no memory.
+    /// Sets the arguments of the call. Allocates no memory.
     pub fn start(&mut self, args: &[u64])
-        requires { (f : ℕ) × (self.old.phase ≡ Phase.Fresh f (length args.now)) }
-        ensures ready { self.new.phase ≡ Phase.Ready }
-        ensures does { (f : ℕ) → self.old.phase ≡ Phase.Fresh f (length args.now)
+        requires { (f : ℕ) × (self.old.phase ≡ CallPhase.Fresh f (length args.now)) }
+        ensures ready { self.new.phase ≡ CallPhase.Ready }
+        ensures does { (f : ℕ) → self.old.phase ≡ CallPhase.Fresh f (length args.now)
             → Does self.new (meaning self.old.source f args.now self.old.store) }
         ensures store { self.new.store ≡ self.old.store }
     {
-        let Phase::Fresh(function, _) = self.phase else {
+        let CallPhase::Fresh(function, _) = self.phase else {
             unreachable!()
         };
         if is_import(self.source, function) {
             self.running.operands.replace_all(args);
-            self.phase = Phase::Ready;
+            self.phase = CallPhase::Ready;
             return;
         }
         put_numbers(&mut self.running.locals, args);
-        self.phase = Phase::Ready;
+        self.phase = CallPhase::Ready;
     }
 
-    /// Goes on as far as the budget allows: to the call's end, or to the next call of an import.
-    /// Where memory runs out, the instance is for nothing more.
+    /// Runs to the call's end, to the next call of an import, or until the budget is spent. If memory runs out, the call
+    /// is over.
     pub fn step_to(&mut self, budget: &mut Budget) -> Result<Event, AllocError>
-        requires { self.old.phase ≡ Phase.Ready }
+        requires { self.old.phase ≡ CallPhase.Ready }
         ensures tells { IfOk result (λ event. (go : Meter → Run) → Does self.old go → Tells (go budget.old) event budget.new self.new) }
         ensures stands { IfOk result (λ event. StandsAfter event self.new) }
         ensures spends { IfOk result (λ _. IsLater budget.old budget.new) }
         ensures nearer { IfOk result (λ event. IsNearer event self.old self.new) }
     {
-        self.phase = Phase::Over;
+        self.phase = CallPhase::Over;
         match go_on(self.source, self.code, &mut self.running, budget)? {
             Paused::Done(result_value) => Ok(Event::Done(word(result_value))),
             Paused::Trap(kind) => Ok(Event::Trap(kind)),
             Paused::Spent => Ok(Event::Spent),
             Paused::HostCall(import, words, result_type) => {
                 self.running.operands.push(Value::I64(0))?;
-                self.phase = Phase::Waiting(result_type);
+                self.phase = CallPhase::Waiting(result_type);
                 let args = Items::from_vec(words);
                 Ok(Event::HostCall { import, args })
             }
         }
     }
 
-    /// Gives the answer to the call of an import. Takes no memory.
+    /// Passes an import's result to the waiting call. Allocates no memory.
     pub fn give(&mut self, answer: u64)
-        requires { (r : BlockType) × (self.old.phase ≡ Phase.Waiting r) }
-        ensures ready { self.new.phase ≡ Phase.Ready }
+        requires { (r : BlockType) × (self.old.phase ≡ CallPhase.Waiting r) }
+        ensures ready { self.new.phase ≡ CallPhase.Ready }
         ensures goes_on { (on : (ℕ → List ℕ → Meter → Run)) → Awaits self.old on → Does self.new (on answer self.old.store.memory.bytes) }
         ensures work { work self.new ≡ work self.old }
         ensures store { self.new.store ≡ self.old.store }
     {
-        let Phase::Waiting(result_type) = self.phase else {
+        let CallPhase::Waiting(result_type) = self.phase else {
             unreachable!()
         };
         put_answer(&mut self.running.operands, result_type, answer);
-        self.phase = Phase::Ready;
+        self.phase = CallPhase::Ready;
     }
 
-    /// The bytes of the memory, lent. After the call's end nothing is told of them.
+    /// Returns the bytes of the memory. Contracts do not say what they are after the call's end.
     pub fn memory(&self) -> &[u8]
         ensures { result.now ≡ self.now.store.memory.bytes }
     {
         self.running.store.memory()
     }
 
-    /// The memory, to be written to before an answer is given.
+    /// Returns the bytes of the memory for writing, while the call waits for an import's result.
     pub fn memory_mut(&mut self) -> &mut [u8]
-        requires { (r : BlockType) × (self.old.phase ≡ Phase.Waiting r) }
+        requires { (r : BlockType) × (self.old.phase ≡ CallPhase.Waiting r) }
         ensures* writes_back { sem 𝓛 (LendsMemory self.entry result) }
         ensures value { result.now ≡ self.old.store.memory.bytes }
     {

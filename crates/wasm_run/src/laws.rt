@@ -1,23 +1,23 @@
-//! Laws of runs, each the contract of a function that does nothing.
+//! Laws of runs. Each law is the contract of a function with an empty body.
 
 ghost use Rattle.wasm_run.specs.Laws.{EventsFold, NeverBreaks, EachSpends, EnoughAtFirst, EnoughAfterEach, EnoughWhenLater, CountNeverEnds, SameWithMore};
 
-/// What a call is among the functions of a host follows from its events.
+/// The outcome of a call with a host follows from the call's events.
 pub fn events_fold<W>()
     ensures { EventsFold W }
 {}
 
-/// The call of an export of a valid module is never broken, whatever the host.
+/// A call of an export of a valid module is never broken, with any host.
 pub fn never_breaks<W>()
     ensures { NeverBreaks W }
 {}
 
-/// Each instruction that is executed spends something.
+/// Each executed instruction raises the spent instructions.
 pub fn each_spends()
     ensures { EachSpends }
 {}
 
-/// The count of instructions never ends a run before the budget does.
+/// The count of instructions never ends a run that the budget can pay for.
 pub fn count_never_ends()
     ensures at_first { EnoughAtFirst }
     ensures after_each { EnoughAfterEach }
@@ -25,7 +25,7 @@ pub fn count_never_ends()
     ensures is_charge { CountNeverEnds }
 {}
 
-/// Among the functions of a host that never lowers the sums, a call comes to the same with any greater count of instructions.
+/// With a host that never lowers the sums, a larger count of instructions does not change a call's outcome.
 pub fn same_with_more<W>()
     ensures { SameWithMore W }
 {}

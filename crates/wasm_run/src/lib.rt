@@ -1,4 +1,4 @@
-//! Calls of the exports of a valid module, which stop at each call of an import (core section 4.5).
+//! Calls of exports of a valid module, which pause at each call of an import (core section 4.5).
 #![tactic(auto)]
 
 mod constants;
@@ -9,12 +9,10 @@ mod laws;
 mod placing;
 mod prepare;
 mod segments;
-#[cfg(test)]
-mod tests;
 mod trap;
 
 pub use error::StartErr;
-pub use instance::{Event, Instance, Phase};
+pub use instance::{CallPhase, Event, Instance};
 pub use laws::{count_never_ends, each_spends, events_fold, never_breaks, same_with_more};
 pub use prepare::{Beginning, begin};
 pub use trap::trap_error;

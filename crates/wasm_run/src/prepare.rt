@@ -1,4 +1,4 @@
-//! What a call begins with: the function that is exported, and the store (core section 4.5.4).
+//! The start of a call: the exported function and the initial store (core section 4.5.4).
 
 ghost use Rattle.std.specs.Prelude.{◌≡◌, ◌≤◌, Some, IfOk};
 ghost use Rattle.wasm_spec.specs.Typing.{Typed};
@@ -12,19 +12,19 @@ use crate::segments::{data_fit, elements_fit, put_data, put_elements};
 use std::alloc::{AllocError, Global};
 use wasm_code::function_type;
 use wasm_machine::{PAGE_BYTES, Store};
-use wasm_spec::{Limits, Module, TableType, Value};
+use wasm_spec::{Module, ResizableLimits, TableType, Value};
 
-/// The most pages that any memory may have.
+/// The largest size of any memory, in pages.
 const MOST_PAGES: u32 = 64;
 
-/// What a call begins with.
+/// The start of a call: the index of the called function, and the initial store.
 #[derive(Drop)]
 pub struct Beginning {
     pub function: u32,
     pub store: Store,
 }
 
-/// A table whose elements were never set.
+/// Returns a table of empty elements.
 fn first_table(alloc: Global, table_type: Option<TableType>) -> Result<Vec<Option<u32>>, AllocError>
     ensures { IfOk result (λ v. v.items ≡ table_of table_type) }
 {
@@ -35,8 +35,8 @@ fn first_table(alloc: Global, table_type: Option<TableType>) -> Result<Vec<Optio
     Ok(table)
 }
 
-/// A memory of zeros.
-fn first_memory(alloc: Global, limits: Option<Limits>) -> Result<Vec<u8>, AllocError>
+/// Returns a memory of zeros.
+fn first_memory(alloc: Global, limits: Option<ResizableLimits>) -> Result<Vec<u8>, AllocError>
     ensures { IfOk result (λ v. v.items ≡ (memory_of limits).bytes) }
 {
     let mut memory = Vec::new(alloc);
@@ -46,8 +46,8 @@ fn first_memory(alloc: Global, limits: Option<Limits>) -> Result<Vec<u8>, AllocE
     Ok(memory)
 }
 
-/// How many pages the memory may have.
-fn most_pages(limits: Option<Limits>) -> u32
+/// Returns the largest size that the memory can grow to, in pages.
+fn most_pages(limits: Option<ResizableLimits>) -> u32
     ensures value { result ≡ (memory_of limits).most_pages }
     ensures few { result ≤ 64 }
 {
@@ -57,7 +57,7 @@ fn most_pages(limits: Option<Limits>) -> u32
     }
 }
 
-/// Whether all segments fit.
+/// Returns whether all segments fit.
 fn segments_fit(source: &Module, globals: &[Value], table: &[Option<u32>], memory: &[u8]) -> bool
     ensures { result ≡ segments_fit source.now (record { memory = record { bytes = memory.now; most_pages = 0 }; globals = globals.now; table = table.now }) }
 {
@@ -65,7 +65,7 @@ fn segments_fit(source: &Module, globals: &[Value], table: &[Option<u32>], memor
         && data_fit(globals, memory, source.data.as_slice())
 }
 
-/// The store with all segments put into it.
+/// Returns the initial store, with all segments copied into it.
 fn first_store(alloc: Global, source: &Module) -> Result<Store, StartErr>
     requires { Typed source.now }
     ensures { IsFirstStore source.now result }
@@ -82,7 +82,7 @@ fn first_store(alloc: Global, source: &Module) -> Result<Store, StartErr>
     Ok(Store::new(memory, most_pages(limits), globals, table))
 }
 
-/// The function, which has the arity, with the store.
+/// Returns the start of a call of a function whose arity is right.
 fn begin_filled(alloc: Global, source: &Module, function: u32) -> Result<Beginning, StartErr>
     requires { Typed source.now }
     ensures { IsStart (start_filled source.now function (empty_store source.now)) result }
@@ -91,7 +91,7 @@ fn begin_filled(alloc: Global, source: &Module, function: u32) -> Result<Beginni
     Ok(Beginning { function, store })
 }
 
-/// The function, if it has the arity, with the store.
+/// Returns the start of a call of a function, if its arity is right.
 fn begin_function(
     alloc: Global,
     source: &Module,
@@ -110,7 +110,8 @@ fn begin_function(
     begin_filled(alloc, source, function)
 }
 
-/// What the call of an export begins with, which is to take so many words.
+/// Returns the start of a call of the export. A missing export is reported first, then a wrong arity, then a segment
+/// that does not fit.
 pub fn begin(
     alloc: Global,
     source: &Module,

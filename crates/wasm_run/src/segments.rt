@@ -11,25 +11,25 @@ use crate::constants::offset_of;
 use std::alloc::{AllocError, Global};
 use wasm_spec::{Data, Element, Value};
 
-/// Writes these items over others, from a place on.
-fn overwrite<T: Copy + Drop>(items: &mut [T], place: usize, news: &[T])
-    requires { place + length news.now ≤ length items.old }
-    ensures { items.new ≡ overwritten items.old place news.now }
+/// Overwrites the items from the offset on.
+fn overwrite<T: Copy + Drop>(items: &mut [T], offset: usize, news: &[T])
+    requires { offset + length news.now ≤ length items.old }
+    ensures { items.new ≡ overwritten items.old offset news.now }
 {
-    items[place..place + news.len()].copy_from_slice(news);
+    items[offset..offset + news.len()].copy_from_slice(news);
 }
 
-/// Whether an element segment fits.
+/// Returns whether an element segment fits.
 pub fn element_fits(globals: &[Value], table: &[Option<u32>], element: &Element) -> bool
     ensures { result ≡ fits table.now (offset_of globals.now element.now.offset) (length element.now.functions) }
 {
     match offset_of(globals, &element.offset) {
         None => false,
-        Some(place) => place as usize + element.functions.as_slice().len() <= table.len(),
+        Some(offset) => offset as usize + element.functions.as_slice().len() <= table.len(),
     }
 }
 
-/// Whether all element segments fit.
+/// Returns whether all element segments fit.
 pub fn elements_fit(globals: &[Value], table: &[Option<u32>], elements: &[Element]) -> bool
     ensures { result ≡ list_all (λ (e : Element_). fits table.now (offset_of globals.now e.offset) (length e.functions)) elements.now }
 {
@@ -38,17 +38,17 @@ pub fn elements_fit(globals: &[Value], table: &[Option<u32>], elements: &[Elemen
         .all(|element| element_fits(globals, table, element))
 }
 
-/// Whether a data segment fits.
+/// Returns whether a data segment fits.
 pub fn data_fit_one(globals: &[Value], memory: &[u8], segment: &Data) -> bool
     ensures { result ≡ fits memory.now (offset_of globals.now segment.now.offset) (length segment.now.bytes) }
 {
     match offset_of(globals, &segment.offset) {
         None => false,
-        Some(place) => place as usize + segment.bytes.as_slice().len() <= memory.len(),
+        Some(offset) => offset as usize + segment.bytes.as_slice().len() <= memory.len(),
     }
 }
 
-/// Whether all data segments fit.
+/// Returns whether all data segments fit.
 pub fn data_fit(globals: &[Value], memory: &[u8], segments: &[Data]) -> bool
     ensures { result ≡ list_all (λ (d : Data_). fits memory.now (offset_of globals.now d.offset) (length d.bytes)) segments.now }
 {
@@ -57,7 +57,7 @@ pub fn data_fit(globals: &[Value], memory: &[u8], segments: &[Data]) -> bool
         .all(|segment| data_fit_one(globals, memory, segment))
 }
 
-/// Elements that are set.
+/// Returns table elements that hold these functions.
 fn set_elements(alloc: Global, functions: &[u32]) -> Result<Vec<Option<u32>>, AllocError>
     ensures { IfOk result (λ v. v.items ≡ map Some functions.now) }
 {
@@ -67,7 +67,7 @@ fn set_elements(alloc: Global, functions: &[u32]) -> Result<Vec<Option<u32>>, Al
         .collect(alloc)
 }
 
-/// Puts an element segment, which fits, into the table.
+/// Copies an element segment, which fits, into the table.
 fn put_element(
     alloc: Global,
     globals: &[Value],
@@ -79,15 +79,15 @@ fn put_element(
 {
     match offset_of(globals, &element.offset) {
         None => unreachable!(),
-        Some(place) => {
+        Some(offset) => {
             let elements = set_elements(alloc, element.functions.as_slice())?;
-            overwrite(table, place as usize, elements.as_slice());
+            overwrite(table, offset as usize, elements.as_slice());
             Ok(())
         }
     }
 }
 
-/// Puts element segments, which fit, into the table.
+/// Copies element segments, which fit, into the table.
 pub fn put_elements(
     alloc: Global,
     globals: &[Value],
@@ -103,18 +103,18 @@ pub fn put_elements(
     Ok(())
 }
 
-/// Puts a data segment, which fits, into memory.
+/// Copies a data segment, which fits, into the memory.
 fn put_segment(globals: &[Value], memory: &mut [u8], segment: &Data)
     requires { fits memory.old (offset_of globals.now segment.now.offset) (length segment.now.bytes) ≡ true }
     ensures { memory.new ≡ put memory.old (offset_of globals.now segment.now.offset) segment.now.bytes }
 {
     match offset_of(globals, &segment.offset) {
         None => unreachable!(),
-        Some(place) => overwrite(memory, place as usize, segment.bytes.as_slice()),
+        Some(offset) => overwrite(memory, offset as usize, segment.bytes.as_slice()),
     }
 }
 
-/// Puts data segments, which fit, into memory.
+/// Copies data segments, which fit, into the memory.
 pub fn put_data(globals: &[Value], memory: &mut [u8], segments: &[Data])
     requires { list_all (λ (d : Data_). fits memory.old (offset_of globals.now d.offset) (length d.bytes)) segments.now ≡ true }
     ensures { memory.new ≡ with_data globals.now memory.old segments.now }

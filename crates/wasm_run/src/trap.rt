@@ -19,7 +19,7 @@ fn trap_code(kind: TrapKind) -> ScErrorCode
     }
 }
 
-/// The error that a trap ends a contract's call with.
+/// Returns the error with which a trap ends a contract's call.
 pub fn trap_error(kind: TrapKind) -> ScError
     ensures { result ≡ trap_error kind }
 {

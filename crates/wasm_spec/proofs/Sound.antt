@@ -18,7 +18,7 @@ use Rattle.wasm_spec.specs.declared.values.Value.{Value}
 use Rattle.wasm_spec.specs.declared.values.Value.TheVariants as value
 use Rattle.wasm_spec.specs.declared.instructions.Numeric.{Numeric}
 use Rattle.wasm_spec.specs.declared.instructions.Numeric.TheVariants as numeric
-use Rattle.wasm_spec.specs.declared.instructions.Load.{Load}
+use Rattle.wasm_spec.specs.declared.instructions.LoadKind.{LoadKind}
 use Rattle.wasm_spec.specs.declared.instructions.Plain.{Plain}
 use Rattle.wasm_spec.specs.declared.instructions.Plain.TheVariants as op
 use Rattle.wasm_spec.specs.declared.instructions.Control.{Control}
@@ -217,7 +217,7 @@ module _ (m : Module) (ls : List ValueType) (locals : List Value) (store : Store
       subst (λ o. EffectGood m ls us (with_some o (λ _. Leaves ops locals (record store { globals = slice_set store.globals i v })))) (sym found.1)
       (h.1, l, (value_set store.globals (global_types m.globals) i v g.value_type st.0 q h.0, st.1))
 
-  loads_good : (f : Load) (o : Option ℕ) (ops : List Value) (below : List ValueType) → HasTypes ops below → EffectGood m ls (load_type f ∷ below) (loads f o ops locals store)
+  loads_good : (f : LoadKind) (o : Option ℕ) (ops : List Value) (below : List ValueType) → HasTypes ops below → EffectGood m ls (load_type f ∷ below) (loads f o ops locals store)
   loads_good f None ops below h = tt
   loads_good f (Some n) ops below h = ((type-value_of (load_type f) n, h), l, st)
 

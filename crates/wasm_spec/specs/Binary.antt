@@ -1,8 +1,8 @@
--- The binary format (core section 5): which bytes spell which parts of a module. Bytes are numbers below 256.
+-- The binary format (core section 5): which bytes encode which parts of a module. Bytes are numbers below 256.
 use Rattle.std.specs.Prelude.{◌≡◌, ℕ, ◌+◌, ◌-◌, ◌*◌, ◌^◌, ◌<◌, ◌≤◌, ◌⊎◌, max, List, [], ◌∷◌, ◌++◌, length, map, sum_by, Option, Some, None, IsUtf8}
 use Rattle.wasm_spec.specs.declared.types.ValueType.{ValueType}
 use Rattle.wasm_spec.specs.declared.types.FuncType.{FuncType}
-use Rattle.wasm_spec.specs.declared.types.Limits.{Limits}
+use Rattle.wasm_spec.specs.declared.types.ResizableLimits.{ResizableLimits}
 use Rattle.wasm_spec.specs.declared.types.TableType.{TableType}
 use Rattle.wasm_spec.specs.declared.instructions.MemArg.{MemArg}
 use Rattle.wasm_spec.specs.declared.instructions.Plain.{Plain}
@@ -20,26 +20,26 @@ use Rattle.wasm_spec.specs.declared.module.Module.{Module}
 use Rattle.wasm_spec.specs.Code.{Code, end, plain, control, block, loop, choose, BlockType}
 use Rattle.wasm_spec.specs.Opcodes.{value_type_of, block_type_of, mutability_of, export_kind_of, load_of, store_of, numeric_of}
 
--- which bytes spell a value
+-- which bytes encode a value
 abbrev pub Spelling : Type 0 → Type 1
 Spelling A = A → List ℕ → Type 0
 
--- a byte, and then the spelling of the value
+-- a byte, and then the encoding of the value
 abbrev pub Behind : {A : Type 0} → ℕ → Spelling A → Spelling A
 Behind k P x bs = (rest : List ℕ) × (bs ≡ k ∷ rest) × P x rest
 
--- one value after another
+-- the encodings of two values, one after the other
 infixr 6 ◌⊗◌
 abbrev pub ◌⊗◌ : {A B : Type 0} → Spelling A → Spelling B → Spelling (A × B)
 (P ⊗ Q) x bs = (a b : List ℕ) × (bs ≡ a ++ b) × P x.0 a × Q x.1 b
 
--- a byte that stands for the value
+-- one byte that encodes the value
 abbrev pub Single : {A : Type 0} → (ℕ → Option A) → Spelling A
 Single meaning x bs = (b : ℕ) × (bs ≡ b ∷ []) × (meaning b ≡ Some x)
 
 -- integers (5.2.2): LEB128
 
--- A byte below 128 is the last one. One from 128 on has seven bits, the lowest, and the others stand in the bytes behind it.
+-- A byte below 128 is the last one. A byte of 128 or more holds the lowest seven bits, and the bytes after it hold the others.
 abbrev pub IsLeb : (ℕ → ℕ → ℕ → Type 0) → ℕ → Spelling ℕ
 IsLeb IsLast bits n [] = ⊥
 IsLeb IsLast bits n (b ∷ []) = (b < 128) × IsLast bits b n
@@ -49,7 +49,7 @@ IsLeb IsLast bits n (b ∷ c ∷ bs) = (128 ≤ b) × (7 < bits) × (high : ℕ)
 abbrev pub IsUnsignedLast : ℕ → ℕ → ℕ → Type 0
 IsUnsignedLast bits b n = (b < 2 ^ bits) × (n ≡ b)
 
--- The last byte of a signed number, whose bit 6 is the sign: its unused bits are equal to the sign. A negative number stands for itself plus 2 ^ bits.
+-- The last byte of a signed number with so many bits left: bit 6 is the sign, and the unused bits equal it. n is the number, plus 2 ^ bits if it is negative.
 abbrev pub IsSignedLast : ℕ → ℕ → ℕ → Type 0
 IsSignedLast bits b n = ((b < 64) × (b < 2 ^ (bits - 1)) × (n ≡ b)) ⊎ ((64 ≤ b) × (128 ≤ b + 2 ^ (bits - 1)) × (n + 128 ≡ b + 2 ^ bits))
 
@@ -57,7 +57,7 @@ IsSignedLast bits b n = ((b < 64) × (b < 2 ^ (bits - 1)) × (n ≡ b)) ⊎ ((64
 abbrev pub IsUnsigned : ℕ → Spelling ℕ
 IsUnsigned bits = IsLeb IsUnsignedLast bits
 
--- iN: an integer without sign, spelled as the signed number sN that has its bits
+-- iN: an uninterpreted integer, encoded as the signed number sN with the same bits
 abbrev pub IsInteger : ℕ → Spelling ℕ
 IsInteger bits = IsLeb IsSignedLast bits
 
@@ -66,23 +66,23 @@ IsU32 = IsUnsigned 32
 
 -- vectors (5.1.3) and names (5.2.4)
 
--- values one after another
+-- a sequence of values without a length
 abbrev pub IsRow : {A : Type 0} → Spelling A → Spelling (List A)
 IsRow P [] bs = bs ≡ []
 IsRow P (x ∷ xs) bs = (a b : List ℕ) × (bs ≡ a ++ b) × P x a × IsRow P xs b
 
--- their number, and then the values
+-- the number of values, and then the values
 abbrev pub IsVector : {A : Type 0} → Spelling A → Spelling (List A)
 IsVector P xs bs = (a b : List ℕ) × (bs ≡ a ++ b) × IsU32 (length xs) a × IsRow P xs b
 
--- their number, and then the bytes
+-- the number of bytes, and then the bytes
 abbrev pub IsByteVector : Spelling (List ℕ)
 IsByteVector bytes bs = (a : List ℕ) × (bs ≡ a ++ bytes) × IsU32 (length bytes) a
 
 abbrev pub IsName : Spelling (List ℕ)
 IsName name bs = IsUtf8 name × IsByteVector name bs
 
--- the number of bytes that the value's spelling has, and then the spelling
+-- the number of bytes that encode the value, and then those bytes
 abbrev pub Sized : {A : Type 0} → Spelling A → Spelling A
 Sized P x bs = (a b : List ℕ) × (bs ≡ a ++ b) × IsU32 (length b) a × P x b
 
@@ -98,7 +98,7 @@ abbrev pub IsLimitsOf : ℕ → Option ℕ → List ℕ → Type 0
 IsLimitsOf min None = Behind 0x00 IsU32 min
 IsLimitsOf min (Some most) = Behind 0x01 (IsU32 ⊗ IsU32) (min, most)
 
-abbrev pub IsLimits : Spelling Limits
+abbrev pub IsLimits : Spelling ResizableLimits
 IsLimits l = IsLimitsOf l.min l.max
 
 -- instructions (5.4)
@@ -124,7 +124,7 @@ IsPlain (op.I32Const n) bs = Behind 0x41 (IsInteger 32) n bs
 IsPlain (op.I64Const n) bs = Behind 0x42 (IsInteger 64) n bs
 IsPlain (op.Numeric n) bs = Single numeric_of n bs
 
--- 5.4.1, but for the blocks
+-- 5.4.1, without blocks
 abbrev pub IsControl : Spelling Control
 IsControl jump.Unreachable bs = bs ≡ 0x00 ∷ []
 IsControl (jump.Br l) bs = Behind 0x0C IsU32 l bs
@@ -137,7 +137,7 @@ IsControl (jump.CallIndirect t) bs = (a : List ℕ) × (bs ≡ 0x11 ∷ (a ++ (0
 abbrev pub IsBlockType : Spelling BlockType
 IsBlockType = Single block_type_of
 
--- Instructions one after another. A block ends with 0x0B; so does an if, whose second half stands behind 0x05 and may be left out where it is empty.
+-- A sequence of instructions. A block ends with 0x0B. The else branch of an if follows 0x05 and may be left out if it is empty.
 abbrev pub IsCode : Spelling Code
 IsCode end bs = bs ≡ []
 IsCode (plain p rest) bs = (a b : List ℕ) × (bs ≡ a ++ b) × IsPlain p a × IsCode rest b
@@ -148,7 +148,7 @@ IsCode (choose t taken other rest) bs =
     (y a e b : List ℕ) × (bs ≡ 0x04 ∷ (y ++ (a ++ (e ++ (0x0B ∷ b))))) × IsBlockType t y × IsCode taken a
     × (((other ≡ end) × (e ≡ [])) ⊎ ((c : List ℕ) × (e ≡ 0x05 ∷ c) × IsCode other c)) × IsCode rest b
 
--- how deeply blocks are nested
+-- the depth to which blocks are nested
 abbrev pub depth : Code → ℕ
 depth end = 0
 depth (plain p rest) = depth rest
@@ -157,7 +157,7 @@ depth (block t body rest) = max (depth body + 1) (depth rest)
 depth (loop t body rest) = max (depth body + 1) (depth rest)
 depth (choose t taken other rest) = max (max (depth taken + 1) (depth other + 1)) (depth rest)
 
--- the most blocks that may be nested (own)
+-- the deepest nesting of blocks (a limit of this host)
 abbrev pub MOST_NESTED : ℕ
 MOST_NESTED = 1000
 
@@ -167,11 +167,11 @@ IsExpr code bs = (a : List ℕ) × (bs ≡ a ++ (0x0B ∷ [])) × IsCode code a 
 
 -- parts of modules (5.5)
 
--- 5.5.5: functions alone
+-- 5.5.5, of functions only
 abbrev pub IsImport : Spelling Import
 IsImport i = (IsName ⊗ IsName ⊗ Behind 0x00 IsU32) (i.module, (i.name, i.type_index))
 
--- 5.5.7 (5.3.6): tables of functions
+-- 5.5.7 and 5.3.6: tables of functions
 abbrev pub IsTable : Spelling TableType
 IsTable t = Behind 0x70 IsLimits t.limits
 
@@ -199,21 +199,21 @@ IsLocals l = (IsU32 ⊗ IsValueType) (l.count, l.value_type)
 abbrev pub locals_count : List Locals → ℕ
 locals_count = sum_by (λ l. l.count)
 
--- a function's locals, of which there are fewer than 2 ^ 32, and its body
+-- a function's locals, fewer than 2 ^ 32 of them, and its body
 abbrev pub IsFunc : Spelling (List Locals × Code)
 IsFunc f bs = (locals_count f.0 < 2 ^ 32) × (IsVector IsLocals ⊗ IsExpr) f bs
 
 -- sections (5.5.2, 5.5.3)
 
--- A custom section has a name and then anything.
+-- A custom section holds a name and then any bytes.
 abbrev pub IsCustomContent : Spelling (List ℕ)
 IsCustomContent name bs = (a more : List ℕ) × (bs ≡ a ++ more) × IsName name a
 
--- custom sections one after another, whose names are these
+-- a sequence of custom sections with these names
 abbrev pub AreCustoms : Spelling (List (List ℕ))
 AreCustoms = IsRow (Behind 0x00 (Sized IsCustomContent))
 
--- The section of this number and the custom sections behind it; or no bytes at all, for no items.
+-- The section with this id and the custom sections after it, or no bytes at all if there are no items.
 abbrev pub IsSection : {A : Type 0} → ℕ → Spelling A → Spelling (List A)
 IsSection number P xs bs = ((xs ≡ []) × (bs ≡ [])) ⊎ ((names : List (List ℕ)) × Behind number (Sized (IsVector P) ⊗ AreCustoms) (xs, names) bs)
 
@@ -229,7 +229,7 @@ type_indices fs = map (λ (f : Function). f.type_index) fs
 abbrev pub funcs : List Function → List (List Locals × Code)
 funcs fs = map (λ (f : Function). (f.locals, f.body)) fs
 
--- The sections in their order, each at most once. A function has its type in section 3, and the rest in section 10. There is no start section, 8.
+-- The sections in the order of their ids, each at most once. Section 3 holds the functions' types, and section 10 their locals and bodies. There is no start section (id 8).
 abbrev pub ModuleBytes : Module → List ℕ → Type 0
 ModuleBytes m bs =
     (names : List (List ℕ)) × (rest : List ℕ) × (bs ≡ MAGIC ++ rest)

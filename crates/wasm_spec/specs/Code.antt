@@ -1,4 +1,4 @@
--- Code as a tree: what contracts see of instructions one after another (core section 2.4).
+-- Code as a tree: the model of a sequence of instructions (core section 2.4).
 use Rattle.std.specs.Prelude.{◌≡◌, ℕ, suc, ◌+◌, Option}
 use Rattle.std.proofs.Common.{refl, ap, ap₂, ◌∙◌}
 use Rattle.std.specs.Coded.{Coded, coded_option}
@@ -10,7 +10,7 @@ use Rattle.wasm_spec.specs.contracts.types.ValueType as value_types
 use Rattle.wasm_spec.specs.contracts.instructions.Plain as plains
 use Rattle.wasm_spec.specs.contracts.instructions.Control as controls
 
--- what a block gives: one value, or none (core section 5.3.2 has no other block types)
+-- the result type of a block: one value or none (core section 5.3.2 has no other block types)
 abbrev pub BlockType : Type 0
 BlockType = Option ValueType
 
@@ -23,7 +23,7 @@ pub data Code : Type 0 where
   loop : BlockType → Code → Code → Code
   choose : BlockType → Code → Code → Code → Code
 
--- how many instructions there are, inner ones counted
+-- the number of instructions, nested ones included
 abbrev pub size_of : Code → ℕ
 size_of end = 0
 size_of (plain p rest) = suc (size_of rest)
@@ -32,7 +32,7 @@ size_of (block t body rest) = suc (suc (size_of body) + size_of rest)
 size_of (loop t body rest) = suc (suc (size_of body) + size_of rest)
 size_of (choose t taken other rest) = suc (suc (size_of taken) + suc (size_of other) + size_of rest)
 
--- Code stored as a tree of numbers, which gives it back.
+-- An injective code for Code as a tree of numbers, which the type Body cites as a ghost member.
 
 abbrev pub coded_block_type : Coded BlockType
 coded_block_type = coded_option value_types.the_row.coded

@@ -1,4 +1,4 @@
--- What the instructions do that go on to the next one or trap (core sections 4.4.1 to 4.4.4).
+-- The effects of the instructions that never branch (core sections 4.4.1 to 4.4.4).
 use Rattle.std.specs.Prelude.{ℕ, ◌+◌, ◌-◌, ◌*◌, ◌^◌, nat_le, List, [], ◌∷◌, ◌++◌, Option, Some, None, slice_get, slice_set, replicate, if◌then◌else◌}
 use Rattle.wasm_spec.specs.declared.types.ValueType.TheVariants.{I32}
 use Rattle.wasm_spec.specs.declared.types.Taken.{Taken}
@@ -8,7 +8,7 @@ use Rattle.wasm_spec.specs.declared.values.Value.TheVariants as value
 use Rattle.wasm_spec.specs.declared.values.TrapKind.{TrapKind}
 use Rattle.wasm_spec.specs.declared.values.TrapKind.TheVariants.{OutOfBounds, Arithmetic}
 use Rattle.wasm_spec.specs.declared.instructions.Numeric.{Numeric}
-use Rattle.wasm_spec.specs.declared.instructions.Load.{Load}
+use Rattle.wasm_spec.specs.declared.instructions.LoadKind.{LoadKind}
 use Rattle.wasm_spec.specs.declared.instructions.Plain.{Plain}
 use Rattle.wasm_spec.specs.declared.instructions.Plain.TheVariants as op
 use Rattle.wasm_spec.specs.Integers.{numeric_result}
@@ -16,7 +16,7 @@ use Rattle.wasm_spec.specs.Memory.{loaded, stored}
 use Rattle.wasm_spec.specs.Typing.{numeric_signature, load_type, store_type}
 use Rattle.wasm_spec.specs.Stores.{value_of, result_values, pop, PAGE, Store, pages, with_bytes}
 
--- What an instruction comes to. Grows also asks for a charge of that many new bytes. Lacks: an operand, local or global is not there, or has another type.
+-- The effect of an instruction. Grows also demands a charge for that many new bytes. Lacks: an operand, local or global is missing or has another type.
 pub data Effect : Type 0 where
   Leaves : (operands locals : List Value) (store : Store) → Effect
   Grows : (bytes : ℕ) (operands locals : List Value) (store : Store) → Effect
@@ -33,7 +33,7 @@ abbrev pub gives : Numeric → Option ℕ → List Value → List Value → Stor
 gives o None ops locals store = Faults Arithmetic
 gives o (Some n) ops locals store = Leaves (result_values (numeric_signature o).gives n ++ ops) locals store
 
--- an instruction that takes these
+-- the effect of an instruction that pops these operands
 abbrev pub numeric_effect : Numeric → Taken → List Value → List Value → Store → Effect
 numeric_effect o operands.None ops locals store = Lacks
 numeric_effect o (operands.One t) ops locals store = pop Lacks t ops (λ i ops. gives o (numeric_result o i 0) ops locals store)
@@ -45,7 +45,7 @@ abbrev pub drop_effect : List Value → List Value → Store → Effect
 drop_effect [] locals store = Lacks
 drop_effect (v ∷ ops) locals store = Leaves ops locals store
 
--- the lower of two values where the number is not 0
+-- the lower of the two topmost values if the number is not 0, else the topmost
 abbrev pub chosen : ℕ → List Value → List Value → Store → Effect
 chosen n [] locals store = Lacks
 chosen n (v ∷ []) locals store = Lacks
@@ -67,17 +67,17 @@ global_set i (v ∷ ops) locals store = with_some (slice_get store.globals i) (�
 
 -- memory (4.4.4)
 
--- with the number that was read, if its bytes were there
-abbrev pub loads : Load → Option ℕ → List Value → List Value → Store → Effect
+-- the effect of a load that read this number, or None outside the memory
+abbrev pub loads : LoadKind → Option ℕ → List Value → List Value → Store → Effect
 loads l None ops locals store = Faults OutOfBounds
 loads l (Some n) ops locals store = Leaves (value_of (load_type l) n ∷ ops) locals store
 
--- with the bytes of the memory after a write, if its place was there
+-- the effect of a store that left these bytes in the memory, or None outside it
 abbrev pub stores : Option (List ℕ) → List Value → List Value → Store → Effect
 stores None ops locals store = Faults OutOfBounds
 stores (Some bytes) ops locals store = Leaves ops locals (with_bytes bytes store)
 
--- n pages more
+-- the effect of memory.grow by n pages
 abbrev pub grows : ℕ → List Value → List Value → Store → Effect
 grows n ops locals store =
     if nat_le (pages store.memory + n) store.memory.most_pages

@@ -1,4 +1,4 @@
--- The code inside a block is smaller than the code that the block stands in (own).
+-- A proof that the type Body cites as a ghost member: the instructions inside a block weigh less than the code around it.
 use Rattle.std.specs.Prelude.{◌≤◌, List, [], ◌∷◌}
 use Rattle.std.proofs.Common.{arith}
 use denote.Param.Weighed.{most}

@@ -1,10 +1,10 @@
--- How a run begins: the export that is called, and the store (core section 4.5.4).
+-- The start of a run: the export that is called, and the initial store (core section 4.5.4).
 use Rattle.std.specs.Prelude.{ℕ, ◌+◌, ◌*◌, ◌&&◌, nat_le, min, List, [], ◌∷◌, ◌++◌, length, map, fold, replicate, Bool, false, Option, Some, None, unwrap_or, option_to_list, slice_get, if◌then◌else◌}
 use Rattle.std.specs.List.{list_all}
 use Rattle.std.specs.Str.{bytes_eq}
 use Rattle.wasm_spec.specs.declared.types.ValueType.TheVariants.{I64}
 use Rattle.wasm_spec.specs.declared.types.FuncType.{FuncType}
-use Rattle.wasm_spec.specs.declared.types.Limits.{Limits}
+use Rattle.wasm_spec.specs.declared.types.ResizableLimits.{ResizableLimits}
 use Rattle.wasm_spec.specs.declared.types.TableType.{TableType}
 use Rattle.wasm_spec.specs.declared.values.Value.{Value}
 use Rattle.wasm_spec.specs.declared.values.Value.TheVariants as value
@@ -22,7 +22,7 @@ use Rattle.wasm_spec.specs.Typing.{MOST_PAGES, function_type}
 use Rattle.wasm_spec.specs.Stores.{overwritten, PAGE, Memory, Store}
 use Rattle.wasm_spec.specs.Meaning.{same_types}
 
--- constants (3.3.7): what globals begin with, and where segments are put
+-- constant expressions (3.3.7): the initial values of globals, and the offsets of segments
 
 abbrev pub constant_plain : List Value → Plain → Option Value
 constant_plain globals (op.I32Const n) = Some (value.I32 n)
@@ -34,16 +34,16 @@ abbrev pub constant_value : List Value → Code → Option Value
 constant_value globals (plain p end) = constant_plain globals p
 constant_value globals _ = None
 
-abbrev pub place_of : Option Value → Option ℕ
-place_of (Some (value.I32 n)) = Some n
-place_of (Some (value.I64 n)) = None
-place_of None = None
+abbrev pub i32_of : Option Value → Option ℕ
+i32_of (Some (value.I32 n)) = Some n
+i32_of (Some (value.I64 n)) = None
+i32_of None = None
 
--- where a segment is put
+-- the offset of a segment
 abbrev pub offset_of : List Value → Code → Option ℕ
-offset_of globals code = place_of (constant_value globals code)
+offset_of globals code = i32_of (constant_value globals code)
 
--- the store before the segments
+-- the store before the segments are written
 
 abbrev pub first_values : List Global → List Value
 first_values [] = []
@@ -56,23 +56,23 @@ abbrev pub table_of : Option TableType → List (Option ℕ)
 table_of None = []
 table_of (Some t) = replicate t.limits.min None
 
--- A memory has at most as many pages as it is declared to have, and never more than this host allows.
-abbrev pub memory_of : Option Limits → Memory
+-- A memory grows to its declared maximum at most, and never beyond this host's limit.
+abbrev pub memory_of : Option ResizableLimits → Memory
 memory_of None = record { bytes = []; most_pages = 0 }
 memory_of (Some l) = record { bytes = replicate (l.min * PAGE) 0; most_pages = min (unwrap_or l.max MOST_PAGES) MOST_PAGES }
 
 abbrev pub empty_store : Module → Store
 empty_store m = record { memory = memory_of (slice_get m.memories 0); globals = first_globals m; table = table_of (slice_get m.tables 0) }
 
--- segments: all of them are tested before any is written, in their order
+-- segments: all are tested before any is written, in the order of the module
 
 abbrev pub fits : {A : Type 0} → List A → Option ℕ → ℕ → Bool
 fits items None count = false
-fits items (Some place) count = nat_le (place + count) (length items)
+fits items (Some offset) count = nat_le (offset + count) (length items)
 
 abbrev pub put : {A : Type 0} → List A → Option ℕ → List A → List A
 put items None news = items
-put items (Some place) news = overwritten items place news
+put items (Some offset) news = overwritten items offset news
 
 abbrev pub segments_fit : Module → Store → Bool
 segments_fit m s =
@@ -99,17 +99,17 @@ function_exported exported.Table i = None
 function_exported exported.Memory i = None
 function_exported exported.Global i = None
 
--- the function that is exported under a name
+-- the function exported under a name
 abbrev pub function_named : List ℕ → List Export → Option ℕ
 function_named name [] = None
 function_named name (e ∷ es) = if bytes_eq e.name name then function_exported e.kind e.index else function_named name es
 
--- whether a function takes so many values of 64 bits and gives one
+-- whether a function has n parameters of 64 bits and one result of 64 bits
 abbrev pub has_arity : ℕ → Option FuncType → Bool
 has_arity n None = false
 has_arity n (Some t) = same_types t.params (replicate n I64) && same_types t.results (I64 ∷ [])
 
--- What the call of an export begins with: a function and the store, or why there is none, which is tested in this order (own).
+-- The start of a call of an export: its function and the store, or the error. The errors are tested in this order (a rule of this host).
 pub data Start : Type 0 where
   Missing : Start
   WrongArity : Start

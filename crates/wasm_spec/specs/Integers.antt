@@ -1,4 +1,4 @@
--- Operations on integers (core sections 4.3.1, 4.3.2 and 4.3.4, and the sign extensions of later versions of the core).
+-- Operations on integers (core sections 4.3.1, 4.3.2 and 4.3.4, and the sign extensions of core 2.0).
 -- An integer of N bits is a number below 2 ^ N.
 use Rattle.std.specs.Prelude.{ℕ, zero, suc, ◌+◌, ◌-◌, ◌*◌, ◌/◌, ◌%◌, ◌^◌, ℤ, pos, negsuc, ◌-ℤ◌, ◌*ℤ◌, int_div, int_lt, int_le, min, max, Bool, not, ◌&&◌, ◌==◌, nat_lt, nat_le, Option, Some, None, if◌then◌else◌}
 use Rattle.wasm_spec.specs.declared.types.ValueType.{ValueType}
@@ -15,13 +15,13 @@ use Rattle.wasm_spec.specs.declared.instructions.Conversion.TheVariants as conve
 use Rattle.wasm_spec.specs.declared.instructions.Numeric.{Numeric}
 use Rattle.wasm_spec.specs.declared.instructions.Numeric.TheVariants as numeric
 
--- how integers are read (4.3.1, and the sign interpretation of 4.3.2)
+-- signed and unsigned interpretation (4.3.1, 4.3.2)
 
--- signed_N: the integer as a signed number
+-- signed_N: the signed interpretation of the integer
 abbrev pub signed : ℕ → ℕ → ℤ
 signed N i = if nat_lt i (2 ^ (N - 1)) then pos i else pos i -ℤ pos (2 ^ N)
 
--- the integer that is read as this signed number
+-- the integer whose signed interpretation is this number
 abbrev pub unsigned : ℕ → ℤ → ℕ
 unsigned N (pos n) = n
 unsigned N (negsuc n) = 2 ^ N - suc n
@@ -35,11 +35,11 @@ unfoldable pub sum_below : ℕ → (ℕ → ℕ) → ℕ
 sum_below zero f = 0
 sum_below (suc n) f = sum_below n f + f n
 
--- the integer of n bits that has these bits
+-- the integer of n bits with these bits
 unfoldable pub integer_of : ℕ → (ℕ → ℕ) → ℕ
 integer_of n bits = sum_below n (λ k. bits k * 2 ^ k)
 
--- the greatest number up to n that passes, or 0
+-- the greatest number up to n that passes the test, or 0
 unfoldable pub greatest : ℕ → (ℕ → Bool) → ℕ
 greatest zero passes = 0
 greatest (suc n) passes = if passes (suc n) then suc n else greatest n passes
@@ -55,24 +55,24 @@ isub N i j = (i + 2 ^ N - j) % 2 ^ N
 abbrev pub imul : ℕ → ℕ → ℕ → ℕ
 imul N i j = (i * j) % 2 ^ N
 
--- not defined for a divisor of zero
+-- None, undefined, if the divisor is 0
 abbrev pub idiv_u : ℕ → ℕ → ℕ → Option ℕ
 idiv_u N i j = if j == 0 then None else Some (i / j)
 
--- Rounded toward zero. Not defined for a divisor of zero, nor where the quotient is 2 ^ (N - 1), which no integer of N bits is read as.
+-- Rounded toward zero. None, undefined, if the divisor is 0 or the quotient is 2 ^ (N - 1), which is above every signed number of N bits.
 abbrev pub idiv_s : ℕ → ℕ → ℕ → Option ℕ
 idiv_s N i j =
     if j == 0 then None else
     if (i == 2 ^ (N - 1)) && (j == 2 ^ N - 1) then None else Some (unsigned N (int_div (signed N i) (signed N j)))
 
--- what is left of the dividend
+-- the remainder
 abbrev pub irem_u : ℕ → ℕ → ℕ → Option ℕ
 irem_u N i j = if j == 0 then None else Some (i - j * (i / j))
 
 abbrev pub irem_s : ℕ → ℕ → ℕ → Option ℕ
 irem_s N i j = if j == 0 then None else Some (unsigned N (signed N i -ℤ signed N j *ℤ int_div (signed N i) (signed N j)))
 
--- bit by bit (4.3.2)
+-- bitwise operations (4.3.2)
 
 abbrev pub iand : ℕ → ℕ → ℕ → ℕ
 iand N i j = integer_of N (λ k. min (bit i k) (bit j k))
@@ -80,11 +80,11 @@ iand N i j = integer_of N (λ k. min (bit i k) (bit j k))
 abbrev pub ior : ℕ → ℕ → ℕ → ℕ
 ior N i j = integer_of N (λ k. max (bit i k) (bit j k))
 
--- 1 where exactly one of the two bits is
+-- a bit is 1 if exactly one of the two is
 abbrev pub ixor : ℕ → ℕ → ℕ → ℕ
 ixor N i j = integer_of N (λ k. (bit i k + bit j k) % 2)
 
--- shifts and rotations, by a distance modulo N (4.3.2)
+-- shifts and rotations by a distance modulo N (4.3.2)
 
 abbrev pub ishl : ℕ → ℕ → ℕ → ℕ
 ishl N i j = (i * 2 ^ (j % N)) % 2 ^ N
@@ -92,11 +92,11 @@ ishl N i j = (i * 2 ^ (j % N)) % 2 ^ N
 abbrev pub ishr_u : ℕ → ℕ → ℕ → ℕ
 ishr_u N i j = i / 2 ^ (j % N)
 
--- the bits that come in are the most significant one
+-- copies of the most significant bit are shifted in
 abbrev pub ishr_s : ℕ → ℕ → ℕ → ℕ
 ishr_s N i j = integer_of N (λ k. bit i (min (k + j % N) (N - 1)))
 
--- the bit at k comes from j places below it, from the top again where there are fewer
+-- bit k of the result is bit k - j of i, modulo N
 abbrev pub irotl : ℕ → ℕ → ℕ → ℕ
 irotl N i j = integer_of N (λ k. bit i ((k + (N - j % N)) % N))
 
@@ -105,11 +105,11 @@ irotr N i j = integer_of N (λ k. bit i ((k + j % N) % N))
 
 -- counts of bits (4.3.2)
 
--- the greatest number of bits at the top that are all zero
+-- the number of leading zero bits
 abbrev pub iclz : ℕ → ℕ → ℕ
 iclz N i = greatest N (λ n. i / 2 ^ (N - n) == 0)
 
--- the greatest number of bits at the bottom that are all zero
+-- the number of trailing zero bits
 abbrev pub ictz : ℕ → ℕ → ℕ
 ictz N i = greatest N (λ n. i % 2 ^ n == 0)
 
@@ -127,13 +127,13 @@ ilt_s N i j = int_lt (signed N i) (signed N j)
 abbrev pub ile_s : ℕ → ℕ → ℕ → Bool
 ile_s N i j = int_le (signed N i) (signed N j)
 
--- from one width to another (4.3.4)
+-- conversions between widths (4.3.4)
 
 -- wrap_N: the integer modulo 2 ^ N
 abbrev pub wrap : ℕ → ℕ → ℕ
 wrap N i = i % 2 ^ N
 
--- extend_s_M,N: the integer of N bits that is read as the same signed number
+-- extend_s_M,N: the integer of N bits with the same signed interpretation
 abbrev pub extend_s : ℕ → ℕ → ℕ → ℕ
 extend_s M N i = unsigned N (signed M i)
 
@@ -152,7 +152,7 @@ unary_of N unary.Clz i = iclz N i
 unary_of N unary.Ctz i = ictz N i
 unary_of N unary.Popcnt i = ipopcnt N i
 
--- none where the operation is not defined, which is a trap
+-- None: the operation is undefined, which is a trap
 unfoldable pub binary_of : ℕ → Binary → ℕ → ℕ → Option ℕ
 binary_of N binary.Add i j = Some (iadd N i j)
 binary_of N binary.Sub i j = Some (isub N i j)
@@ -192,11 +192,11 @@ conversion_of conversion.I64Extend8 i = iextend_s 8 64 i
 conversion_of conversion.I64Extend16 i = iextend_s 16 64 i
 conversion_of conversion.I64Extend32 i = iextend_s 32 64 i
 
--- what a test gives
+-- the i32 result of a test
 abbrev pub truth : Bool → ℕ
 truth b = if b then 1 else 0
 
--- What the instruction gives of its operand i, or of i and j, where j is the topmost (an instruction with one operand leaves j out). None: not defined, which is a trap.
+-- The result of an instruction on the operand i, or on i and j, where j is the topmost. An instruction with one operand ignores j. None: undefined, which is a trap.
 abbrev pub numeric_result : Numeric → (i j : ℕ) → Option ℕ
 numeric_result (numeric.Eqz t) i j = Some (truth (ieqz i))
 numeric_result (numeric.Compare t o) i j = Some (truth (comparison_of (width t) o i j))

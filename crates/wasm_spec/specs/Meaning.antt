@@ -1,4 +1,4 @@
--- What the code of a module does (core section 4.4).
+-- The execution of code and of calls (core section 4.4).
 use Rattle.std.specs.Prelude.{ℕ, zero, suc, ◌-◌, ◌^◌, ◌&&◌, List, [], ◌∷◌, ◌++◌, length, map, reverse, Bool, true, false, Option, Some, None, is_some, slice_get}
 use Rattle.budget_meter.specs.Meter.{Meter}
 use Rattle.wasm_spec.specs.declared.types.ValueType.{ValueType}
@@ -17,7 +17,7 @@ use Rattle.wasm_spec.specs.Stores.{number_of, zero_of, answered, pop, Store, wit
 use Rattle.wasm_spec.specs.Effects.{effect_of}
 use Rattle.wasm_spec.specs.Runs.{State, Run, Normal, Branch, Return, Trap, Spent, Stuck, Ask, executed, effect_run, then_do, carried, whole, onto, leave, turns}
 
--- types are compared by what they are, not by their indices (2.3.3, 4.4.5)
+-- function types are compared by structure, not by index (2.3.3, 4.4.5)
 
 abbrev pub same_type : ValueType → ValueType → Bool
 same_type I32 I32 = true
@@ -36,16 +36,16 @@ same_function_type t u = same_types t.params u.params && same_types t.results u.
 
 -- control instructions (4.4.5)
 
--- what the call of a function does, by its index
+-- the run of a call, by the function's index
 abbrev pub Calls : Type 0
 Calls = ℕ → List Value → State → Run
 
--- the first where the number is 0
+-- a if the number is 0, else b
 abbrev pub at_zero : {A : Type 0} → ℕ → A → A → A
 at_zero zero a b = a
 at_zero (suc n) a b = b
 
--- the label of br_table for a number
+-- the label that br_table selects for an operand
 abbrev pub label_for : List ℕ → ℕ → ℕ → ℕ
 label_for [] other n = other
 label_for (l ∷ ls) other zero = l
@@ -55,12 +55,12 @@ abbrev pub matching_call : Bool → Calls → Calls
 matching_call false calls f ops s = Trap IndirectType s.meter
 matching_call true calls f ops s = calls f ops s
 
--- the call of a function that has this type, if it is the type wanted
+-- the call of a function that has this type, if it equals the wanted type
 abbrev pub typed_call : Calls → FuncType → Option FuncType → Calls
 typed_call calls wanted None f ops s = Stuck
 typed_call calls wanted (Some t) f ops s = matching_call (same_function_type wanted t) calls f ops s
 
--- the call of an element of the table
+-- the call of a table element
 abbrev pub element_call : Module → Calls → FuncType → Option (Option ℕ) → List Value → State → Run
 element_call m calls wanted None ops s = Trap OutOfBounds s.meter
 element_call m calls wanted (Some None) ops s = Trap EmptyElement s.meter
@@ -79,7 +79,7 @@ control_run m calls jump.Return ops s = Return ops s
 control_run m calls (jump.Call f) ops s = calls f ops s
 control_run m calls (jump.CallIndirect t) ops s = pop Stuck I32 ops (λ n ops. indirect_call m calls (slice_get m.types t) n ops s)
 
--- Each instruction is executed once where it is come to, a loop's before its first turn alone.
+-- Each instruction is counted and charged when it is reached, and a loop instruction only before its first iteration.
 abbrev pub exec : Module → Calls → Code → List Value → State → Run
 exec m calls end ops s = Normal ops s
 exec m calls (plain p rest) ops s = executed Spent s (λ s. then_do (effect_run (effect_of p ops s.locals s.store) s) (exec m calls rest))
@@ -91,7 +91,7 @@ exec m calls (choose t taken other rest) ops s =
 
 -- calls (4.4.7)
 
--- n operands, the first pushed first, and what is under them
+-- the n topmost operands, the first pushed first, and the operands below them
 abbrev pub arguments : ℕ → List Value → List Value → Option (List Value × List Value)
 arguments zero args ops = Some (args, ops)
 arguments (suc n) args [] = None
@@ -101,11 +101,11 @@ abbrev pub with_arguments : Option (List Value × List Value) → (List Value �
 with_arguments None go = Stuck
 with_arguments (Some a) go = go a.0 a.1
 
--- the caller's state when a call has ended: its own locals again
+-- the caller's state after a call: its own locals again
 abbrev pub back_in : State → State → State
 back_in caller s = record s { locals = caller.locals }
 
--- what a function's body did, seen by its caller
+-- the run of a call, from the run of the function's body
 abbrev pub finish : BlockType → List Value → State → Run → Run
 finish t under caller (Normal ops s) = onto under (back_in caller s) (whole t ops)
 finish t under caller (Branch zero ops s) = onto under (back_in caller s) (carried t ops)
@@ -119,16 +119,16 @@ finish t under caller (Ask f args memory meter on) = Ask f args memory meter (λ
 abbrev pub start_locals : Function → List Value → List Value
 start_locals f args = args ++ map zero_of (local_types f.locals)
 
--- a function of the module's own
+-- the call of a function that the module defines
 abbrev pub enter : Module → Calls → Function → FuncType → List Value → State → Run
 enter m calls f t ops s = with_arguments (arguments (length t.params) [] ops) (λ args under.
     finish (result_of t) under s (exec m calls f.body [] (record s { locals = start_locals f args })))
 
--- the same where no more calls may be open
+-- the same call when the nesting limit is reached
 abbrev pub too_deep : Function → FuncType → List Value → State → Run
 too_deep f t ops s = with_arguments (arguments (length t.params) [] ops) (λ args under. Trap CallDepth s.meter)
 
--- an import: what comes from outside is its answer, the memory's bytes and the budget
+-- the call of an import: the host returns an answer, the memory's bytes and the budget
 abbrev pub ask : FuncType → Calls
 ask t f ops s = with_arguments (arguments (length t.params) [] ops) (λ args under.
     Ask f (map number_of args) s.store.memory.bytes s.meter (λ v bytes b. Normal (answered (result_of t) v ++ under) (record s { store = with_bytes bytes s.store; meter = b })))
@@ -140,25 +140,25 @@ own_call (Some f) go t ops s = go f t ops s
 abbrev pub is_import : Module → ℕ → Bool
 is_import m f = is_some (slice_get m.imports f)
 
--- a function of the type: an import, or one of the module's own
+-- the call of a function of the type: an import, or a function that the module defines
 abbrev pub any_call : Module → (Function → FuncType → List Value → State → Run) → Bool → Option FuncType → Calls
 any_call m go imported None f ops s = Stuck
 any_call m go true (Some t) f ops s = ask t f ops s
 any_call m go false (Some t) f ops s = own_call (slice_get m.functions (f - length m.imports)) go t ops s
 
--- the call of a function, where so many calls of the module's own functions may be opened
+-- the call of a function, while the module's own functions may be nested so many calls deep
 abbrev pub call_of : Module → ℕ → Calls
 call_of m zero f ops s = any_call m too_deep (is_import m f) (function_type m f) f ops s
 call_of m (suc room) f ops s = any_call m (enter m (call_of m room)) (is_import m f) (function_type m f) f ops s
 
--- at most so many calls are open at once (own)
+-- the most nested calls (a limit of this host)
 unfoldable pub MOST_CALLS : ℕ
 MOST_CALLS = 512
 
--- where a run begins
+-- the state in which a run starts
 abbrev pub beginning : Store → Meter → State
 beginning store meter = record { locals = []; store = store; left = 2 ^ 64 - 1; meter = meter }
 
--- What a function of the module does with arguments of 64 bits. It is itself the first of the open calls; an import is asked at once.
+-- The run of a function of the module with arguments of 64 bits. This call counts as the first nested one. If the function is an import, the run starts with its Ask.
 abbrev pub meaning : Module → ℕ → List ℕ → Store → Meter → Run
 meaning m f args store meter = call_of m MOST_CALLS f (reverse (map value.I64 args)) (beginning store meter)

@@ -1,4 +1,4 @@
--- What single bytes stand for (core sections 5.3 to 5.5).
+-- The meanings of single bytes (core sections 5.3 to 5.5).
 use Rattle.std.specs.Prelude.{ℕ, ◌==◌, ◌-◌, nat_lt, Option, Some, None, slice_get, if◌then◌else◌}
 use Rattle.wasm_spec.specs.declared.opcodes.TheConstants.{COMPARISONS, ARITHMETIC, SIGN_EXTENSIONS}
 use Rattle.wasm_spec.specs.declared.types.ValueType.{ValueType}
@@ -11,10 +11,10 @@ use Rattle.wasm_spec.specs.declared.instructions.Sign.TheVariants.{Signed, Unsig
 use Rattle.wasm_spec.specs.declared.instructions.Conversion.TheVariants.{I32Wrap, I64Extend}
 use Rattle.wasm_spec.specs.declared.instructions.Numeric.{Numeric}
 use Rattle.wasm_spec.specs.declared.instructions.Numeric.TheVariants.{Convert}
-use Rattle.wasm_spec.specs.declared.instructions.Load.{Load}
-use Rattle.wasm_spec.specs.declared.instructions.Load.TheVariants as load
-use Rattle.wasm_spec.specs.declared.instructions.Store.{Store}
-use Rattle.wasm_spec.specs.declared.instructions.Store.TheVariants as store
+use Rattle.wasm_spec.specs.declared.instructions.LoadKind.{LoadKind}
+use Rattle.wasm_spec.specs.declared.instructions.LoadKind.TheVariants as load
+use Rattle.wasm_spec.specs.declared.instructions.StoreKind.{StoreKind}
+use Rattle.wasm_spec.specs.declared.instructions.StoreKind.TheVariants as store
 use Rattle.wasm_spec.specs.Code.{BlockType}
 
 -- value types (5.3.1), without floats
@@ -38,7 +38,7 @@ export_kind_of b =
     if b == 0x03 then Some exported.Global else None
 
 -- loads (5.4.4), without those of floats
-abbrev pub load_of : ℕ → Option Load
+abbrev pub load_of : ℕ → Option LoadKind
 load_of b =
     if b == 0x28 then Some load.I32 else
     if b == 0x29 then Some load.I64 else
@@ -54,7 +54,7 @@ load_of b =
     if b == 0x35 then Some (load.I64From32 Unsigned) else None
 
 -- stores (5.4.4), without those of floats
-abbrev pub store_of : ℕ → Option Store
+abbrev pub store_of : ℕ → Option StoreKind
 store_of b =
     if b == 0x36 then Some store.I32 else
     if b == 0x37 then Some store.I64 else
@@ -64,11 +64,11 @@ store_of b =
     if b == 0x3D then Some store.I64To16 else
     if b == 0x3E then Some store.I64To32 else None
 
--- the sign extensions, which core 2.0 has in 5.4.7
+-- the sign extensions (core 2.0, section 5.4.7)
 abbrev pub sign_extension_of : ℕ → Option Numeric
 sign_extension_of b = if nat_lt b 0xC0 then None else slice_get SIGN_EXTENSIONS (b - 0xC0)
 
--- The numeric instruction of an opcode (5.4.5), without constants and floats. The rows stand in the order of their opcodes.
+-- The numeric instruction of an opcode (5.4.5), without constants and floats. The tables are in the order of the opcodes.
 abbrev pub numeric_of : ℕ → Option Numeric
 numeric_of b =
     if nat_lt b 0x45 then None else

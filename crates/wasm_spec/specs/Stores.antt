@@ -1,4 +1,4 @@
--- What a run reads and writes: values, memory, globals and the table (core section 4.2).
+-- Values and the store: memory, globals and the table (core section 4.2).
 use Rattle.std.specs.Prelude.{ℕ, ◌+◌, ◌/◌, List, [], ◌∷◌, ◌++◌, length, take, drop, Option, Some, None}
 use Rattle.wasm_spec.specs.declared.types.ValueType.{ValueType}
 use Rattle.wasm_spec.specs.declared.types.ValueType.TheVariants.{I32, I64}
@@ -21,48 +21,48 @@ abbrev pub value_of : ValueType → ℕ → Value
 value_of I32 n = value.I32 n
 value_of I64 n = value.I64 n
 
--- the result of a block or function that gives this number, if it has a result
+-- this number as the result of a block or function, if it has one
 abbrev pub result_values : BlockType → ℕ → List Value
 result_values None n = []
 result_values (Some t) n = value_of t n ∷ []
 
--- an answer from outside as such a result: its lowest bits
+-- a host's answer as the result of a function: its lowest bits
 abbrev pub answered : BlockType → ℕ → List Value
 answered None n = []
 answered (Some t) n = value_of t (wrap (width t) n) ∷ []
 
--- what a local begins with
+-- the initial value of a local (4.4.7)
 abbrev pub zero_of : ValueType → Value
 zero_of t = value_of t 0
 
--- Goes on with the number of a value that has the type.
+-- Applies go to the number of a value, if it has the type.
 abbrev pub typed_as : {A : Type 0} → A → ValueType → Value → (ℕ → A) → A
 typed_as other I32 (value.I32 n) go = go n
 typed_as other I32 (value.I64 n) go = other
 typed_as other I64 (value.I32 n) go = other
 typed_as other I64 (value.I64 n) go = go n
 
--- Takes the topmost operand, which has the type, and goes on with its number and the operands below.
+-- Pops the topmost operand and applies go to its number and the operands below, if it has the type.
 abbrev pub pop : {A : Type 0} → A → ValueType → List Value → (ℕ → List Value → A) → A
 pop other t [] go = other
 pop other t (v ∷ ops) go = typed_as other t v (λ n. go n ops)
 
--- others from a place on, in memory or in a table
+-- the items with others written over them from an offset on, in memory or in a table
 abbrev pub overwritten : {A : Type 0} → List A → ℕ → List A → List A
-overwritten items place news = take place items ++ news ++ drop (place + length news) items
+overwritten items offset news = take offset items ++ news ++ drop (offset + length news) items
 
 -- the store (4.2.3)
 
--- bytes of a page (4.2.8)
+-- the bytes in a page (4.2.8)
 abbrev pub PAGE : ℕ
 PAGE = 65536
 
--- a memory, and how many pages it may have (4.2.8)
+-- a memory, and the most pages that it may grow to (4.2.8)
 pub record Memory : Type 0 where
   pub bytes : List ℕ
   pub most_pages : ℕ
 
--- What the code of an instance reads and writes. An element of the table that was never set is none (4.2.7).
+-- The mutable parts of an instance. A table element that was never set is None (4.2.7).
 pub record Store : Type 0 where
   pub memory : Memory
   pub globals : List Value

@@ -1,10 +1,10 @@
--- Instructions of the program as code (own).
+-- The program's instructions as the tree that contracts see (core section 2.4).
 use Rattle.std.specs.Prelude.{List, [], ◌∷◌}
 use Rattle.wasm_spec.specs.Code.{Code, end, plain, control, block, loop, choose}
 use Rattle.wasm_spec.specs.declared.instructions.Instr.{Instr}
 use Rattle.wasm_spec.specs.declared.instructions.Instr.TheVariants as instr
 
--- an instruction before the code that follows it
+-- an instruction followed by code
 abbrev pub before : Instr → Code → Code
 before (instr.Plain p) rest = plain p rest
 before (instr.Control k) rest = control k rest

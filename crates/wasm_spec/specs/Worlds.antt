@@ -1,20 +1,20 @@
--- A run among the functions of a host: its calls of imports answered by the host, in the order in which they come (own, after core section 4.5.5).
+-- A run whose imports a host answers, in the order of the calls (this host's definitions, after core section 4.5.5).
 use Rattle.std.specs.Prelude.{ℕ, List}
 use Rattle.budget_meter.specs.Meter.{Meter}
 use Rattle.wasm_spec.specs.declared.values.Value.{Value}
 use Rattle.wasm_spec.specs.declared.values.TrapKind.{TrapKind}
 use Rattle.wasm_spec.specs.Runs.{Run, Normal, Branch, Return, Trap, Spent, Stuck, Ask}
 
--- what a host says to a call: an answer, with the memory and the budget after it, or that the run is over
+-- a host's reply to a call: an answer with the memory and the budget after it, or the end of the run
 pub data Reply (W : Type 0) : Type 0 where
   Answers : (world : W) (answer : ℕ) (memory : List ℕ) (meter : Meter) → Reply W
   Quits : (world : W) → Reply W
 
--- a function of a host, by the import's index: its arguments, the memory, the budget and the world
+-- the functions of a host, by the import's index: they take the arguments, the memory, the budget and the world
 abbrev pub Host : Type 0 → Type 0
 Host W = ℕ → List ℕ → List ℕ → Meter → W → Reply W
 
--- how a run among the functions of a host ends
+-- the end of a run whose imports a host answers
 pub data End (W : Type 0) : Type 0 where
   Returned : (results : List Value) (meter : Meter) (world : W) → End W
   Trapped : (kind : TrapKind) (meter : Meter) (world : W) → End W
@@ -22,7 +22,7 @@ pub data End (W : Type 0) : Type 0 where
   Quit : (world : W) → End W
   Broken : End W
 
--- goes on after a reply
+-- continues after a reply
 abbrev pub after_reply : {W : Type 0} → Reply W → (ℕ → List ℕ → Meter → W → End W) → End W
 after_reply (Answers w v memory meter) go = go v memory meter w
 after_reply (Quits w) go = Quit w

@@ -6,7 +6,7 @@ use crate::items::Items;
 use crate::types::ValueType;
 use std::marker::Model;
 
-/// How an integer is read.
+/// Whether an instruction interprets its integers as signed or unsigned (`sx`, core section 2.4.1).
 #[derive(Clone, Copy, PartialEq, Eq, Debug)]
 pub enum Sign {
     Signed,
@@ -49,7 +49,7 @@ pub enum Comparison {
     Ge(Sign),
 }
 
-/// `cvtop`, and the sign extensions: the name begins with the type of the result.
+/// `cvtop` (core section 2.4.1) and the sign extensions. Each name begins with the type of the result.
 #[derive(Clone, Copy, PartialEq, Eq, Debug)]
 pub enum Conversion {
     I32Wrap,
@@ -61,7 +61,7 @@ pub enum Conversion {
     I64Extend32,
 }
 
-/// A numeric instruction other than a constant (core section 2.4.1): it takes one or two operands and gives one.
+/// A numeric instruction other than a constant (core section 2.4.1): it pops one or two operands and pushes one.
 #[derive(Clone, Copy, PartialEq, Eq, Debug)]
 pub enum Numeric {
     Eqz(ValueType),
@@ -71,9 +71,9 @@ pub enum Numeric {
     Convert(Conversion),
 }
 
-/// A load (core section 2.4.4): the type of the result, and how many bits are read if fewer than it has.
+/// Which load it is (core section 2.4.4): the type of the result, and the number of bits in memory if the result has more.
 #[derive(Clone, Copy, PartialEq, Eq, Debug)]
-pub enum Load {
+pub enum LoadKind {
     I32,
     I64,
     I32From8(Sign),
@@ -83,9 +83,9 @@ pub enum Load {
     I64From32(Sign),
 }
 
-/// A store (core section 2.4.4): the type of the operand, and how many bits are written if fewer than it has.
+/// Which store it is (core section 2.4.4): the type of the operand, and the number of bits in memory if the operand has more.
 #[derive(Clone, Copy, PartialEq, Eq, Debug)]
-pub enum Store {
+pub enum StoreKind {
     I32,
     I64,
     I32To8,
@@ -95,14 +95,14 @@ pub enum Store {
     I64To32,
 }
 
-/// `memarg` (core section 2.4.4): the exponent of the alignment, and the offset in bytes.
+/// `memarg` (core section 2.4.4). The alignment is 2^`align` bytes, and `offset` is in bytes.
 #[derive(Clone, Copy, PartialEq, Eq, Debug)]
 pub struct MemArg {
     pub align: u32,
     pub offset: u32,
 }
 
-/// An instruction that goes on to the next one, or traps (core sections 2.4.1 to 2.4.4, and `nop`).
+/// An instruction that never branches (core sections 2.4.1 to 2.4.4, and `nop`).
 /// Constants are unsigned.
 #[derive(Clone, Copy, PartialEq, Eq, Debug)]
 pub enum Plain {
@@ -114,8 +114,8 @@ pub enum Plain {
     LocalTee(u32),
     GlobalGet(u32),
     GlobalSet(u32),
-    Load(Load, MemArg),
-    Store(Store, MemArg),
+    Load(LoadKind, MemArg),
+    Store(StoreKind, MemArg),
     MemorySize,
     MemoryGrow,
     I32Const(u32),
@@ -123,7 +123,7 @@ pub enum Plain {
     Numeric(Numeric),
 }
 
-/// A control instruction that has no instructions inside (core section 2.4.5).
+/// A control instruction with no instructions inside (core section 2.4.5).
 #[derive(Drop)]
 pub enum Control {
     Unreachable,
@@ -135,7 +135,7 @@ pub enum Control {
     CallIndirect(u32),
 }
 
-/// An instruction. A block gives one result or none.
+/// An instruction (core section 2.4). A block has at most one result.
 #[cycle(code)]
 #[derive(Drop)]
 pub enum Instr {
@@ -146,7 +146,7 @@ pub enum Instr {
     If(Option<ValueType>, Body, Body),
 }
 
-/// Instructions one after another.
+/// A sequence of instructions (core section 2.4). Contracts see it as `Code`.
 #[cycle(code)]
 #[derive(Drop)]
 pub struct Body {
@@ -174,14 +174,14 @@ impl Model for Body {
 impl Body {
     ghost use Rattle.wasm_spec.specs.Views.{code_of};
 
-    /// These instructions. Takes no memory.
+    /// Makes a body of these instructions without allocating.
     pub fn from_vec(items: Vec<Instr>) -> Body
         ensures { result ≡ code_of items.items }
     {
         Body { items }
     }
 
-    /// The instructions, lent.
+    /// Lends the instructions.
     pub fn as_slice(&self) -> &[Instr]
         ensures { code_of result.now ≡ self.now }
     {

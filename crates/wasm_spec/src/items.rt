@@ -1,10 +1,10 @@
-//! Items in a row (a vector of the core, section 2.1.3).
+//! Vectors (core section 2.1.3).
 
 ghost use Rattle.std.specs.Prelude.{◌≡◌};
 
 use std::marker::Model;
 
-/// Items in a row.
+/// A vector (core section 2.1.3). Contracts see it as the list of its items.
 #[derive(Drop)]
 pub struct Items<T> {
     items: Vec<T>,
@@ -19,21 +19,21 @@ impl<T> Model for Items<T> {
 }
 
 impl<T> Items<T> {
-    /// These items. Takes no memory.
+    /// Makes a vector of these items without allocating.
     pub fn from_vec(items: Vec<T>) -> Items<T>
         ensures { result ≡ items.items }
     {
         Items { items }
     }
 
-    /// The items, lent.
+    /// Lends the items.
     pub fn as_slice(&self) -> &[T]
         ensures { result.now ≡ self.now }
     {
         &self.items
     }
 
-    /// The items again. Takes no memory.
+    /// Returns the items as a `Vec` without allocating.
     pub fn into_vec(self) -> Vec<T>
         ensures { result.items ≡ self }
     {

@@ -1,26 +1,26 @@
-//! Modules (core section 2.5), of the parts that this host has.
+//! Modules (core section 2.5), with the parts that this host supports.
 
-use crate::bytes::Bytes;
 use crate::instructions::Body;
 use crate::items::Items;
-use crate::types::{FuncType, Limits, Mutability, TableType, ValueType};
+use crate::types::{FuncType, Mutability, ResizableLimits, TableType, ValueType};
+use byte_list::Blob;
 
-/// A function from outside, the only import there is (core section 2.5.11).
+/// An imported function (core section 2.5.11). This host has no other imports.
 #[derive(Drop)]
 pub struct Import {
-    pub module: Bytes,
-    pub name: Bytes,
+    pub module: Blob,
+    pub name: Blob,
     pub type_index: u32,
 }
 
-/// So many locals of one type (core section 5.5.13). None of them is held in memory by itself.
+/// A group of `count` locals of one type (core section 5.5.13).
 #[derive(Clone, Copy, PartialEq, Eq, Debug)]
 pub struct Locals {
     pub count: u32,
     pub value_type: ValueType,
 }
 
-/// A function of the module's own (core section 2.5.3).
+/// A function that the module defines (core section 2.5.3).
 #[derive(Drop)]
 pub struct Function {
     pub type_index: u32,
@@ -28,7 +28,7 @@ pub struct Function {
     pub body: Body,
 }
 
-/// A global and its first value (core section 2.5.6).
+/// A global and its initial value (core section 2.5.6).
 #[derive(Drop)]
 pub struct Global {
     pub value_type: ValueType,
@@ -36,7 +36,7 @@ pub struct Global {
     pub init: Body,
 }
 
-/// What an export names (core section 2.5.10).
+/// The kind of an exported definition (core section 2.5.10).
 #[derive(Clone, Copy, PartialEq, Eq, Debug)]
 pub enum ExportKind {
     Function,
@@ -45,15 +45,15 @@ pub enum ExportKind {
     Global,
 }
 
-/// An export (core section 2.5.10): the function, table, memory or global of this index.
+/// An export (core section 2.5.10) of the function, table, memory or global at `index`.
 #[derive(Drop)]
 pub struct Export {
-    pub name: Bytes,
+    pub name: Blob,
     pub kind: ExportKind,
     pub index: u32,
 }
 
-/// Functions that a table begins with, from a place on (core section 2.5.7).
+/// An element segment (core section 2.5.7): the functions that a table holds initially, from `offset` on.
 #[derive(Drop)]
 pub struct Element {
     pub table: u32,
@@ -61,22 +61,22 @@ pub struct Element {
     pub functions: Items<u32>,
 }
 
-/// Bytes that a memory begins with, from a place on (core section 2.5.8).
+/// A data segment (core section 2.5.8): the bytes that a memory holds initially, from `offset` on.
 #[derive(Drop)]
 pub struct Data {
     pub memory: u32,
     pub offset: Body,
-    pub bytes: Bytes,
+    pub bytes: Blob,
 }
 
-/// A module (core section 2.5). Functions are numbered with the imports first.
+/// A module (core section 2.5). Function indices count the imports first.
 #[derive(Drop)]
 pub struct Module {
     pub types: Items<FuncType>,
     pub imports: Items<Import>,
     pub functions: Items<Function>,
     pub tables: Items<TableType>,
-    pub memories: Items<Limits>,
+    pub memories: Items<ResizableLimits>,
     pub globals: Items<Global>,
     pub exports: Items<Export>,
     pub elements: Items<Element>,

@@ -1,9 +1,9 @@
-//! The opcodes of numeric instructions (core section 5.4.5): those without immediates stand in three rows, but for three conversions.
+//! The numeric instructions in the order of their opcodes (core section 5.4.5). Constants and three of the conversions are in none of the tables.
 
 use crate::instructions::{Binary, Comparison, Conversion, Numeric, Sign, Unary};
 use crate::types::ValueType;
 
-/// From 0x45 on: the tests and comparisons.
+/// The tests and comparisons, from opcode 0x45 on.
 pub const COMPARISONS: [Numeric; 22] = [
     Numeric::Eqz(ValueType::I32),
     Numeric::Compare(ValueType::I32, Comparison::Eq),
@@ -29,7 +29,7 @@ pub const COMPARISONS: [Numeric; 22] = [
     Numeric::Compare(ValueType::I64, Comparison::Ge(Sign::Unsigned)),
 ];
 
-/// From 0x67 on: the operations on one and on two operands.
+/// The operations with one and with two operands, from opcode 0x67 on.
 pub const ARITHMETIC: [Numeric; 36] = [
     Numeric::Unary(ValueType::I32, Unary::Clz),
     Numeric::Unary(ValueType::I32, Unary::Ctz),
@@ -69,7 +69,7 @@ pub const ARITHMETIC: [Numeric; 36] = [
     Numeric::Binary(ValueType::I64, Binary::Rotr),
 ];
 
-/// From 0xC0 on: the sign extensions.
+/// The sign extensions, from opcode 0xC0 on.
 pub const SIGN_EXTENSIONS: [Numeric; 5] = [
     Numeric::Convert(Conversion::I32Extend8),
     Numeric::Convert(Conversion::I32Extend16),

@@ -2,14 +2,14 @@
 
 use crate::items::Items;
 
-/// What an operand, a local or a global is (core section 2.3.1).
+/// The type of an operand, a local or a global (core section 2.3.1).
 #[derive(Clone, Copy, PartialEq, Eq, Debug)]
 pub enum ValueType {
     I32,
     I64,
 }
 
-/// What a function takes and gives (core section 2.3.3).
+/// The types of a function's parameters and results (core section 2.3.3).
 #[derive(Drop)]
 pub struct FuncType {
     pub params: Items<ValueType>,
@@ -18,25 +18,25 @@ pub struct FuncType {
 
 /// The size of a table in elements, or of a memory in pages of 64 KiB (core sections 2.3.4 and 2.3.5).
 #[derive(Clone, Copy, PartialEq, Eq, Debug)]
-pub struct Limits {
+pub struct ResizableLimits {
     pub min: u32,
     pub max: Option<u32>,
 }
 
-/// A table, whose elements are functions (core section 2.3.6).
+/// The type of a table, whose elements are functions (core section 2.3.6).
 #[derive(Clone, Copy, PartialEq, Eq, Debug)]
 pub struct TableType {
-    pub limits: Limits,
+    pub limits: ResizableLimits,
 }
 
-/// Whether a global may be set (core section 2.3.7).
+/// Whether code may set a global (core section 2.3.7).
 #[derive(Clone, Copy, PartialEq, Eq, Debug)]
 pub enum Mutability {
     Constant,
     Variable,
 }
 
-/// The types of what an instruction takes from the top of the stack, the topmost first.
+/// The types of the operands that an instruction pops, the topmost first.
 #[derive(Clone, Copy, PartialEq, Eq, Debug)]
 pub enum Taken {
     None,
@@ -44,7 +44,7 @@ pub enum Taken {
     Two(ValueType, ValueType),
 }
 
-/// What an instruction takes and gives (core section 3.3: `[t1*] -> [t2*]`).
+/// The types of the operands that an instruction pops and pushes (core section 3.3: `[t1*] -> [t2*]`).
 #[derive(Clone, Copy, PartialEq, Eq, Debug)]
 pub struct Signature {
     pub takes: Taken,

@@ -1,25 +1,25 @@
-//! What a run works with (core section 4.2), and why it may end early.
+//! Values (core section 4.2.1) and traps (core section 4.4).
 
-/// A value of one of the two types (core section 4.2.1). Integers are unsigned.
+/// A value (core section 4.2.1). Integers are unsigned.
 #[derive(Clone, Copy, PartialEq, Eq, Debug)]
 pub enum Value {
     I32(u32),
     I64(u64),
 }
 
-/// Why a run traps (core section 4.4).
+/// Why an execution traps (core section 4.4).
 #[derive(Clone, Copy, PartialEq, Eq, Debug)]
 pub enum TrapKind {
     /// `unreachable` was executed.
     Unreachable,
-    /// A place in memory or in the table that is not there.
+    /// An address beyond the end of the memory, or an index beyond the end of the table.
     OutOfBounds,
-    /// A division by zero, or a quotient that has no integer of its width.
+    /// A division by zero, or a quotient that does not fit its width.
     Arithmetic,
-    /// `call_indirect` of a function of another type.
+    /// `call_indirect` of a function whose type differs from the one asked for.
     IndirectType,
     /// `call_indirect` of an element of the table that was never set.
     EmptyElement,
-    /// More calls open at once than this host allows.
+    /// More nested calls than this host allows.
     CallDepth,
 }

@@ -1,4 +1,4 @@
-//! Bytes that are read item by item.
+//! A cursor that reads XDR items.
 
 ghost use Rattle.std.specs.Prelude.{◌≡◌, ◌<◌, length, OnOk, OnErr, IfOk, IfErr, []};
 ghost use Rattle.std.specs.Int.{w32, w64, cast_signed};
@@ -9,9 +9,9 @@ use crate::words;
 use std::marker::Model;
 use xdr_spec::{Why, XdrErr};
 
-/// Bytes that are read from the front, item by item.
+/// Reads XDR items from a slice, one after another.
 ///
-/// Contracts see it as what is left, and how many bytes came before. A call that answers an error leaves it as it was.
+/// Contracts see it as the bytes that are left and their offset. A call that returns an error leaves it as it was.
 #[derive(Drop)]
 pub struct Cursor<'a> {
     bytes: &'a [u8],
@@ -30,7 +30,7 @@ impl<'a> Model for Cursor<'a> {
 }
 
 impl<'a> Cursor<'a> {
-    /// All of these bytes are left to read.
+    /// A cursor at the start of the bytes.
     pub fn new(bytes: &'a [u8]) -> Self
         ensures { result ≡ input 0 bytes.now }
     {
@@ -47,14 +47,14 @@ impl<'a> Cursor<'a> {
         }
     }
 
-    /// How many bytes were read.
+    /// The cursor's place: its byte offset in the input.
     pub fn place(&self) -> u64
         ensures { result ≡ self.now.place }
     {
         self.place as u64
     }
 
-    /// An unsigned integer (RFC 4506, section 4.2).
+    /// Reads an unsigned integer (RFC 4506, section 4.2).
     pub fn u32(&mut self) -> Result<u32, XdrErr>
         ensures { Gives (λ n. n) word_at self.old self.new result }
     {
@@ -63,14 +63,14 @@ impl<'a> Cursor<'a> {
         Ok(number)
     }
 
-    /// An integer (RFC 4506, section 4.1).
+    /// Reads an integer (RFC 4506, section 4.1).
     pub fn i32(&mut self) -> Result<i32, XdrErr>
         ensures { Gives (λ z. z) (λ i. as_read (cast_signed w32) (word_at i)) self.old self.new result }
     {
         Ok(self.u32()?.cast_signed())
     }
 
-    /// An unsigned hyper integer (RFC 4506, section 4.5).
+    /// Reads an unsigned hyper integer (RFC 4506, section 4.5).
     pub fn u64(&mut self) -> Result<u64, XdrErr>
         ensures { Gives (λ n. n) number64_at self.old self.new result }
     {
@@ -79,14 +79,14 @@ impl<'a> Cursor<'a> {
         Ok(number)
     }
 
-    /// A hyper integer (RFC 4506, section 4.5).
+    /// Reads a hyper integer (RFC 4506, section 4.5).
     pub fn i64(&mut self) -> Result<i64, XdrErr>
         ensures { Gives (λ z. z) (λ i. as_read (cast_signed w64) (number64_at i)) self.old self.new result }
     {
         Ok(self.u64()?.cast_signed())
     }
 
-    /// A boolean (RFC 4506, section 4.4). A word other than 0 and 1 is refused.
+    /// Reads a boolean (RFC 4506, section 4.4). It refuses a word other than 0 and 1.
     #[tactic(auto, unfolding(xdr_spec::specs::Format::boolean))]
     pub fn boolean(&mut self) -> Result<bool, XdrErr>
         ensures { Gives (λ b. b) boolean_at self.old self.new result }
@@ -99,7 +99,7 @@ impl<'a> Cursor<'a> {
         Ok(number == 1)
     }
 
-    /// `n` bytes (RFC 4506, section 4.9), lent from the input. The bytes that fill their last word are 0, or they are refused.
+    /// Reads `n` bytes (RFC 4506, section 4.9), lent from the input. It refuses padding other than 0.
     pub fn fixed(&mut self, n: usize) -> Result<&'a [u8], XdrErr>
         ensures bytes { Gives (λ s. s.now) (fixed_opaque_at n) self.old self.new result }
         ensures len { IfOk result (λ s. length s.now ≡ n) }
@@ -109,8 +109,8 @@ impl<'a> Cursor<'a> {
         Ok(bytes)
     }
 
-    /// At most `max` bytes behind their length (RFC 4506, sections 4.10 and 4.11), lent from the input. A greater length is
-    /// refused at its word.
+    /// Reads a length of at most `max` and as many bytes (RFC 4506, sections 4.10 and 4.11), lent from the input. It refuses a
+    /// greater length at its word.
     #[tactic(auto, unfolding(xdr_spec::specs::Format::opaque))]
     pub fn opaque(&mut self, max: u32) -> Result<&'a [u8], XdrErr>
         ensures { Gives (λ s. s.now) (opaque_at max) self.old self.new result }
@@ -125,7 +125,7 @@ impl<'a> Cursor<'a> {
         Ok(bytes)
     }
 
-    /// That nothing is left. Bytes that are left are refused at the first of them.
+    /// Checks that no bytes are left. It refuses the first byte that is left.
     pub fn finish(&mut self) -> Result<(), XdrErr>
         ensures ok { OnOk result (self.old.rest ≡ []) }
         ensures at { IfErr result (λ e. e.at ≡ self.old.place) }

@@ -1,7 +1,7 @@
 //! XDR (RFC 4506): items read from a slice and written to a vector.
 //!
-//! `Cursor` reads and lends, `Out` writes. Each call names the section of the standard that it follows; what is refused, and why,
-//! is said in `xdr_spec`.
+//! `Cursor` reads and lends, `Out` writes. Each call names the section of the standard that it follows. `xdr_spec` defines what is
+//! refused, and why.
 #![tactic(auto)]
 
 mod cursor;
@@ -15,6 +15,3 @@ pub use error::{NoMemory, ReadXdr};
 pub use out::Out;
 pub use sizes::add_sizes;
 pub use xdr_spec::{Why, XdrErr};
-
-#[cfg(test)]
-mod tests;

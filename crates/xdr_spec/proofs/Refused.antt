@@ -6,7 +6,7 @@ use Rattle.xdr_spec.specs.declared.XdrErr.{XdrErr}
 use Rattle.xdr_spec.specs.declared.Why.{Why}
 use Rattle.xdr_spec.specs.declared.Why.TheVariants.{End, Padding, Boolean, Tag, Limit, Depth, Trailing}
 use Rattle.xdr_spec.specs.Format.{IsBytes, Input, Outcome, Format, input, refusal}
-use Rattle.xdr_spec.specs.Refusal.{Spells, Opens, HasFront, GoesWrong, EndsEarly, Refuses, GoesOn}
+use Rattle.xdr_spec.specs.Refusal.{Spells, Opens, BeginsWithBytes, GoesWrong, EndsEarly, Refuses, GoesOn}
 use Rattle.xdr_spec.specs.Laws.{Judge, IsShort, IsFault, IsFormat}
 use Rattle.std.proofs.lemmas.Bool.{cases_lt}
 use Rattle.std.proofs.lemmas.Option.{slice_get_within}
@@ -18,50 +18,50 @@ module _ {V : Type 0} (F : Format V) (f : IsFormat F) where
     pub spelled : (v : V) (i : Input) → F.read (input 0 bytes) ≡ Ok (v, i) → Spells F v (take i.place bytes) × (bytes ≡ take i.place bytes ++ i.rest)
     spelled v i e =
         let t = f.takes 0 bytes v i fit e in
-        let front : take i.place bytes ≡ F.spell v = ap (take i.place) t.parts ∙ take_at (F.spell v) i.rest i.place (omega (arith, t.place)) in
-        (record { fits = t.fits; bytes-is = front }, t.parts ∙ ap (λ (x : List ℕ). x ++ i.rest) (sym front))
+        let prefix : take i.place bytes ≡ F.spell v = ap (take i.place) t.parts ∙ take_at (F.spell v) i.rest i.place (omega (arith, t.place)) in
+        (record { fits = t.fits; bytes-is = prefix }, t.parts ∙ ap (λ (x : List ℕ). x ++ i.rest) (sym prefix))
 
     pub goes_on : (v : V) (i : Input) → F.read (input 0 bytes) ≡ Ok (v, i) → 0 < length i.rest → Refuses F bytes i.place Trailing
     goes_on v i e more =
         let t = f.takes 0 bytes v i fit e in
         record { value = v; spells = (spelled v i e).0; more = omega (arith, t.place, ap length t.parts, length-append (F.spell v) i.rest) }
 
-    no_front : (e : XdrErr) → F.read (input 0 bytes) ≡ Err e → HasFront F bytes → ⊥
-    no_front e h found =
+    no_prefix : (e : XdrErr) → F.read (input 0 bytes) ≡ Err e → BeginsWithBytes F bytes → ⊥
+    no_prefix e h found =
         let again = read_spelled F f 0 found.0 (take found.1 bytes) (drop found.1 bytes) found.2 in
         let whole : F.read (input 0 (take found.1 bytes ++ drop found.1 bytes)) ≡ Err e = ap (λ (x : List ℕ). F.read (input 0 x)) (take-append-drop found.1 bytes) ∙ h in
         cc
 
     ends_early : (e : XdrErr) → F.read (input 0 bytes) ≡ Err e → (at : ℕ) → IsShort F 0 bytes at → EndsEarly F bytes at
     ends_early e h at s =
-        let size : 4 * (length bytes / 4) ≡ length s.front = omega (arith, ap length s.parts, length-append s.front s.part, s.aligned, s.less) in
-        let front : take (4 * (length bytes / 4)) bytes ≡ s.front = ap (take (4 * (length bytes / 4))) s.parts ∙ take_at s.front s.part (4 * (length bytes / 4)) (sym size) in
+        let size : 4 * (length bytes / 4) ≡ length s.prefix = omega (arith, ap length s.parts, length-append s.prefix s.part, s.aligned, s.less) in
+        let prefix : take (4 * (length bytes / 4)) bytes ≡ s.prefix = ap (take (4 * (length bytes / 4))) s.parts ∙ take_at s.prefix s.part (4 * (length bytes / 4)) (sym size) in
         record {
           at-is = omega (arith, s.at-is);
-          begins = (s.value, subst (λ (x : List ℕ). Opens F s.value x) (sym front) s.opens);
-          none = no_front e h;
+          begins = (s.value, subst (λ (x : List ℕ). Opens F s.value x) (sym prefix) s.opens);
+          none = no_prefix e h;
         }
 
     goes_wrong : (at : ℕ) (why : Why) → IsFault F 0 bytes at why → GoesWrong F bytes at why
     goes_wrong at why s =
-        let front : take at bytes ≡ s.front = ap (take at) s.parts ∙ take_at s.front (s.word ++ s.back) at (omega (arith, s.at-is)) in
-        let with_word : take (at + 4) bytes ≡ s.front ++ s.word =
-        ap (take (at + 4)) (s.parts ∙ sym (append_assoc s.front s.word s.back))
-        ∙ take_at (s.front ++ s.word) s.back (at + 4) (omega (arith, s.at-is, length-append s.front s.word, s.wide)) in
+        let prefix : take at bytes ≡ s.prefix = ap (take at) s.parts ∙ take_at s.prefix (s.word ++ s.back) at (omega (arith, s.at-is)) in
+        let with_word : take (at + 4) bytes ≡ s.prefix ++ s.word =
+        ap (take (at + 4)) (s.parts ∙ sym (append_assoc s.prefix s.word s.back))
+        ∙ take_at (s.prefix ++ s.word) s.back (at + 4) (omega (arith, s.at-is, length-append s.prefix s.word, s.wide)) in
         record {
           index = s.index;
           at-is = omega (arith, s.at-is, s.aligned);
-          whole = omega (arith, s.at-is, s.wide, ap length s.parts, length-append s.front (s.word ++ s.back), length-append s.word s.back);
+          whole = omega (arith, s.at-is, s.wide, ap length s.parts, length-append s.prefix (s.word ++ s.back), length-append s.word s.back);
           value = s.value;
-          opens = subst (λ (x : List ℕ). Opens F s.value x) (sym front) s.opens;
+          opens = subst (λ (x : List ℕ). Opens F s.value x) (sym prefix) s.opens;
           none = λ b.
               let o = b.1 in
-              let text : F.spell b.0 ≡ s.front ++ (s.word ++ o.more) = sym o.spells.bytes-is ∙ ap (λ (x : List ℕ). x ++ o.more) with_word ∙ append_assoc s.front s.word o.more in
+              let text : F.spell b.0 ≡ s.prefix ++ (s.word ++ o.more) = sym o.spells.bytes-is ∙ ap (λ (x : List ℕ). x ++ o.more) with_word ∙ append_assoc s.prefix s.word o.more in
               let again = f.again 0 b.0 [] o.spells.fits in
-              let refused : F.read (input 0 (F.spell b.0 ++ [])) ≡ Err (refusal (0 + length s.front) why) =
+              let refused : F.read (input 0 (F.spell b.0 ++ [])) ≡ Err (refusal (0 + length s.prefix) why) =
               ap (λ (x : List ℕ). F.read (input 0 x)) (append-nil (F.spell b.0) ∙ text) ∙ s.always 0 o.more in
               cc;
-          reason = λ v o. s.reason v (subst (λ (x : List ℕ). Opens F v x) front o);
+          reason = λ v o. s.reason v (subst (λ (x : List ℕ). Opens F v x) prefix o);
         }
 
     judged : (e : XdrErr) (at : ℕ) (why : Why) → F.read (input 0 bytes) ≡ Err e → Judge why (IsShort F 0 bytes at) (IsFault F 0 bytes at why) → Refuses F bytes at why

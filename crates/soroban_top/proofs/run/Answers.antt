@@ -2,7 +2,7 @@ use Rattle.std.proofs.lemmas.Result.{err_from_is_err_and}
 use Rattle.soroban_top.specs.Outcome.{outcome_of}
 use Rattle.soroban_top.specs.Steps.{status_of}
 use Rattle.soroban_top.specs.Asked.{reads_of}
-use Rattle.soroban_top.proofs.Leaving.{stopped_reading, second_where_told}
+use Rattle.soroban_top.proofs.Leaving.{stopped_reading, second_where_known}
 use Rattle.soroban_top.proofs.run.Goals as goal
 
 pub returns-in_err-product-clause-left : goal.returns-in_err-product-clause-left
@@ -12,4 +12,4 @@ returns-in_err-product-clause-left g c =
 
 pub returns-in_err-product-clause-steady : goal.returns-in_err-product-clause-steady
 returns-in_err-product-clause-steady g c steady =
-    second_where_told _ _ _ (λ m. status_of (outcome_of c.args.request.now m)) (c.in_err-product.ensures.steady steady)
+    second_where_known _ _ _ (λ m. status_of (outcome_of c.args.request.now m)) (c.in_err-product.ensures.steady steady)

@@ -1,14 +1,14 @@
 use Rattle.std.specs.List.{flat_map}
 use Rattle.std.proofs.Common.{take, [], List, All, fold, sym, ap, subst, ◌∙◌}
 use Rattle.ledger_types.specs.declared.header.Header.{Header}
-use Rattle.tx_xdr.specs.Limits.{today}
+use Rattle.tx_xdr.specs.SetBounds.{today}
 use Rattle.tx_xdr.specs.Set.{phase_format}
 use Rattle.tx_results.specs.Results.{result_set_format}
 use Rattle.tx_results.specs.declared.results.TransactionResultPair.{TransactionResultPair}
 use Rattle.tx_xdr.specs.declared.set.Phase.{Phase}
 use Rattle.tx_xdr.specs.declared.set.Stage.{Stage}
 use Rattle.tx_results.proofs.Fits.{result_set_fits}
-use Rattle.apply_spec.specs.Runs.{Running, run_stage, running_header}
+use Rattle.apply_spec.specs.Runs.{RunState, run_stage, running_header}
 use Rattle.tx_xdr.specs.Stages.{stages_in}
 use Rattle.ledger_apply.specs.Spelled.{IsStage}
 use Rattle.ledger_apply.specs.State.{running_of}
@@ -33,12 +33,12 @@ run_stages-requires-clause-fits c =
 pub loop-phase-preserved : goal.loop-phase-preserved
 loop-phase-preserved c =
     let h : Header = running_header c.args.ledger.header c.args.close_time in
-    let start : Running = record { entries = c.args.ledger.entries; pending = []; results = [] } in
+    let start : RunState = record { entries = c.args.ledger.entries; pending = []; results = [] } in
     let before = c.loop-phase.running in
     let headed = c.loop-phase.invariant.on.headed in
     record {
       run = c.in_ok-running.ensures.run ∙ ap (λ (x : Header). fold (run_stage x) (running_of before) c.stages_of.result.now) headed
-          ∙ ap (λ (s : Running). fold (run_stage h) s c.stages_of.result.now) c.loop-phase.invariant.run
+          ∙ ap (λ (s : RunState). fold (run_stage h) s c.stages_of.result.now) c.loop-phase.invariant.run
           ∙ ap (fold (run_stage h) (fold (run_stage h) start (flat_map stages_in (take c.loop-phase.phase-index c.as_slice-phases.result.now)))) c.stages_of.ensures
           ∙ sym (fold_more_of (run_stage h) start stages_in c.as_slice-phases.result.now c.loop-phase.phase-index c.phase-item.result c.loop-phase-test.true c.phase-item.is);
       on = on_other before.ledger.header h c.in_ok-running.running headed c.in_ok-running.ensures.on;

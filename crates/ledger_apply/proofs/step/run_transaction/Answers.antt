@@ -8,7 +8,7 @@ use Rattle.tx_results.specs.declared.results.TransactionResultPair.{TransactionR
 use Rattle.tx_results.proofs.Fits.{pair_fits}
 use Rattle.apply_spec.specs.declared.Extension.{Extension}
 use Rattle.tx_apply.specs.Done.{done_of}
-use Rattle.tx_xdr.specs.Limits.{today}
+use Rattle.tx_xdr.specs.SetBounds.{today}
 use Rattle.tx_xdr.proofs.Fits.{transaction_fits_whole}
 use Rattle.ledger_apply.proofs.Spelling.{declared_spelled, runs}
 use Rattle.ledger_apply.proofs.Effects.{IsGood, enforced_good}

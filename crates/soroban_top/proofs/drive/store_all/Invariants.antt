@@ -1,6 +1,6 @@
 use Rattle.std.proofs.Common.{◌≡◌, drop}
 use Rattle.soroban_top.specs.Counts.{NoLower, SameCounts}
-use Rattle.soroban_top.specs.Left.{stored, StoresFront, StoresTorn}
+use Rattle.soroban_top.specs.Left.{stored, StoresPrefix, StoresTorn}
 use Rattle.soroban_top.specs.Views.{jobs_of}
 use Rattle.soroban_top.proofs.drive.store_all.Given as goal
 
@@ -11,7 +11,7 @@ invariant-loop-store g l =
     let left = jobs_of (drop l.store-index l.stores) in
     record {
       stored : stored left (files.contents l.files) ≡ stored all (files.contents l.fn.files);
-      front : (c : _) → StoresFront left (files.contents l.files) c → StoresFront all (files.contents l.fn.files) c;
+      prefix : (c : _) → StoresPrefix left (files.contents l.files) c → StoresPrefix all (files.contents l.fn.files) c;
       torn : (name : _) (c : _) → StoresTorn name left (files.contents l.files) c → StoresTorn name all (files.contents l.fn.files) c;
       counts : NoLower (files.faults l.fn.files) (files.faults l.files);
       steady : files.steady l.fn.files → files.steady l.files × SameCounts (files.faults l.fn.files) (files.faults l.files);

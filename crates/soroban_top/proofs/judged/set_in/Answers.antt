@@ -1,15 +1,18 @@
 use Rattle.std.proofs.Common.{arith, refl}
-use Rattle.xdr_spec.proofs.Decoding.{spells_decoded}
-use Rattle.tx_xdr.specs.Limits.{today}
+use Rattle.std.proofs.lemmas.Result.{err_from_is_err_and}
+use Rattle.tx_xdr.specs.SetBounds.{today}
 use Rattle.tx_xdr.specs.Set.{set_format, set_lawful}
+use Rattle.xdr_spec.proofs.Decoding.{spells_decoded}
 use Rattle.soroban_top.specs.Judged.{set_in}
-use Rattle.soroban_top.proofs.Decoding.{refuses_decoded}
+use Rattle.soroban_top.proofs.Decoding.{unread_due}
 use Rattle.soroban_top.proofs.judged.set_in.Goals as goal
 
-pub returns-in-Ok-clause-given : goal.returns-in-Ok-clause-given
+pub returns-in_err-set-clause-given : goal.returns-in_err-set-clause-given
 unfolding set_in
-returns-in-Ok-clause-given c = rw (spells_decoded (set_format today) (set_lawful today) c.in-Ok.set c.args.bytes.now c.in-Ok.ensures.found) refl
+returns-in_err-set-clause-given c =
+    let p = err_from_is_err_and c.from_residual.result c.from_residual.ensures.1 in
+    rw (p.1, p.2) (unread_due (set_format today) (set_lawful today) c.args.bytes.now c.in_err-set.field-0.0 (λ i. let fits = c.type_inv.bytes i in omega arith) c.in_err-set.ensures.refused)
 
-pub returns-in-Err-Bad-clause-given : goal.returns-in-Err-Bad-clause-given
+pub returns-clause-given : goal.returns-clause-given
 unfolding set_in
-returns-in-Err-Bad-clause-given c = rw (refuses_decoded (set_format today) (set_lawful today) c.args.bytes.now c.in-Err-Bad.error (λ i. let fits = c.type_inv.bytes i in omega arith) (rw c.in-Err-Bad.field-0-is at c.in-Err-Bad.ensures.refused)) refl
+returns-clause-given c = rw (spells_decoded (set_format today) (set_lawful today) c.in_ok-set.set c.args.bytes.now c.in_ok-set.ensures.found) refl

@@ -1,6 +1,7 @@
 use Rattle.std.proofs.Common.{◌≡◌, take, false}
-use Rattle.tx_apply.specs.Twice.{bytes_of, stand_twice}
-use Rattle.tx_apply.proofs.Twice.{Holds}
+use Rattle.list_laws.specs.Twice.{stand_twice}
+use Rattle.list_laws.proofs.Twice.{Holds}
+use Rattle.tx_apply.specs.Spellings.{bytes_of}
 use Rattle.tx_apply.proofs.footprint.has_twice.Given as goal
 
 abbrev pub invariant-loop-bytes : goal.invariant-loop-bytes

@@ -1,8 +1,9 @@
 use Rattle.std.proofs.Common.{◌≡◌, ◌++◌, Bool, true, false, ◌&&◌, sym, ap, ◌∙◌}
 use Rattle.std.specs.List.{list_all}
 use Rattle.apply_spec.specs.Checks.{has_twice, may_be_declared}
-use Rattle.tx_apply.specs.Twice.{bytes_of, stand_twice}
-use Rattle.tx_apply.proofs.Twice.{twice_declared, refused_twice, judged_each}
+use Rattle.list_laws.specs.Twice.{stand_twice}
+use Rattle.tx_apply.specs.Spellings.{bytes_of}
+use Rattle.tx_apply.proofs.Keys.{twice_declared, refused_twice, judged_each}
 use Rattle.tx_apply.proofs.footprint.may_be_footprint.Goals as goal
 use Rattle.tx_apply.proofs.footprint.may_be_footprint.Goals.{then-all_declarable, else-all_declarable}
 

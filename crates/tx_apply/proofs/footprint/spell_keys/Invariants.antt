@@ -1,6 +1,6 @@
 use Rattle.std.proofs.Common.{◌≡◌, ◌++◌, take, map}
 use Rattle.ledger_spec.specs.LedgerMap.{key_bytes}
-use Rattle.tx_apply.specs.Twice.{bytes_of}
+use Rattle.tx_apply.specs.Spellings.{bytes_of}
 use Rattle.tx_apply.proofs.footprint.spell_keys.Given as goal
 
 abbrev pub invariant-loop-key : goal.invariant-loop-key

@@ -1,6 +1,6 @@
 use Rattle.std.proofs.Common.{◌≡◌, ◌+◌, ◌-◌, ◌*◌}
 use Rattle.xdr_spec.specs.Format.{repeat_at}
-use Rattle.xdr_core.proofs.RowSteps.{with_front}
+use Rattle.xdr_core.proofs.RowSteps.{with_prefix}
 use Rattle.value_types.specs.Views.{datums, datum_pairs}
 use Rattle.value_types.specs.Formats.{value_format, member_format, entry_format}
 use Rattle.value_xdr.proofs.reading.+read.Given as goal
@@ -17,12 +17,12 @@ decreases-read_value l = 8 * l.left + 6
 abbrev pub invariant-read_items-loop : goal.invariant-read_items-loop
 invariant-read_items-loop l =
     let read = (member_format (value_format (l.left - 1))).read in
-    with_front (datums l.items.items) (repeat_at read (l.count - l.counter) l.input) ≡ repeat_at read l.count l.initial.input
+    with_prefix (datums l.items.items) (repeat_at read (l.count - l.counter) l.input) ≡ repeat_at read l.count l.initial.input
 
 abbrev pub invariant-read_members-loop : goal.invariant-read_members-loop
 invariant-read_members-loop l =
     let read = (entry_format (l.left - 1)).read in
-    with_front (datum_pairs l.items.items) (repeat_at read (l.count - l.counter) l.input) ≡ repeat_at read l.count l.initial.input
+    with_prefix (datum_pairs l.items.items) (repeat_at read (l.count - l.counter) l.input) ≡ repeat_at read l.count l.initial.input
 
 abbrev pub decreases-read_arm : goal.decreases-read_arm
 decreases-read_arm l = 8 * l.left + 5

@@ -1,6 +1,8 @@
 use Rattle.std.proofs.Common.{◌≡◌, ℕ, Bool, not, arith, refl, sym, ap, ◌∙◌, take}
 use Rattle.std.proofs.Math.Seq.{take-length}
-use Rattle.wasm_check.proofs.Distinct.{names_of, stand_twice, told_twice, none_twice, still_holds, differ_names}
+use Rattle.list_laws.specs.Twice.{stand_twice}
+use Rattle.list_laws.proofs.Twice.{none_twice, still_holds}
+use Rattle.wasm_check.proofs.Distinct.{name_of, names_of, repeated_name, differ_names}
 use Rattle.wasm_check.proofs.names.names_differ.Goals as goal
 
 pub loop-export-init : goal.loop-export-init
@@ -8,14 +10,14 @@ loop-export-init c = record { distinct = refl; holds = λ q. rw c.new-seen.ensur
 
 pub returns-then-not-branch : goal.returns-then-not-branch
 returns-then-not-branch c =
-    told_twice c.args.exports.now c.loop-export.export-index c.export-item.result c.loop-export.seen c.as_slice.result c.in_ok-insert.field-0 c.loop-export-test.true c.export-item.is
+    repeated_name c.args.exports.now c.loop-export.export-index c.export-item.result c.loop-export.seen c.as_slice.result c.in_ok-insert.field-0 c.loop-export-test.true c.export-item.is
     c.loop-export.invariant.holds c.as_slice.ensures c.in_ok-insert.ensures.added c.if-not-branch.true
 
 pub loop-export-preserved : goal.loop-export-preserved
 loop-export-preserved c = record {
-  distinct = none_twice c.args.exports.now c.loop-export.export-index c.export-item.result c.loop-export.seen c.as_slice.result c.in_ok-insert.field-0 c.loop-export-test.true c.export-item.is
+  distinct = none_twice name_of c.args.exports.now c.loop-export.export-index c.export-item.result c.loop-export.seen c.as_slice.result c.in_ok-insert.field-0 c.loop-export-test.true c.export-item.is
       c.loop-export.invariant.holds c.loop-export.invariant.distinct c.as_slice.ensures c.in_ok-insert.ensures.added c.if-not-branch.false;
-  holds = still_holds c.args.exports.now c.loop-export.export-index c.export-item.result c.loop-export.seen c.insert.new.self c.as_slice.result c.loop-export-test.true c.export-item.is
+  holds = still_holds name_of c.args.exports.now c.loop-export.export-index c.export-item.result c.loop-export.seen c.insert.new.self c.as_slice.result c.loop-export-test.true c.export-item.is
       c.loop-export.invariant.holds c.as_slice.ensures c.in_ok-insert.ensures.updates.0;
 }
 

@@ -1,5 +1,7 @@
 use Rattle.std.proofs.Common.{◌≡◌, take, false}
-use Rattle.wasm_check.proofs.Distinct.{Holds, names_of, stand_twice}
+use Rattle.list_laws.specs.Twice.{stand_twice}
+use Rattle.list_laws.proofs.Twice.{Holds}
+use Rattle.wasm_check.proofs.Distinct.{names_of}
 use Rattle.wasm_check.proofs.names.names_differ.Given as goal
 
 abbrev pub invariant-loop-export : goal.invariant-loop-export

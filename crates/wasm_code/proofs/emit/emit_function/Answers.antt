@@ -14,8 +14,8 @@ returns c =
     let r = c.result_of-carried.ensures in
     let id = c.in_ok-target.target in
     let body = subst (λ x. EmittedAll m (record b { home = record { target = id; result = carried; height = 0 } }) d 0 x) c.as_slice.ensures c.in_ok-emit_all.ensures in
-    function_emitted m a b d c.close_label.new.out c.put.new.out f c.in-Some.function_type.now c.len-place.result id c.requires.labels (sym c.in-Some.ensures)
+    function_emitted m a b d c.close_label.new.out c.put.new.out f c.in-Some.function_type.now c.len-pc.result id c.requires.labels (sym c.in-Some.ensures)
     (subst (λ x. Opens a b 0 x 0 id) r c.in_ok-target.ensures)
     (subst (λ x. EmittedAll m (record b { home = record { target = id; result = x; height = 0 } }) d 0 f.body) r body)
     (subst (λ x. Closes d c.close_label.new.out id x) r c.close_label.ensures)
-    c.in_ok-put.ensures (c.len-place.ensures ∙ a.steps.ok.0)
+    c.in_ok-put.ensures (c.len-pc.ensures ∙ a.steps.ok.0)

@@ -1,7 +1,7 @@
 use Rattle.std.proofs.Common.{Some, sym, subst}
 use Rattle.std.specs.Prelude.{IfOk}
 use Rattle.wasm_machine.specs.Machine.{calls_element}
-use Rattle.wasm_machine.specs.Running.{Moves}
+use Rattle.wasm_machine.specs.MachineState.{Moves}
 use Rattle.wasm_machine.proofs.calls.call_element.Goals as goal
 
 pub returns-in-Some : goal.returns-in-Some

@@ -7,7 +7,7 @@ use Rattle.wasm_spec.specs.declared.values.TrapKind.TheVariants.{CallDepth}
 use Rattle.wasm_spec.specs.Meaning.{arguments, start_locals}
 use Rattle.wasm_machine.specs.declared.machine.Outcome.TheVariants as outcome
 use Rattle.wasm_machine.specs.Machine.{Frame}
-use Rattle.wasm_machine.specs.Running.{machine_of, IsMove}
+use Rattle.wasm_machine.specs.MachineState.{machine_of, IsMove}
 use Rattle.wasm_machine.proofs.CallLaws.{own_deep, own_enters, entered}
 use Rattle.wasm_machine.proofs.calls.enter.Goals as goal
 
@@ -29,9 +29,9 @@ returns c = λ b.
     ap (λ (k : List ValueType). arguments (length k) [] c.args.machine.now.operands) (sym c.as_slice.ensures) ∙ c.in_ok-locals.ensures in
     let locals : c.replace.new.dest.items ≡ start_locals c.args.function.now args = ap (λ (v : Vec Value Global). v.items) c.replace.ensures.after ∙ c.in_ok-add_locals.ensures in
     let caller : c.replace.result.items ≡ c.args.machine.now.locals.items = ap (λ (v : Vec Value Global). v.items) c.replace.ensures.value in
-    let waiting = λ (l : List Value). let f : Frame = record { place = c.args.machine.now.place + 1; locals = l } in f ∷ c.args.machine.now.frames in
+    let waiting = λ (l : List Value). let f : Frame = record { pc = c.args.machine.now.pc + 1; locals = l } in f ∷ c.args.machine.now.frames in
     let frames : c.push.new.self ≡ waiting c.args.machine.now.locals.items = c.in_ok-push.ensures.ok ∙ ap waiting caller in
-    let new = machine_of (record { place = c.args.entry; operands = rest; locals = c.replace.new.dest; frames = c.push.new.self; store = c.args.machine.now.store; left = c.args.machine.now.left }) b in
+    let new = machine_of (record { pc = c.args.entry; operands = rest; locals = c.replace.new.dest; frames = c.push.new.self; store = c.args.machine.now.store; left = c.args.machine.now.left }) b in
     subst (λ x. IsMove x outcome.Goes new)
     (sym (own_enters c.args.function.now c.args.entry c.args.func_type.now m args rest e (omega arith)))
     (entered c.args.entry rest c.replace.new.dest.items (start_locals c.args.function.now args) m.state c.push.new.self (waiting c.args.machine.now.locals.items) locals frames)

@@ -1,7 +1,7 @@
 use Rattle.std.proofs.Common.{sym, ap, ◌∙◌, subst}
 use Rattle.wasm_spec.specs.Effects.{gives}
 use Rattle.wasm_num.specs.Operands.{operand_type}
-use Rattle.wasm_machine.specs.Running.{IsEffect}
+use Rattle.wasm_machine.specs.MachineState.{IsEffect}
 use Rattle.wasm_machine.proofs.PlainLaws.{zero_fits, one_is, if_ok}
 use Rattle.wasm_machine.proofs.plain.apply_one.Goals as goal
 

@@ -1,6 +1,6 @@
 use Rattle.std.proofs.Common.{sym, ap, ◌∙◌, subst}
 use Rattle.wasm_spec.specs.Effects.{gives}
-use Rattle.wasm_machine.specs.Running.{IsEffect}
+use Rattle.wasm_machine.specs.MachineState.{IsEffect}
 use Rattle.wasm_machine.proofs.PlainLaws.{pair_top, pair_next, two_is, if_ok}
 use Rattle.wasm_machine.proofs.plain.apply_two.Goals as goal
 

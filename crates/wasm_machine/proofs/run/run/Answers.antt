@@ -4,7 +4,7 @@ use Rattle.wasm_spec.specs.declared.values.Value.{Value}
 use Rattle.wasm_machine.specs.declared.machine.Outcome.TheVariants as outcome
 use Rattle.wasm_machine.specs.declared.run.Paused.TheVariants as paused
 use Rattle.wasm_machine.specs.Machine.{Goes}
-use Rattle.wasm_machine.specs.Running.{machine_of}
+use Rattle.wasm_machine.specs.MachineState.{machine_of}
 use Rattle.wasm_machine.specs.Says.{Says, work_of}
 use Rattle.wasm_machine.proofs.Ways.{never_fails, behaves_ahead}
 use Rattle.wasm_machine.proofs.Measure.{move_lighter, asks_lighter}

@@ -1,4 +1,4 @@
-use Rattle.wasm_machine.specs.Running.{machine_of}
+use Rattle.wasm_machine.specs.MachineState.{machine_of}
 use Rattle.wasm_machine.proofs.PlainLaws.{can_apply}
 use Rattle.wasm_machine.proofs.step.go_on.Goals as goal
 

@@ -1,7 +1,7 @@
 use Rattle.std.proofs.Common.{◌≡◌, sym, subst}
 use Rattle.std.specs.Prelude.{IfOk}
 use Rattle.wasm_machine.specs.Machine.{Fails, passes}
-use Rattle.wasm_machine.specs.Running.{IsMove, machine_of}
+use Rattle.wasm_machine.specs.MachineState.{IsMove, machine_of}
 use Rattle.wasm_machine.proofs.PlainLaws.{if_ok}
 use Rattle.wasm_machine.proofs.step.pass.Goals as goal
 

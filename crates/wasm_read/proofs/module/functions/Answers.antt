@@ -19,9 +19,9 @@ loop-locals-preserved c =
     let ts = c.as_slice-indices.result.now in
     let n = length c.pop.new.self.items in
     let m = c.loop-locals.invariant in
-    let place : c.len-in-Some.result ≡ n = omega (arith, c.len-in-Some.ensures, c.pop.new.self.ok.0) in
+    let index : c.len-in-Some.result ≡ n = omega (arith, c.len-in-Some.ensures, c.pop.new.self.ok.0) in
     let lt : n < length ts = omega (arith, m.enough, c.loop-locals.funcs.ok.0, c.pop.new.self.ok.0, c.in-Some.ensures.cases) in
-    one_made ts c.into_vec-funcs.result.items c.loop-locals.funcs.items c.pop.new.self.items c.loop-locals.functions.items c.push.new.self.items _ (get_or ts c.len-in-Some.result 0) _ c.in-Some.ensures.items (ap (λ k. get_or ts k 0) place ∙ get_or_any ts n 0 (get_or ts c.len-in-Some.result 0) lt) refl c.in_ok-push.ensures.items m
+    one_made ts c.into_vec-funcs.result.items c.loop-locals.funcs.items c.pop.new.self.items c.loop-locals.functions.items c.push.new.self.items _ (get_or ts c.len-in-Some.result 0) _ c.in-Some.ensures.items (ap (λ k. get_or ts k 0) index ∙ get_or_any ts n 0 (get_or ts c.len-in-Some.result 0) lt) refl c.in_ok-push.ensures.items m
 
 pub returns : goal.returns
 returns c =

@@ -3,8 +3,8 @@ use Rattle.std.specs.Prelude.{slice_get, reverse}
 use Rattle.wasm_spec.specs.declared.module.Import.{Import}
 use Rattle.wasm_spec.specs.declared.values.Value.{Value}
 use Rattle.wasm_spec.specs.Meaning.{is_import}
-use Rattle.wasm_machine.specs.declared.machine.Running.{Running}
-use Rattle.wasm_run.specs.declared.instance.Phase.{Phase}
+use Rattle.wasm_machine.specs.declared.machine.MachineState.{MachineState}
+use Rattle.wasm_run.specs.declared.instance.CallPhase.{CallPhase}
 use Rattle.wasm_run.specs.Suspended.{suspended}
 use Rattle.wasm_run.specs.Able.{BeginsIn, Begins}
 use Rattle.wasm_run.proofs.Starts.{beyond, own_known, some_is, begins_import, begins_own, ok_map}
@@ -12,8 +12,8 @@ use Rattle.wasm_run.proofs.placing.placed.Goals as goal
 
 pub returns-then-is_import-clause-begins : goal.returns-then-is_import-clause-begins
 returns-then-is_import-clause-begins c = λ p.
-    begins_import (suspended c.args.source.now c.args.code.now p (record { place = 2 * c.args.function; operands = c.from_vec.result; locals = c.new.result; frames = c.new-then-is_import.result; store = c.args.store; left = 2 ^ 64 - 1 })) c.args.function c.args.arity (sym c.is_import.ensures ∙ c.if-is_import.true)
-    (record { place_ = refl; operands_ = c.from_vec.ensures ∙ ap (λ (x : List Value). reverse x) c.in_ok-values.ensures; locals_ = c.new.ensures.items; frames_ = c.new-then-is_import.ensures; left_ = refl })
+    begins_import (suspended c.args.source.now c.args.code.now p (record { pc = 2 * c.args.function; operands = c.from_vec.result; locals = c.new.result; frames = c.new-then-is_import.result; store = c.args.store; left = 2 ^ 64 - 1 })) c.args.function c.args.arity (sym c.is_import.ensures ∙ c.if-is_import.true)
+    (record { pc_ = refl; operands_ = c.from_vec.ensures ∙ ap (λ (x : List Value). reverse x) c.in_ok-values.ensures; locals_ = c.new.ensures.items; frames_ = c.new-then-is_import.ensures; left_ = refl })
 
 pub overflow_sub-index : goal.overflow_sub-index
 overflow_sub-index c =
@@ -39,5 +39,5 @@ returns-clause-begins c =
     let k = c.args.function - length c.as_slice.result.now in
     let values = c.in_ok-values.values.items in
     let ek = ap (λ (x : List Import). c.args.function - length x) c.as_slice.ensures in
-    ok_map (λ (r : Running). (p : Phase) → BeginsIn (suspended source c.args.code.now p r) k values) (λ (r : Running). (p : Phase) → Begins (suspended source c.args.code.now p r) c.args.function (replicate c.args.arity 0)) c.placed_in.result c.placed_in.ensures.begins
+    ok_map (λ (r : MachineState). (p : CallPhase) → BeginsIn (suspended source c.args.code.now p r) k values) (λ (r : MachineState). (p : CallPhase) → Begins (suspended source c.args.code.now p r) c.args.function (replicate c.args.arity 0)) c.placed_in.result c.placed_in.ensures.begins
     (λ r h p. begins_own (suspended source c.args.code.now p r) c.args.function c.args.arity k values (sym c.is_import.ensures ∙ c.if-is_import.false) ek c.in_ok-values.ensures (h p))

@@ -1,7 +1,7 @@
 use Rattle.std.proofs.Common.{◌≡◌, None, sym, ap, subst, ◌∙◌}
 use Rattle.std.specs.FinMap.{get, find}
 use Rattle.ledger_spec.specs.LedgerMap.{LedgerMap, IsLedgerMap, key_bytes}
-use Rattle.entry_map.specs.Slots.{IsPlace, pairs_of}
+use Rattle.entry_map.specs.Slots.{IsIndexOf, pairs_of}
 use Rattle.entry_map.proofs.Searching.{order}
 use Rattle.entry_map.proofs.Mapping.{found_in, found_at, ledger_map}
 use Rattle.entry_map.proofs.map.EntryMap.find.Goals as goal
@@ -9,8 +9,8 @@ use Rattle.entry_map.proofs.map.EntryMap.find.Goals as goal
 pub returns-in-Some-clause-found : goal.returns-in-Some-clause-found
 returns-in-Some-clause-found c =
     let slots = c.self.inside.slots.items in
-    let place : IsPlace slots c.in-Some.place (key_bytes c.args.key.now) = rw c.deref.ensures.value at c.in-Some.ensures.found in
-    sym (ap (λ (m : LedgerMap). get m (key_bytes c.args.key.now)) (sym c.self.view_is) ∙ found_at slots c.in-Some.place (key_bytes c.args.key.now) c.index.result.now c.self.invariant.sorted place c.index.ensures)
+    let index : IsIndexOf slots c.in-Some.index (key_bytes c.args.key.now) = rw c.deref.ensures.value at c.in-Some.ensures.found in
+    sym (ap (λ (m : LedgerMap). get m (key_bytes c.args.key.now)) (sym c.self.view_is) ∙ found_at slots c.in-Some.index (key_bytes c.args.key.now) c.index.result.now c.self.invariant.sorted index c.index.ensures)
 
 pub returns-in-None-clause-found : goal.returns-in-None-clause-found
 returns-in-None-clause-found c =

@@ -33,7 +33,7 @@ loop-extension-preserved c =
     let left = c.loop-extension.extension-iterator.rest.items in
     let looked : c.copied.result ≡ look (key_bytes e.key) = c.copied.ensures ∙ c.get.ensures.value ∙ ap look (c.as_slice.ensures.value ∙ c.in_ok-key.ensures.bytes-is) in
     let awaited : c.is_awaited-awaited.result ≡ is_awaited (look (key_bytes e.key)) (length yielded) = c.is_awaited-awaited.ensures ∙ ap₂ is_awaited looked c.loop-extension.invariant.counted in
-    let counted : c.loop-extension.place + 1 ≡ length (yielded ++ e ∷ []) = omega (arith, length_push yielded e, c.loop-extension.invariant.counted) in
+    let counted : c.loop-extension.index + 1 ≡ length (yielded ++ e ∷ []) = omega (arith, length_push yielded e, c.loop-extension.invariant.counted) in
     let one : Spelled e = next_of Spelled left e c.next.new.self.rest.items c.in-Some.ensures.steps.0 c.loop-extension.invariant.left in
     record {
       counted = counted;

@@ -5,7 +5,7 @@ use Rattle.ledger_apply.proofs.pending.Pending.into_vec.Given as goal
 
 abbrev pub invariant-loop-extension : goal.invariant-loop-extension
 invariant-loop-extension l = record {
-  counted : l.place ≡ length l.yielded;
+  counted : l.index ≡ length l.yielded;
   kept : l.pending.items ≡ still_pending (awaiting l.by_key) 0 l.yielded;
   left : All (λ e. key_format.fits e.key) l.extension-iterator.rest.items;
   spelled : All (λ e. key_format.fits e.key) l.pending.items;

@@ -21,4 +21,4 @@ returns c =
     let some = subst (λ (l : List Value). IsSome (arguments c.args.count [] l)) (sym c.self.view_is) c.requires in
     let all = ap (arguments c.args.count []) (sym c.self.view_is) ∙ arguments_view xs c.args.count i (omega (arith, c.len.ensures, c.self.inside.values.ok.0)) some in
     if_ok c.split_off.result (λ t. t.items ≡ drop i xs) _ (c.split_off.new.self.items ≡ take i xs) c.split_off.ensures.tail c.split_off.ensures.items
-    (λ t tail front. all ∙ ap (λ (l : List Value). Some (l, reverse (take i xs))) (sym tail) ∙ ap (λ (l : List Value). Some (t.items, reverse l)) (sym front))
+    (λ t tail prefix. all ∙ ap (λ (l : List Value). Some (l, reverse (take i xs))) (sym tail) ∙ ap (λ (l : List Value). Some (t.items, reverse l)) (sym prefix))

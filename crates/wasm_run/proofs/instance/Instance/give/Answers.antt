@@ -1,6 +1,6 @@
 use Rattle.std.proofs.Common.{List, sym, subst}
 use Rattle.wasm_spec.specs.declared.values.Value.{Value}
-use Rattle.wasm_run.specs.declared.instance.Phase.TheVariants as phase
+use Rattle.wasm_run.specs.declared.instance.CallPhase.TheVariants as phase
 use Rattle.wasm_run.specs.Suspended.{suspended, standing, Goes}
 use Rattle.wasm_run.proofs.Suspends.{able_at}
 use Rattle.wasm_run.proofs.instance.Instance.give.Goals as goal

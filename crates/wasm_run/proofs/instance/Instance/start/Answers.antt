@@ -4,7 +4,7 @@ use Rattle.std.proofs.lemmas.List.{with_items_is}
 use Rattle.wasm_spec.specs.declared.values.Value.{Value}
 use Rattle.wasm_spec.specs.declared.values.Value.TheVariants as value
 use Rattle.wasm_spec.specs.Meaning.{is_import, meaning}
-use Rattle.wasm_run.specs.declared.instance.Phase.TheVariants as phase
+use Rattle.wasm_run.specs.declared.instance.CallPhase.TheVariants as phase
 use Rattle.wasm_run.specs.Suspended.{Suspended, suspended, Goes, standing}
 use Rattle.wasm_run.proofs.Suspends.{starts_import, starts_own, able_at}
 use Rattle.wasm_run.proofs.instance.Instance.start.Goals as goal

@@ -2,9 +2,9 @@ use Rattle.std.proofs.Common.{List, length, drop, refl, sym, ap, ◌∙◌, subs
 use Rattle.wasm_spec.specs.declared.values.Value.{Value}
 use Rattle.wasm_machine.specs.declared.run.Paused.{Paused}
 use Rattle.wasm_machine.specs.declared.run.Paused.TheVariants as paused
-use Rattle.wasm_machine.specs.Running.{machine_of}
+use Rattle.wasm_machine.specs.MachineState.{machine_of}
 use Rattle.wasm_machine.specs.Says.{Says}
-use Rattle.wasm_run.specs.declared.instance.Phase.TheVariants as phase
+use Rattle.wasm_run.specs.declared.instance.CallPhase.TheVariants as phase
 use Rattle.wasm_run.specs.Suspended.{Suspended, suspended, standing, Does}
 use Rattle.wasm_run.proofs.Suspends.{able_at, word_is, goes_on, tells_done, tells_trap, tells_spent, tells_ask}
 use Rattle.wasm_run.proofs.instance.Instance.step_to.Goals as goal

@@ -1,0 +1,62 @@
+//! How many cases hold, and the report of those that do not.
+
+use crate::case_err::CaseErr;
+use std::alloc::Global;
+use std::fmt::Write;
+
+/// The number of cases that were judged, and of those that failed.
+#[derive(Clone, Copy)]
+pub struct Tally {
+    judged: u64,
+    failed: u64,
+}
+
+impl Tally {
+    pub fn new() -> Tally {
+        Tally {
+            judged: 0,
+            failed: 0,
+        }
+    }
+
+    /// Counts a case.
+    pub fn count(&mut self, holds: bool) {
+        self.judged = self.judged.saturating_add(1);
+        if !holds {
+            self.failed = self.failed.saturating_add(1);
+        }
+    }
+
+    pub fn all_hold(&self) -> bool {
+        self.failed == 0
+    }
+
+    /// The last line of a program's output.
+    pub fn last_line(&self, alloc: Global, program: &str) -> Result<String, CaseErr> {
+        let (judged, failed) = (self.judged, self.failed);
+        let line = if failed == 0 {
+            format!(in alloc; "{program}: {judged} cases hold\n")?
+        } else {
+            format!(in alloc; "{program}: {failed} of {judged} cases fail\n")?
+        };
+        Ok(line)
+    }
+}
+
+/// Appends to a report the line of a case that fails, with its number, and the expected and the actual outcome.
+pub fn push_failure(
+    report: &mut String,
+    number: usize,
+    line: &str,
+    expected: &str,
+    came: &str,
+) -> Result<(), CaseErr> {
+    writeln!(report, "{number}: {line}")?;
+    for expected in expected.lines() {
+        writeln!(report, "  expected {expected}")?;
+    }
+    for came in came.lines() {
+        writeln!(report, "  came     {came}")?;
+    }
+    Ok(())
+}

@@ -1,0 +1,98 @@
+//! Sets that are applied to ledgers, and reports.
+
+ghost use Rattle.std.specs.Prelude.{IfOk, IsTrue, ◌≡◌, length};
+ghost use Rattle.ledger_spec.specs.LedgerFile.{are_settings, has_next};
+ghost use Rattle.tx_results.specs.Results.{result_set_format};
+ghost use Rattle.invoke_types.specs.Success.{success_format};
+ghost use Rattle.xdr_spec.specs.Format.{optional};
+
+use crate::errors::{made, spelled};
+use crate::hashes::hex_line;
+use case_text::{CaseErr, Fragments, first_word, number};
+use invoke_types::SuccessPreimage;
+use ledger_apply::{Applied, apply_set};
+use ledger_file::{Ledger, LedgerErr, read_ledger};
+use std::alloc::Global;
+use std::fmt::Write;
+use tx_results::{ResultSet, write_report, write_results};
+use tx_xdr::read_set_today;
+use value_xdr::decode;
+
+/// LEDGER SET CLOSE-TIME: the code of each result as a word in hex digits, and the last ledger in which each entry of the
+/// new ledger is live.
+pub fn apply(alloc: Global, fragments: &Fragments, rest: &str) -> Result<String, CaseErr> {
+    let (ledger, rest) = first_word(rest);
+    let (set, close_time) = first_word(rest);
+    let ledger = fragments.bytes(alloc, ledger)?;
+    let set = fragments.bytes(alloc, set)?;
+    let applied = applied(alloc, &ledger, &set, number(close_time)?)?;
+    applied_line(alloc, &applied)
+}
+
+fn applied(alloc: Global, ledger: &[u8], set: &[u8], close_time: u64) -> Result<Applied, CaseErr> {
+    let set = spelled(read_set_today(alloc, set), "a set that runs")?;
+    let ledger = ledger_that_goes_on(alloc, ledger)?;
+    made(apply_set(alloc, ledger, &set, close_time))
+}
+
+fn ledger_that_goes_on(alloc: Global, bytes: &[u8]) -> Result<Ledger, CaseErr>
+    ensures settings { IfOk result (λ l. IsTrue (are_settings l.header.settings)) }
+    ensures next { IfOk result (λ l. IsTrue (has_next l.header)) }
+{
+    match read_ledger(alloc, bytes, true) {
+        Ok(ledger) => Ok(ledger),
+        Err(LedgerErr::Refused(_)) => Err(CaseErr::Lacks("a ledger that another may follow")),
+        Err(LedgerErr::NoMemory) => Err(CaseErr::NoMemory),
+    }
+}
+
+fn applied_line(alloc: Global, applied: &Applied) -> Result<String, CaseErr> {
+    let mut line = String::from_str(alloc, "codes")?;
+    for pair in applied.results.pairs.as_slice() {
+        let code = pair.result.outcome.code().number();
+        write!(line, " {code:x}")?;
+    }
+    line.push_str(", lives")?;
+    for slot in applied.ledger.entries.as_slice() {
+        let live_until = slot.kept.live_until;
+        write!(line, " {live_until}")?;
+    }
+    line.push('\n')?;
+    Ok(line)
+}
+
+/// RESULTS SUCCESS: the report of a set of one result. SUCCESS is a success preimage, or nothing.
+pub fn report(alloc: Global, fragments: &Fragments, rest: &str) -> Result<String, CaseErr> {
+    let (results, success) = first_word(rest);
+    let results = decode::<ResultSet>(alloc, &fragments.bytes(alloc, results)?);
+    let results = spelled(results, "results")?;
+    if results.pairs.as_slice().len() != 1 {
+        return Err(CaseErr::Lacks("one result"));
+    }
+    let success = fragments.bytes(alloc, success)?;
+    report_of_one(alloc, &results, &success)
+}
+
+fn report_of_one(alloc: Global, results: &ResultSet, success: &[u8]) -> Result<String, CaseErr>
+    requires results { result_set_format.fits results.now }
+    requires one { length results.now.pairs ≡ 1 }
+{
+    let alone = made(write_results(alloc, results))?;
+    let report = made(write_report(alloc, results, &[success_of(alloc, success)?]))?;
+    if report.as_slice().starts_with(alone.as_slice()) {
+        hex_line(alloc, report.as_slice())
+    } else {
+        Ok(String::from_str(alloc, "results written otherwise\n")?)
+    }
+}
+
+#[tactic(auto, unfolding(xdr_spec::specs::Format::optional))]
+fn success_of(alloc: Global, bytes: &[u8]) -> Result<Option<SuccessPreimage>, CaseErr>
+    ensures { IfOk result (optional success_format).fits }
+{
+    if bytes.is_empty() {
+        return Ok(None);
+    }
+    let success = decode::<SuccessPreimage>(alloc, bytes);
+    Ok(Some(spelled(success, "a success preimage")?))
+}

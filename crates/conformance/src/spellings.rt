@@ -1,0 +1,80 @@
+//! Values that bytes spell.
+
+ghost use Rattle.std.specs.Prelude.{◌≡◌};
+
+use crate::errors::made;
+use crate::types;
+use case_text::{CaseErr, Fragments, first_word};
+use std::alloc::Global;
+use value_xdr::{Xdr, decode, encode};
+use xdr_core::{ReadXdr, Why, XdrErr};
+
+/// What bytes are as the spelling of a type.
+pub enum Spelling {
+    /// A value is read, and written to the same bytes: their number.
+    Same(u64),
+    /// A value is read, and written to other bytes.
+    Other,
+    Refused(XdrErr),
+}
+
+/// TYPE BYTES: how many bytes the value has, or why and where they are refused.
+pub fn xdr(alloc: Global, fragments: &Fragments, rest: &str) -> Result<String, CaseErr> {
+    let (name, bytes) = first_word(rest);
+    let bytes = fragments.bytes(alloc, bytes)?;
+    let line = match types::spelling_of(alloc, name, &bytes)? {
+        Spelling::Same(size) => format!(in alloc; "ok {size}\n")?,
+        Spelling::Other => String::from_str(alloc, "written otherwise\n")?,
+        Spelling::Refused(error) => {
+            let (at, why) = (error.at, reason(error.why));
+            format!(in alloc; "refused at {at}: {why}\n")?
+        }
+    };
+    Ok(line)
+}
+
+/// Reads a value and writes it.
+pub fn rewritten<T: Xdr + Drop>(alloc: Global, bytes: &[u8]) -> Result<Spelling, CaseErr> {
+    match decode::<T>(alloc, bytes) {
+        Ok(value) => written(bytes, made(encode(alloc, &value))?, value.size()),
+        Err(error) => refused(error),
+    }
+}
+
+/// Reads a value and writes its clone.
+pub fn cloned<T: Xdr + Drop + Clone>(alloc: Global, bytes: &[u8]) -> Result<Spelling, CaseErr>
+    requires same { (v w : T) → T.is_clone v w → w ≡ v }
+{
+    match decode::<T>(alloc, bytes) {
+        Ok(value) => written(bytes, made(encode(alloc, &value.clone()?))?, value.size()),
+        Err(error) => refused(error),
+    }
+}
+
+/// Compares the bytes that were read with those that were written, and their number with the value's size.
+pub fn written(bytes: &[u8], again: Vec<u8>, size: u64) -> Result<Spelling, CaseErr> {
+    if again.as_slice() == bytes && size == bytes.len() as u64 {
+        Ok(Spelling::Same(size))
+    } else {
+        Ok(Spelling::Other)
+    }
+}
+
+pub fn refused(error: ReadXdr) -> Result<Spelling, CaseErr> {
+    match error {
+        ReadXdr::Bad(error) => Ok(Spelling::Refused(error)),
+        ReadXdr::NoMemory => Err(CaseErr::NoMemory),
+    }
+}
+
+fn reason(why: Why) -> &'static str {
+    match why {
+        Why::End => "end",
+        Why::Padding => "padding",
+        Why::Boolean => "bool",
+        Why::Tag => "tag",
+        Why::Limit => "limit",
+        Why::Depth => "depth",
+        Why::Trailing => "trailing",
+    }
+}

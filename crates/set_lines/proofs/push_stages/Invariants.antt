@@ -1,6 +1,0 @@
-use Rattle.std.proofs.Common.{◌≡◌, ◌++◌, map, take}
-use Rattle.set_lines.specs.Parts.{part_of}
-use Rattle.set_lines.proofs.push_stages.Given as goal
-
-abbrev pub invariant-loop-stage : goal.invariant-loop-stage
-invariant-loop-stage l = map part_of l.parts.items ≡ map part_of l.fn.parts.items ++ take l.stage-index l.stages
