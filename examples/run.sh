@@ -5,6 +5,9 @@
 # The inputs are those of the crate command_cases, whose table data/readme.txt has the same commands and what they do. So the
 # gate checks what this prints.
 set -eu
+for tool in rt python3 xxd; do
+    command -v "$tool" >/dev/null || { echo "$0 needs the command $tool" >&2; exit 1; }
+done
 cd "$(dirname "$0")/.."
 python3 tools/prove.py soroban_cmd
 

@@ -2,6 +2,9 @@
 # Shows the program within about a minute, unproved: `rt try` compiles it with checks that stop it at some faults. Nothing that
 # the README promises is known of it. examples/run.sh proves and builds the program.
 set -eu
+for tool in rt xxd; do
+    command -v "$tool" >/dev/null || { echo "$0 needs the command $tool" >&2; exit 1; }
+done
 cd "$(dirname "$0")/../crates/soroban_cmd"
 
 inputs=$PWD/../command_cases/data/example

@@ -120,15 +120,22 @@ is_too_late header tx =
 
 -- ---- the checks: the first that fails decides
 
--- each check with the result code of its failure
-abbrev pub checks_of : Header → Transaction → List (Bool × TransactionOutcome)
-checks_of header tx =
+-- the checks of all but the footprint, each with the result code of its failure
+abbrev pub form_checks : Header → Transaction → List (Bool × TransactionOutcome)
+form_checks header tx =
     (nat_lt 0 (length tx.operations), MissingOperation)
     ∷ (not (is_too_early header tx), TooEarly)
     ∷ (not (is_too_late header tx), TooLate)
     ∷ (nat_le (length tx.operations) 1 && is_soroban tx.ext, Malformed)
-    ∷ (may_be_footprint (declared_keys (footprint_of tx)), SorobanInvalid)
     ∷ []
+
+-- the check of the footprint
+abbrev pub footprint_checks : Transaction → List (Bool × TransactionOutcome)
+footprint_checks tx = (may_be_footprint (declared_keys (footprint_of tx)), SorobanInvalid) ∷ []
+
+-- all checks
+abbrev pub checks_of : Header → Transaction → List (Bool × TransactionOutcome)
+checks_of header tx = form_checks header tx ++ footprint_checks tx
 
 -- the result code of the first check that fails
 abbrev pub first_failed : List (Bool × TransactionOutcome) → Option TransactionOutcome

@@ -5,28 +5,25 @@ use Rattle.sha2.specs.Sha256.{sha256}
 use Rattle.ledger_types.specs.declared.header.Header.{Header}
 use Rattle.tx_results.specs.Report.{report_bytes}
 use Rattle.tx_xdr.specs.declared.set.TxSet.{TxSet}
-use Rattle.tx_results.specs.declared.results.TransactionOutcome.{TransactionOutcome}
-use Rattle.tx_results.specs.declared.results.TransactionOutcome.TheVariants.{Success, Failed, TooEarly, TooLate, MissingOperation, Malformed, SorobanInvalid}
+use Rattle.tx_results.specs.declared.results.EnvelopeOutcome.{EnvelopeOutcome}
+use Rattle.tx_results.specs.declared.results.EnvelopeOutcome.TheVariants as outcomes
 use Rattle.tx_results.specs.declared.results.TransactionResultPair.{TransactionResultPair}
 use Rattle.ledger_spec.specs.LedgerMap.{LedgerMap}
 use Rattle.ledger_spec.specs.LedgerFile.{ledger_bytes}
+use Rattle.apply_spec.specs.Enforced.{is_success}
 use Rattle.apply_spec.specs.Runs.{RunState, run_set, new_header, success_preimages}
 
 -- ---- the lines
 
--- a transaction succeeded if its result code is txSUCCESS
-abbrev pub is_success : TransactionOutcome → Bool
-is_success (Success results) = true
-is_success (Failed results) = false
-is_success TooEarly = false
-is_success TooLate = false
-is_success MissingOperation = false
-is_success Malformed = false
-is_success SorobanInvalid = false
+-- a transaction succeeded if its result code is txSUCCESS, a fee bump if it is txFEE_BUMP_INNER_SUCCESS
+abbrev pub has_succeeded : EnvelopeOutcome → Bool
+has_succeeded (outcomes.Transaction outcome) = is_success outcome
+has_succeeded (outcomes.FeeBumpInnerSuccess inner) = true
+has_succeeded (outcomes.FeeBumpInnerFailed inner) = false
 
 -- the number of transactions that succeeded
 abbrev pub successes : List TransactionResultPair → ℕ
-successes results = count_by (λ pair. is_success pair.result.outcome) results
+successes results = count_by (λ pair. has_succeeded pair.result.outcome) results
 
 -- the first line: `ledger N: T transactions, S succeeded, F failed`
 abbrev pub count_line : ℕ → List TransactionResultPair → List ℕ

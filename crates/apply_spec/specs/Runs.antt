@@ -3,14 +3,15 @@
 use Rattle.std.specs.Prelude.{ℕ, pos, Bool, not, List, [], ◌∷◌, ◌++◌, Option, None, map, fold, filter}
 use Rattle.invoke_types.specs.declared.success.SuccessPreimage.{SuccessPreimage}
 use Rattle.ledger_types.specs.declared.header.Header.{Header}
-use Rattle.tx_xdr.specs.Hashes.{transaction_hash}
+use Rattle.tx_xdr.specs.Envelope.{transaction_in}
+use Rattle.tx_xdr.specs.Hashes.{envelope_hash}
 use Rattle.tx_xdr.specs.Stages.{stages_of}
-use Rattle.tx_xdr.specs.declared.transaction.Envelope.{Envelope}
+use Rattle.tx_xdr.specs.declared.envelope.Envelope.{Envelope}
 use Rattle.tx_xdr.specs.declared.transaction.Transaction.{Transaction}
 use Rattle.tx_xdr.specs.declared.set.Cluster.{Cluster}
 use Rattle.tx_xdr.specs.declared.set.Stage.{Stage}
 use Rattle.tx_xdr.specs.declared.set.TxSet.{TxSet}
-use Rattle.tx_results.specs.declared.results.TransactionOutcome.{TransactionOutcome}
+use Rattle.tx_results.specs.declared.results.EnvelopeOutcome.{EnvelopeOutcome}
 use Rattle.tx_results.specs.declared.results.TransactionResultPair.{TransactionResultPair}
 use Rattle.ledger_spec.specs.LedgerMap.{LedgerMap}
 use Rattle.ledger_spec.specs.Changes.{raise}
@@ -49,28 +50,28 @@ before tx running = record running {
   pending = filter (λ extension. not (is_written tx extension)) running.pending;
 }
 
--- the transaction's hash with its outcome; no fee is charged
-abbrev pub result_pair : Header → Transaction → TransactionOutcome → TransactionResultPair
-result_pair header tx outcome = record {
-  hash = transaction_hash header.network_id tx;
+-- the envelope's hash with its outcome; no fee is charged
+abbrev pub result_pair : Header → Envelope → EnvelopeOutcome → TransactionResultPair
+result_pair header envelope outcome = record {
+  hash = envelope_hash header.network_id envelope;
   result = record { fee_charged = pos 0; outcome = outcome };
 }
 
 -- The transaction's extensions are pending from then on, so later transactions do not see them. The map stays as it is,
 -- since no other operation can succeed today.
-abbrev pub after : Header → Transaction → Enforced → RunState → RunState
-after header tx done running = record running {
+abbrev pub after : Header → Envelope → Enforced → RunState → RunState
+after header envelope done running = record running {
   pending = running.pending ++ done.extensions;
-  results = running.results ++ result_pair header tx done.outcome ∷ [];
+  results = running.results ++ result_pair header envelope done.outcome ∷ [];
 }
 
--- the transaction itself, after pending extensions were put in
-abbrev pub run_prepared : Header → Transaction → RunState → RunState
-run_prepared header tx running = after header tx (enforced header running.entries tx) running
+-- the envelope itself, after pending extensions were put in
+abbrev pub run_prepared : Header → Envelope → RunState → RunState
+run_prepared header envelope running = after header envelope (enforced header running.entries envelope) running
 
--- a transaction in its cluster
+-- an envelope in its cluster; a fee bump declares what its inner transaction declares
 abbrev pub run_transaction : Header → RunState → Envelope → RunState
-run_transaction header running envelope = run_prepared header envelope.tx (before envelope.tx running)
+run_transaction header running envelope = run_prepared header envelope (before (transaction_in envelope) running)
 
 -- ---- clusters, stages, sets
 

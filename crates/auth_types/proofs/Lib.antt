@@ -2,3 +2,4 @@ pub mod Parts
 pub mod Levels
 pub mod Rows
 pub mod Linked
+pub mod Same

@@ -9,7 +9,7 @@ use Rattle.xdr_spec.proofs.Remade.{via_lawful, arm_lawful, arm_kind}
 use Rattle.xdr_spec.proofs.Derived.{union_lawful, enumeration_lawful, find_kind-back, number32_lawful, signed64_lawful}
 use Rattle.value_types.specs.Address.{address_format, address_lawful}
 use Rattle.value_types.specs.Formats.{scval_format}
-use Rattle.value_types.specs.Lawful.{scval_lawful}
+use Rattle.value_types.proofs.Lawful.{scval_lawful}
 use Rattle.value_types.specs.declared.address.ScAddress.{ScAddress}
 use Rattle.value_types.specs.declared.value.ScVal.{ScVal}
 use Rattle.auth_types.specs.declared.credentials.CredentialsType.{CredentialsType}

@@ -8,3 +8,4 @@ pub mod Bytes
 pub mod Credentials
 pub mod AuthEntry
 pub mod Payload
+pub mod Equality

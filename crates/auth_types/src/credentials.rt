@@ -6,8 +6,8 @@ ghost use Rattle.auth_types.specs.Credentials.{number, kind_of, kind, type_forma
 
 use std::alloc::{AllocError, Global};
 use value_types::{ScAddress, ScVal};
-use value_xdr::Xdr;
-use xdr_core::{Cursor, NoMemory, Out, ReadXdr, Why, XdrErr, add_sizes};
+use value_xdr::{Xdr, named};
+use xdr_core::{Cursor, NoMemory, Out, ReadXdr, add_sizes};
 
 /// The types of credentials (the XDR files' `SorobanCredentialsType`).
 #[derive(Clone, Copy, Debug, PartialEq, Eq)]
@@ -45,11 +45,7 @@ impl Xdr for CredentialsType {
 
     fn read_parts(_alloc: Global, input: &mut Cursor<'_>) -> Result<CredentialsType, ReadXdr> {
         let place = input.place();
-        let number = input.u32()?;
-        CredentialsType::from_number(number).ok_or(ReadXdr::Bad(XdrErr {
-            at: place,
-            why: Why::Tag,
-        }))
+        named(CredentialsType::from_number(input.u32()?), place)
     }
 
     fn write_parts(&self, out: &mut Out) -> Result<(), NoMemory> {

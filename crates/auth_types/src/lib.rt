@@ -4,6 +4,7 @@
 mod auth_entry;
 mod cloning;
 mod credentials;
+mod equality;
 mod invocation;
 mod invocation_codec;
 mod payload;

@@ -9,7 +9,7 @@ use std::{fmt, io};
 pub enum CaseErr {
     /// The line lacks this. The case is counted as one that fails, and the cases after it are still judged.
     Lacks(&'static str),
-    /// The program ran out of memory, which ends the run.
+    /// The program ran out of memory. The case is counted as one that fails.
     NoMemory,
     /// A table could not be read, or the report not be written, which ends the run.
     Io(io::Error),

@@ -10,7 +10,7 @@ use std::thread::Threads;
 use std::{env, fs};
 
 /// Judges the cases of the tables that the program's arguments name, and prints those that fail and a last line that
-/// counts them. The status is 0 only if all hold.
+/// counts them. The status is 0 only if there are cases and all hold.
 pub fn run_tables<R: Runtime + AllocGlobal + Threads + Sync, J: Judge>(
     rt: &R,
     program: &str,

@@ -50,7 +50,8 @@ pub fn judge_table<R: Runtime + AllocGlobal + Threads + Sync, J: Judge>(
     Ok(report)
 }
 
-/// Keeps the bytes that a line names, or judges its case. A line that is not understood is a case that fails.
+/// Keeps the bytes that a line names, or judges its case. A line that is not understood is a case that fails, and so is
+/// one that runs out of memory.
 fn take_block<R: Runtime + AllocGlobal + Threads + Sync, J: Judge>(
     rt: &R,
     block: &Block,
@@ -66,14 +67,13 @@ fn take_block<R: Runtime + AllocGlobal + Threads + Sync, J: Judge>(
         ("text", rest) => define_text(alloc, fragments, rest, block),
         _ => judge_case(rt, block, judge, fragments, tally, report),
     };
-    match failed {
-        Err(CaseErr::Lacks(what)) => {
-            tally.count(false);
-            let came = format!(in alloc; "a line that lacks {what}")?;
-            push_failure(report, block.number, block.line, "a case", came.as_str())
-        }
-        other => other,
-    }
+    let came = match failed {
+        Err(CaseErr::Lacks(what)) => format!(in alloc; "a line that lacks {what}")?,
+        Err(CaseErr::NoMemory) => String::from_str(alloc, "out of memory")?,
+        other => return other,
+    };
+    tally.count(false);
+    push_failure(report, block.number, block.line, "a case", came.as_str())
 }
 
 fn no_lines_below(block: &Block) -> Result<(), CaseErr> {

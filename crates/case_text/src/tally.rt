@@ -27,14 +27,17 @@ impl Tally {
         }
     }
 
+    /// Whether a case was judged and none failed. A run without cases fails, so that a wrong `args` file cannot pass.
     pub fn all_hold(&self) -> bool {
-        self.failed == 0
+        self.judged != 0 && self.failed == 0
     }
 
     /// The last line of a program's output.
     pub fn last_line(&self, alloc: Global, program: &str) -> Result<String, CaseErr> {
         let (judged, failed) = (self.judged, self.failed);
-        let line = if failed == 0 {
+        let line = if judged == 0 {
+            format!(in alloc; "{program}: no case was judged; usage: {program} TABLE..\n")?
+        } else if failed == 0 {
             format!(in alloc; "{program}: {judged} cases hold\n")?
         } else {
             format!(in alloc; "{program}: {failed} of {judged} cases fail\n")?

@@ -2,7 +2,7 @@
 
 use crate::outcome::{names_of, outcome, push_stored};
 use case_text::CaseErr;
-use edge_io::{MemSay, OpenGate, RealFiles, Word};
+use edge_io::{MemSay, OpenGate, RealFiles, Word, longest};
 use soroban_top::{Status, soroban};
 use std::alloc::Global;
 use std::fs;
@@ -78,7 +78,7 @@ impl Disk {
     ) -> Result<String, CaseErr> {
         let names = names_of(alloc, words)?;
         let before = contents(rt, alloc, &names)?;
-        let mut files = RealFiles::new(rt.clone()?);
+        let mut files = RealFiles::new(rt.clone()?, alloc, longest(words))?;
         let mut say = MemSay::new(alloc, Vec::new(alloc));
         let status = soroban(threads, alloc, words, &mut files, &mut say, &OpenGate);
         self.outcome(rt, alloc, &names, &before, &status, say.text())

@@ -30,10 +30,14 @@ show_app = with_flag (codes "base64") (with_option (codes "file") (with_option (
 unfoldable pub vet_app : App
 vet_app = with_option (codes "module") (new_app (codes "vet"))
 
+-- migrate --ledger FILE --ledger-out FILE
+unfoldable pub migrate_app : App
+migrate_app = with_option (codes "ledger-out") (with_option (codes "ledger") (new_app (codes "migrate")))
+
 -- the program before it has commands: without help, and without its own name among the words
 abbrev pub bare_app : App
 bare_app = on_top (λ s. record s { no_binary_name = true; disable_help_flag = true; disable_help_subcommand = true; subcommand_required = true }) (new_app (codes "soroban"))
 
 -- the program with its commands
 unfoldable pub soroban_app : App
-soroban_app = with_subcommand (with_subcommand (with_subcommand bare_app apply_app.top) show_app.top) vet_app.top
+soroban_app = with_subcommand (with_subcommand (with_subcommand (with_subcommand bare_app apply_app.top) show_app.top) vet_app.top) migrate_app.top

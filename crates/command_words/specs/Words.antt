@@ -8,7 +8,7 @@ use Rattle.clap.specs.Walk.{Row, Text, first_of}
 use Rattle.command_words.specs.Commands.{soroban_app}
 use Rattle.command_words.specs.Values.{are_names, close_time_in, is_set, kind_in, workers_in}
 use Rattle.command_words.specs.declared.request.Request.{Request}
-use Rattle.command_words.specs.declared.request.Request.TheVariants.{Apply, Show, Vet}
+use Rattle.command_words.specs.declared.request.Request.TheVariants.{Apply, Show, Vet, Migrate}
 
 infixl 10 ◌>>=◌
 abbrev ◌>>=◌ : {A B : Type 0} → Option A → (A → Option B) → Option B
@@ -60,12 +60,21 @@ vet_from rows = do
   _ ← guard (are_names (module_file ∷ []))
   Some (Vet (record { module_file = module_file }))
 
+-- migrate, with the values of its options
+abbrev pub migrate_from : List Row → Option Request
+migrate_from rows = do
+  ledger ← first_of (codes "ledger") rows
+  ledger_out ← first_of (codes "ledger-out") rows
+  _ ← guard (are_names (ledger ∷ ledger_out ∷ []))
+  Some (Migrate (record { ledger = ledger; ledger_out = ledger_out }))
+
 -- the command of a subcommand's matches
 abbrev pub asked_from : Option (Text × List Row) → Option Request
 asked_from None = None
 asked_from (Some found) = if bytes_eq found.0 (codes "apply") then apply_from found.1
     else (if bytes_eq found.0 (codes "show") then show_from found.1
-    else (if bytes_eq found.0 (codes "vet") then vet_from found.1 else None))
+    else (if bytes_eq found.0 (codes "vet") then vet_from found.1
+    else (if bytes_eq found.0 (codes "migrate") then migrate_from found.1 else None)))
 
 -- clap finds no fault
 abbrev pub are_right : Kinds → Bool

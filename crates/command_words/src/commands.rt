@@ -4,19 +4,20 @@ ghost use Rattle.std.specs.Prelude.{◌≡◌, false, IfOk};
 ghost use Rattle.clap.specs.Simple.{app_of, new_app, with_rule, with_subcommand};
 ghost use Rattle.clap.specs.Walk.{rule_of};
 ghost use Rattle.clap.specs.declared.builder.command.Command.TheViews.{out-Command as fields_of};
-ghost use Rattle.command_words.specs.Commands.{apply_app, bare_app, flag_rule, option_rule, show_app, soroban_app, vet_app, with_flag, with_option};
+ghost use Rattle.command_words.specs.Commands.{apply_app, bare_app, flag_rule, migrate_app, option_rule, show_app, soroban_app, vet_app, with_flag, with_option};
 
 use clap::{Arg, ArgAction, Command};
 use std::alloc::{AllocError, Global};
 
 /// The definition of the program for clap.
-#[tactic(auto, unfolding(crate::specs::Commands::soroban_app))]
 pub fn soroban_command<'a>(alloc: Global) -> Result<Command<'a>, AllocError>
     ensures { IfOk result (λ c. app_of c ≡ soroban_app) }
 {
     let command = with_command(bare_command(alloc), apply_command(alloc)?)?;
     let command = with_command(command, show_command(alloc)?)?;
-    with_command(command, vet_command(alloc)?)
+    let command = with_command(command, vet_command(alloc)?)?;
+    let command = with_command(command, migrate_command(alloc)?)?;
+    Ok(command)
 }
 
 /// The program before it has commands, without help and without its own name among the words.
@@ -59,6 +60,15 @@ fn vet_command<'a>(alloc: Global) -> Result<Command<'a>, AllocError>
     ensures local { IfOk result (λ c. (fields_of c).has_globals ≡ false) }
 {
     with_option(Command::new(alloc, "vet"), alloc, "module")
+}
+
+#[tactic(auto, unfolding(crate::specs::Commands::migrate_app))]
+fn migrate_command<'a>(alloc: Global) -> Result<Command<'a>, AllocError>
+    ensures app { IfOk result (λ c. app_of c ≡ migrate_app) }
+    ensures local { IfOk result (λ c. (fields_of c).has_globals ≡ false) }
+{
+    let command = with_option(Command::new(alloc, "migrate"), alloc, "ledger")?;
+    with_option(command, alloc, "ledger-out")
 }
 
 fn with_command<'a>(

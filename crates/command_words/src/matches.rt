@@ -6,10 +6,10 @@ ghost use Rattle.clap.specs.Simple.{subcommand_rows_of};
 ghost use Rattle.clap.specs.Walk.{first_of, rows_of};
 ghost use Rattle.command_words.specs.Answers.{ReadsWords};
 ghost use Rattle.command_words.specs.Values.{is_set, kind_in, number_in};
-ghost use Rattle.command_words.specs.Words.{apply_from, asked_from, show_from, vet_from};
+ghost use Rattle.command_words.specs.Words.{apply_from, asked_from, migrate_from, show_from, vet_from};
 
 use crate::values::{are_names, kind_in, number_in};
-use crate::{ApplyRequest, Request, ShowKind, ShowRequest, VetRequest, WordsErr};
+use crate::{ApplyRequest, MigrateRequest, Request, ShowKind, ShowRequest, VetRequest, WordsErr};
 use clap::ArgMatches;
 use edge_io::Word;
 use std::alloc::Global;
@@ -27,6 +27,7 @@ pub fn request_from(alloc: Global, matches: &ArgMatches<'_>) -> Result<Request, 
         "apply" => apply_request(alloc, found),
         "show" => show_request(alloc, found),
         "vet" => vet_request(alloc, found),
+        "migrate" => migrate_request(alloc, found),
         _ => Err(WordsErr::Usage),
     }
 }
@@ -86,6 +87,17 @@ fn vet_request(alloc: Global, found: &ArgMatches<'_>) -> Result<Request, WordsEr
         return Err(WordsErr::Usage);
     }
     Ok(Request::Vet(VetRequest { module_file }))
+}
+
+fn migrate_request(alloc: Global, found: &ArgMatches<'_>) -> Result<Request, WordsErr>
+    ensures { ReadsWords result (migrate_from (rows_of (found_of found.now))) }
+{
+    let ledger = value_of(alloc, found, "ledger")?;
+    let ledger_out = value_of(alloc, found, "ledger-out")?;
+    if !are_names(&[&ledger, &ledger_out]) {
+        return Err(WordsErr::Usage);
+    }
+    Ok(Request::Migrate(MigrateRequest { ledger, ledger_out }))
 }
 
 /// The value of an option.

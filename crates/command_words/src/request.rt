@@ -47,10 +47,20 @@ pub struct VetRequest {
     pub module_file: Word,
 }
 
+/// The options of `migrate`.
+#[derive(Debug, Drop)]
+pub struct MigrateRequest {
+    /// The file of the ledger, in any version.
+    pub ledger: Word,
+    /// The file that gets the ledger in the newest version.
+    pub ledger_out: Word,
+}
+
 /// A command, with its options.
 #[derive(Debug, Drop)]
 pub enum Request {
     Apply(ApplyRequest),
     Show(ShowRequest),
     Vet(VetRequest),
+    Migrate(MigrateRequest),
 }

@@ -1,10 +1,12 @@
 //! Sets that are applied to ledgers, and reports.
 
-ghost use Rattle.std.specs.Prelude.{IfOk, IsTrue, ◌≡◌, length};
+ghost use Rattle.std.specs.Prelude.{All, IfOk, IsTrue, ◌≡◌, length};
 ghost use Rattle.ledger_spec.specs.LedgerFile.{are_settings, has_next};
 ghost use Rattle.tx_results.specs.Results.{result_set_format};
 ghost use Rattle.invoke_types.specs.Success.{success_format};
 ghost use Rattle.xdr_spec.specs.Format.{optional};
+ghost use Rattle.tx_xdr.specs.SetBounds.{today};
+ghost use Rattle.tx_xdr.specs.Set.{set_format};
 
 use crate::errors::{made, spelled};
 use crate::hashes::hex_line;
@@ -15,24 +17,64 @@ use ledger_file::{Ledger, LedgerErr, read_ledger};
 use std::alloc::Global;
 use std::fmt::Write;
 use tx_results::{ResultSet, write_report, write_results};
-use tx_xdr::read_set_today;
+use tx_xdr::{TxSet, read_set_today};
 use value_xdr::decode;
+use xdr_core::NoMemory;
 
-/// LEDGER SET CLOSE-TIME: the code of each result as a word in hex digits, and the last ledger in which each entry of the
-/// new ledger is live.
-pub fn apply(alloc: Global, fragments: &Fragments, rest: &str) -> Result<String, CaseErr> {
-    let (ledger, rest) = first_word(rest);
-    let (set, close_time) = first_word(rest);
-    let ledger = fragments.bytes(alloc, ledger)?;
-    let set = fragments.bytes(alloc, set)?;
-    let applied = applied(alloc, &ledger, &set, number(close_time)?)?;
-    applied_line(alloc, &applied)
+/// What a row shows of an applied set.
+#[derive(Clone, Copy)]
+enum Shown {
+    /// The code of each result as a word in hex digits, and the last ledger in which each entry of the new ledger is live.
+    Lives,
+    /// The report's bytes.
+    Report,
 }
 
-fn applied(alloc: Global, ledger: &[u8], set: &[u8], close_time: u64) -> Result<Applied, CaseErr> {
-    let set = spelled(read_set_today(alloc, set), "a set that runs")?;
+/// LEDGER SET CLOSE-TIME: the codes of the results, and the lives of the new ledger's entries.
+pub fn apply(alloc: Global, fragments: &Fragments, rest: &str) -> Result<String, CaseErr> {
+    applied(alloc, fragments, rest, Shown::Lives)
+}
+
+/// LEDGER SET CLOSE-TIME: the report's bytes.
+pub fn applied_report(alloc: Global, fragments: &Fragments, rest: &str) -> Result<String, CaseErr> {
+    applied(alloc, fragments, rest, Shown::Report)
+}
+
+fn applied(
+    alloc: Global,
+    fragments: &Fragments,
+    rest: &str,
+    shown: Shown,
+) -> Result<String, CaseErr> {
+    let (ledger, rest) = first_word(rest);
+    let (set, close_time) = first_word(rest);
+    let close_time = number(close_time)?;
+    let ledger = fragments.bytes(alloc, ledger)?;
+    let set = read_set_today(alloc, &fragments.bytes(alloc, set)?);
+    let set = spelled(set, "a set that runs")?;
+    applied_line(alloc, &ledger, &set, close_time, shown)
+}
+
+fn applied_line(
+    alloc: Global,
+    ledger: &[u8],
+    set: &TxSet,
+    close_time: u64,
+    shown: Shown,
+) -> Result<String, CaseErr>
+    requires { (set_format today).fits set.now }
+{
     let ledger = ledger_that_goes_on(alloc, ledger)?;
-    made(apply_set(alloc, ledger, &set, close_time))
+    match apply_set(alloc, ledger, set, close_time) {
+        Ok(applied) => match shown {
+            Shown::Lives => line_of(alloc, &applied),
+            Shown::Report => {
+                let successes = applied.successes.as_slice();
+                report_line(alloc, &applied.results, successes)
+            }
+        },
+        Err(NoMemory) => Err(CaseErr::NoMemory),
+    }
 }
 
 fn ledger_that_goes_on(alloc: Global, bytes: &[u8]) -> Result<Ledger, CaseErr>
@@ -46,15 +88,15 @@ fn ledger_that_goes_on(alloc: Global, bytes: &[u8]) -> Result<Ledger, CaseErr>
     }
 }
 
-fn applied_line(alloc: Global, applied: &Applied) -> Result<String, CaseErr> {
+fn line_of(alloc: Global, applied: &Applied) -> Result<String, CaseErr> {
     let mut line = String::from_str(alloc, "codes")?;
     for pair in applied.results.pairs.as_slice() {
         let code = pair.result.outcome.code().number();
         write!(line, " {code:x}")?;
     }
     line.push_str(", lives")?;
-    for slot in applied.ledger.entries.as_slice() {
-        let live_until = slot.kept.live_until;
+    for (_key, stored) in applied.ledger.entries.iter() {
+        let live_until = stored.kept.live_until;
         write!(line, " {live_until}")?;
     }
     line.push('\n')?;
@@ -64,21 +106,33 @@ fn applied_line(alloc: Global, applied: &Applied) -> Result<String, CaseErr> {
 /// RESULTS SUCCESS: the report of a set of one result. SUCCESS is a success preimage, or nothing.
 pub fn report(alloc: Global, fragments: &Fragments, rest: &str) -> Result<String, CaseErr> {
     let (results, success) = first_word(rest);
+    let success = fragments.bytes(alloc, success)?;
     let results = decode::<ResultSet>(alloc, &fragments.bytes(alloc, results)?);
     let results = spelled(results, "results")?;
-    if results.pairs.as_slice().len() != 1 {
-        return Err(CaseErr::Lacks("one result"));
-    }
-    let success = fragments.bytes(alloc, success)?;
     report_of_one(alloc, &results, &success)
 }
 
 fn report_of_one(alloc: Global, results: &ResultSet, success: &[u8]) -> Result<String, CaseErr>
+    requires { result_set_format.fits results.now }
+{
+    if results.pairs.as_slice().len() != 1 {
+        return Err(CaseErr::Lacks("one result"));
+    }
+    let success = success_of(alloc, success)?;
+    report_line(alloc, results, &[success])
+}
+
+fn report_line(
+    alloc: Global,
+    results: &ResultSet,
+    successes: &[Option<SuccessPreimage>],
+) -> Result<String, CaseErr>
     requires results { result_set_format.fits results.now }
-    requires one { length results.now.pairs ≡ 1 }
+    requires successes { All (λ success. (optional success_format).fits success) successes.now }
+    requires each { length successes.now ≡ length results.now.pairs }
 {
     let alone = made(write_results(alloc, results))?;
-    let report = made(write_report(alloc, results, &[success_of(alloc, success)?]))?;
+    let report = made(write_report(alloc, results, successes))?;
     if report.as_slice().starts_with(alone.as_slice()) {
         hex_line(alloc, report.as_slice())
     } else {

@@ -1,169 +1,175 @@
-//! Calls of the exports of modules.
+//! Calls of the exports of modules, up to the first event or on behind the answers of imports.
 
-ghost use Rattle.std.specs.Prelude.{◌≡◌};
+ghost use Rattle.std.specs.Prelude.{◌≡◌, ℕ, OnOk, IfOk};
+ghost use Rattle.std.specs.Bool.{OnTrue};
+ghost use Rattle.wasm_run.specs.declared.instance.CallPhase.TheVariants as phase;
+ghost use Rattle.wasm_spec.specs.Code.{BlockType};
 
-use crate::errors::not_begun;
-use crate::modules::{Judged, judge, valid};
-use budget_meter::{Budget, KindTerms, Limits, LinearCost, Terms, Used};
-use case_text::{CaseErr, Fragments, count, first_word, hex_numbers, number};
+use crate::events::{Shown, budget_of, push_event};
+use budget_meter::Budget;
+use case_text::{CaseErr, count, first_word, hex_number, hex_numbers, number};
 use std::alloc::Global;
-use std::fmt::Write;
 use wasm_check::ValidModule;
 use wasm_run::{Event, Instance, StartErr};
-use wasm_spec::TrapKind;
 
-// A function that owns a module or an instance lends it as its last act, since each way out of such a function is dear to
-// prove.
-
-/// MODULE LIMIT EXPORT ARG..: the call's first event.
-pub fn call(alloc: Global, fragments: &Fragments, rest: &str) -> Result<String, CaseErr> {
-    let (module, rest) = first_word(rest);
-    let judged = judge(alloc, &fragments.bytes(alloc, module)?)?;
-    call_line(alloc, &judged, rest)
-}
-
-fn call_line(alloc: Global, judged: &Judged, rest: &str) -> Result<String, CaseErr> {
-    let (event, _) = called(alloc, valid(judged)?, rest)?;
-    let mut line = String::new(alloc);
-    push_event(&mut line, &event)?;
-    line.push('\n')?;
-    Ok(line)
-}
-
-/// MODULE LIMIT EXPORT ARG..: the call's first event, and what the call spent up to it.
-pub fn sums(alloc: Global, fragments: &Fragments, rest: &str) -> Result<String, CaseErr> {
-    let (module, rest) = first_word(rest);
-    let judged = judge(alloc, &fragments.bytes(alloc, module)?)?;
-    sums_line(alloc, &judged, rest)
-}
-
-fn sums_line(alloc: Global, judged: &Judged, rest: &str) -> Result<String, CaseErr> {
-    let (event, used) = called(alloc, valid(judged)?, rest)?;
-    let mut line = String::new(alloc);
-    push_event_and_sums(&mut line, &event, used)?;
-    Ok(line)
-}
-
-/// LIMIT EXPORT ARG..: the call's first event, and what the call spent up to it.
-fn called(alloc: Global, module: &ValidModule, rest: &str) -> Result<(Event, Used), CaseErr> {
-    let (limit, call) = first_word(rest);
-    let (export, words) = first_word(call);
-    let mut budget = budget_of(number(limit)?);
-    let args = hex_numbers(alloc, words)?;
-    let event = first_event(alloc, module, export, &args, &mut budget)?;
-    Ok((event, budget.spent()))
-}
-
-fn first_event(
+/// `call` and `sums` LIMIT EXPORT ARG.., `begin` EXPORT COUNT, or `hosted` EXPORT ARG.. | LIMIT | ROUND | ROUND ..
+pub fn outcome_of(
     alloc: Global,
     module: &ValidModule,
-    export: &str,
-    args: &[u64],
-    budget: &mut Budget,
-) -> Result<Event, CaseErr> {
-    let mut instance = Instance::new(alloc, module, export.as_bytes(), args.len()).map_err(
-        not_begun,
-    )?;
-    instance.start(args);
-    Ok(instance.step_to(budget)?)
+    kind: &str,
+    rest: &str,
+) -> Result<String, CaseErr> {
+    match kind {
+        "begin" => beginning(alloc, module, rest),
+        "hosted" => {
+            let (call, rest) = rest.split_once(" | ").ok_or(CaseErr::Lacks("a budget"))?;
+            let (limit, rounds) = rest.split_once(" | ").unwrap_or((rest, ""));
+            called(alloc, module, call, number(limit)?, Shown::WithSums, rounds)
+        }
+        "call" => {
+            let (limit, call) = first_word(rest);
+            called(alloc, module, call, number(limit)?, Shown::Alone, "")
+        }
+        _ => {
+            let (limit, call) = first_word(rest);
+            called(alloc, module, call, number(limit)?, Shown::WithSums, "")
+        }
+    }
 }
 
-/// MODULE EXPORT COUNT: whether the export may be called with so many arguments.
-pub fn begin(alloc: Global, fragments: &Fragments, rest: &str) -> Result<String, CaseErr> {
-    let (module, rest) = first_word(rest);
-    let judged = judge(alloc, &fragments.bytes(alloc, module)?)?;
-    begin_line(alloc, &judged, rest)
-}
-
-fn begin_line(alloc: Global, judged: &Judged, rest: &str) -> Result<String, CaseErr> {
+/// EXPORT COUNT: whether the export may be called with so many arguments.
+fn beginning(alloc: Global, module: &ValidModule, rest: &str) -> Result<String, CaseErr> {
     let (export, args) = first_word(rest);
-    let found = beginning(alloc, valid(judged)?, export, count(args)?)?;
+    let found = match Instance::new(alloc, module, export.as_bytes(), count(args)?) {
+        Ok(_) => "begins\n",
+        Err(StartErr::Missing) => "missing\n",
+        Err(StartErr::WrongArity) => "arity\n",
+        Err(StartErr::Segment) => "segment\n",
+        Err(StartErr::NoMemory) => return Err(CaseErr::NoMemory),
+    };
     Ok(String::from_str(alloc, found)?)
 }
 
-fn beginning(
+/// EXPORT ARG..: the events of a call.
+fn called(
     alloc: Global,
     module: &ValidModule,
+    call: &str,
+    limit: u64,
+    shown: Shown,
+    rounds: &str,
+) -> Result<String, CaseErr> {
+    let (export, words) = first_word(call);
+    let args = hex_numbers(alloc, words)?;
+    let mut instance = begun(alloc, module, export, args.len())?;
+    instance.start(&args);
+    events(alloc, &mut instance, limit, shown, rounds)
+}
+
+fn begun<'a>(
+    alloc: Global,
+    module: &'a ValidModule,
     export: &str,
     args: usize,
-) -> Result<&'static str, CaseErr> {
-    match Instance::new(alloc, module, export.as_bytes(), args) {
-        Ok(_) => Ok("begins\n"),
-        Err(StartErr::Missing) => Ok("missing\n"),
-        Err(StartErr::WrongArity) => Ok("arity\n"),
-        Err(StartErr::Segment) => Ok("segment\n"),
-        Err(StartErr::NoMemory) => Err(CaseErr::NoMemory),
-    }
-}
-
-/// Appends the line of an event, and of what was spent up to it.
-pub fn push_event_and_sums(line: &mut String, event: &Event, used: Used) -> Result<(), CaseErr> {
-    push_event(line, event)?;
-    let (instructions, memory) = (used.instructions, used.memory);
-    writeln!(line, ", instructions {instructions} memory {memory}")?;
-    Ok(())
-}
-
-fn push_event(line: &mut String, event: &Event) -> Result<(), CaseErr> {
-    match event {
-        Event::Done(number) => write!(line, "done {number:x}")?,
-        Event::Trap(kind) => {
-            let name = trap_name(*kind);
-            write!(line, "trap {name}")?;
-        }
-        Event::Spent => line.push_str("spent")?,
-        Event::HostCall { import, args } => {
-            write!(line, "asks {import}")?;
-            for word in args.as_slice() {
-                write!(line, " {word:x}")?;
-            }
-        }
-    }
-    Ok(())
-}
-
-fn trap_name(kind: TrapKind) -> &'static str {
-    match kind {
-        TrapKind::Unreachable => "unreachable",
-        TrapKind::OutOfBounds => "bounds",
-        TrapKind::Arithmetic => "arithmetic",
-        TrapKind::IndirectType => "type",
-        TrapKind::EmptyElement => "empty",
-        TrapKind::CallDepth => "depth",
-    }
-}
-
-fn terms(constant: u32, linear: u32, memory_constant: u32, memory_linear: u32) -> KindTerms
-    ensures { result.instructions.constant ≡ constant }
+) -> Result<Instance<'a>, CaseErr>
+    ensures { IfOk result (λ i. (f : ℕ) × (i.phase ≡ phase.Fresh f args)) }
 {
-    KindTerms {
-        instructions: LinearCost { constant, linear },
-        memory: LinearCost {
-            constant: memory_constant,
-            linear: memory_linear,
-        },
+    match Instance::new(alloc, module, export.as_bytes(), args) {
+        Ok(instance) => Ok(instance),
+        Err(StartErr::NoMemory) => Err(CaseErr::NoMemory),
+        Err(_) => Err(CaseErr::Lacks("an export that can be called")),
     }
 }
 
-/// A budget of so many instructions. An instruction costs one, and a page of memory its bytes and 16.
-pub fn budget_of(instructions: u64) -> Budget {
-    let other = terms(10, 128, 0, 0);
-    let all = Terms {
-        wasm_insn_exec: terms(1, 0, 0, 0),
-        mem_alloc: terms(0, 0, 16, 128),
-        mem_cpy: other,
-        mem_cmp: other,
-        dispatch_host_function: other,
-        visit_object: other,
-        val_ser: other,
-        val_deser: other,
-        compute_sha256_hash: other,
-        vm_instantiation: other,
-        invoke_vm_function: other,
-    };
-    let limits = Limits {
-        instructions,
-        memory: 41_943_040,
-    };
-    Budget::new(limits, all)
+/// ROUND | ROUND ..: the event of each, and the first one under a budget of so many instructions.
+///
+/// A ROUND is an import's ANSWER and the LIMIT of the budget from then on, or `same`. Behind them stand OFFSET HEX if the host
+/// writes to the memory before it answers. The round `memory OFFSET COUNT` shows bytes of the memory.
+fn events(
+    alloc: Global,
+    instance: &mut Instance,
+    limit: u64,
+    shown: Shown,
+    rounds: &str,
+) -> Result<String, CaseErr>
+    requires { instance.old.phase ≡ phase.Ready }
+{
+    let mut budget = budget_of(limit);
+    let mut lines = String::new(alloc);
+    let mut is_asked = step(instance, &mut budget, shown, &mut lines)?;
+    for round in rounds.split(" | ") {
+        if let Some(range) = round.strip_prefix("memory ") {
+            push_memory(alloc, &mut lines, instance.memory(), range)?;
+        } else if is_asked && !round.is_empty() {
+            let (answer_word, rest) = first_word(round);
+            let (limit, write) = first_word(rest);
+            answer(alloc, instance, hex_number(answer_word)?, write)?;
+            if limit != "same" {
+                budget = budget_of(number(limit)?);
+            }
+            is_asked = step(instance, &mut budget, shown, &mut lines)?;
+        } else if !round.is_empty() {
+            return Err(CaseErr::Lacks("a call that asks an import"));
+        }
+    }
+    Ok(lines)
+}
+
+/// Goes on to the next event and appends its line. Returns whether an import is asked.
+fn step(
+    instance: &mut Instance,
+    budget: &mut Budget,
+    shown: Shown,
+    lines: &mut String,
+) -> Result<bool, CaseErr>
+    requires { instance.old.phase ≡ phase.Ready }
+    ensures { IfOk result (λ is_asked. OnTrue is_asked ((r : BlockType) × (instance.new.phase ≡ phase.Waiting r))) }
+{
+    let event = instance.step_to(budget)?;
+    let is_asked = matches!(event, Event::HostCall { .. });
+    push_event(lines, &event, budget.spent(), shown)?;
+    Ok(is_asked)
+}
+
+/// Gives an import's answer, after the host has written to the memory: OFFSET HEX, or nothing.
+fn answer(alloc: Global, instance: &mut Instance, answer: u64, write: &str) -> Result<(), CaseErr>
+    requires { (r : BlockType) × (instance.old.phase ≡ phase.Waiting r) }
+    ensures { OnOk result (instance.new.phase ≡ phase.Ready) }
+{
+    if !write.is_empty() {
+        write_at(alloc, instance.memory_mut(), write)?;
+    }
+    instance.give(answer);
+    Ok(())
+}
+
+/// OFFSET HEX: overwrites bytes of the memory.
+fn write_at(alloc: Global, memory: &mut [u8], write: &str) -> Result<(), CaseErr> {
+    let (offset, digits) = first_word(write);
+    let bytes = hex::decode(alloc, digits)?;
+    let start = count(offset)?;
+    let end = start.saturating_add(bytes.len());
+    let part = memory
+        .get_mut(start..end)
+        .ok_or(CaseErr::Lacks("so many bytes of memory"))?;
+    part.copy_from_slice(&bytes);
+    Ok(())
+}
+
+/// OFFSET COUNT: appends bytes of the memory.
+fn push_memory(
+    alloc: Global,
+    lines: &mut String,
+    memory: &[u8],
+    range: &str,
+) -> Result<(), CaseErr> {
+    let (offset, length) = first_word(range);
+    let start = count(offset)?;
+    let end = start.saturating_add(count(length)?);
+    let bytes = memory
+        .get(start..end)
+        .ok_or(CaseErr::Lacks("so many bytes of memory"))?;
+    lines.push_str(hex::encode(alloc, bytes)?.as_str())?;
+    lines.push('\n')?;
+    Ok(())
 }

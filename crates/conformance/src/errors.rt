@@ -3,7 +3,6 @@
 ghost use Rattle.std.specs.Prelude.{◌≡◌, IfOk, Ok};
 
 use case_text::CaseErr;
-use wasm_run::StartErr;
 use xdr_core::{NoMemory, ReadXdr};
 
 /// Returns what a library made, unless it ran out of memory.
@@ -24,13 +23,5 @@ pub fn spelled<T: Drop>(read: Result<T, ReadXdr>, what: &'static str) -> Result<
         Ok(value) => Ok(value),
         Err(ReadXdr::Bad(_)) => Err(CaseErr::Lacks(what)),
         Err(ReadXdr::NoMemory) => Err(CaseErr::NoMemory),
-    }
-}
-
-/// The error of a call that a case needs to begin.
-pub fn not_begun(error: StartErr) -> CaseErr {
-    match error {
-        StartErr::NoMemory => CaseErr::NoMemory,
-        _ => CaseErr::Lacks("an export that can be called"),
     }
 }

@@ -2,7 +2,7 @@
 
 ghost use denote.Param.Send.{IsSync};
 
-use crate::{applying, budgets, calls, hashes, hosted, ledgers, modules, orders, spellings, texts};
+use crate::{applying, budgets, hashes, imports, ledgers, modules, orders, spellings, texts};
 use case_text::{Case, CaseErr, Fragments, Judge};
 use std::alloc::Global;
 use std::rt::Runtime;
@@ -25,37 +25,23 @@ impl Judge for Kinds {
         requires sync { IsSync R.row }
     {
         let outcome = match case.kind {
-            "call" | "sums" | "begin" | "hosted" => webassembly_call(alloc, fragments, case),
-            "check" | "flaw" | "link" | "vet" => module_judgement(alloc, fragments, case),
+            "check" | "flaw" | "link" | "call" | "sums" | "begin" | "hosted" => {
+                modules::module_case(alloc, fragments, case)
+            }
+            "vet" => modules::vet_case(alloc, fragments, case.words),
             "xdr" => spellings::xdr(alloc, fragments, case.words),
             "rises" | "against" | "measure" => comparison(alloc, fragments, case),
-            "payload" | "contract-id" | "tx-hash" | "key-hash" | "key-of" => {
+            "payload" | "contract-id" | "tx-hash" | "envelope-hash" | "key-hash" | "key-of" => {
                 hash(alloc, fragments, case)
             }
+            "interface" => imports::interface(alloc),
+            "import" => imports::import(alloc, case.words),
             "charges" => budgets::charges(alloc, fragments, case.words),
             "base64" => texts::base64(alloc, fragments, case.words),
             "pieces" => texts::pieces(alloc, fragments, case.words),
             _ => ledger(alloc, fragments, case),
         };
         Ok(Some(outcome?))
-    }
-}
-
-fn webassembly_call(alloc: Global, fragments: &Fragments, case: Case) -> Result<String, CaseErr> {
-    match case.kind {
-        "call" => calls::call(alloc, fragments, case.words),
-        "sums" => calls::sums(alloc, fragments, case.words),
-        "begin" => calls::begin(alloc, fragments, case.words),
-        _ => hosted::hosted(alloc, fragments, case.words),
-    }
-}
-
-fn module_judgement(alloc: Global, fragments: &Fragments, case: Case) -> Result<String, CaseErr> {
-    match case.kind {
-        "check" => modules::check_case(alloc, fragments, case.words),
-        "flaw" => modules::flaw_case(alloc, fragments, case.words),
-        "link" => modules::link_case(alloc, fragments, case.words),
-        _ => modules::vet_case(alloc, fragments, case.words),
     }
 }
 
@@ -72,6 +58,7 @@ fn hash(alloc: Global, fragments: &Fragments, case: Case) -> Result<String, Case
         "payload" => hashes::payload(alloc, fragments, case.words),
         "contract-id" => hashes::id_of_contract(alloc, fragments, case.words),
         "tx-hash" => hashes::hash_of_transaction(alloc, fragments, case.words),
+        "envelope-hash" => hashes::hash_of_envelope(alloc, fragments, case.words),
         "key-hash" => hashes::hash_of_key(alloc, fragments, case.words),
         _ => hashes::key_of_entry(alloc, fragments, case.words),
     }
@@ -83,8 +70,11 @@ fn ledger(alloc: Global, fragments: &Fragments, case: Case) -> Result<String, Ca
         "followed" => ledgers::ledger(alloc, fragments, case.words, true),
         "life" => ledgers::life(alloc, fragments, case.words),
         "raised" => ledgers::raised(alloc, fragments, case.words),
+        "written" => ledgers::written(alloc, fragments, case.words),
+        "made" => ledgers::made_entry(alloc, fragments, case.words),
         "verdict" => ledgers::verdict(alloc, fragments, case.words),
         "apply" => applying::apply(alloc, fragments, case.words),
+        "applied-report" => applying::applied_report(alloc, fragments, case.words),
         "report" => applying::report(alloc, fragments, case.words),
         _ => Err(CaseErr::Lacks("a kind of case")),
     }

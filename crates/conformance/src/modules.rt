@@ -1,6 +1,7 @@
-//! Judgements of modules.
+//! Cases of modules: judgements and calls.
 
-use case_text::{CaseErr, Fragments, first_word};
+use crate::calls;
+use case_text::{Case, CaseErr, Fragments, first_word};
 use module_vet::{Flaw, VetErr, valid_line, vet};
 use std::alloc::Global;
 use wasm_check::{CheckErr, Unlinked, ValidModule, check, link};
@@ -8,15 +9,23 @@ use wasm_read::{ReadModErr, read_module};
 
 /// A module, or why the bytes are not a valid one.
 #[derive(Drop)]
-pub enum Judged {
+enum Judged {
     Valid(ValidModule),
     /// Ill typed: the function, or none if a rule outside function bodies is broken.
     Ill(Option<u32>),
     NotAModule,
 }
 
+/// A kind, MODULE and the kind's other words.
+// A function that owns a module lends it as its last act, since each way out of such a function is dear to prove.
+pub fn module_case(alloc: Global, fragments: &Fragments, case: Case) -> Result<String, CaseErr> {
+    let (module, rest) = first_word(case.words);
+    let judged = judge(alloc, &fragments.bytes(alloc, module)?)?;
+    outcome_of(alloc, &judged, case.kind, rest)
+}
+
 /// Reads and checks a module.
-pub fn judge(alloc: Global, bytes: &[u8]) -> Result<Judged, CaseErr> {
+fn judge(alloc: Global, bytes: &[u8]) -> Result<Judged, CaseErr> {
     let module = match read_module(alloc, bytes) {
         Ok(module) => module,
         Err(ReadModErr::NotAModule) => return Ok(Judged::NotAModule),
@@ -29,42 +38,20 @@ pub fn judge(alloc: Global, bytes: &[u8]) -> Result<Judged, CaseErr> {
     }
 }
 
-/// The module, if it is valid.
-pub fn valid(judged: &Judged) -> Result<&ValidModule, CaseErr> {
-    match judged {
-        Judged::Valid(module) => Ok(module),
+fn outcome_of(alloc: Global, judged: &Judged, kind: &str, rest: &str) -> Result<String, CaseErr> {
+    match (kind, judged) {
+        ("check", Judged::Ill(_)) => Ok(String::from_str(alloc, "ill typed\n")?),
+        ("check" | "flaw", Judged::Valid(_)) => Ok(String::from_str(alloc, "valid\n")?),
+        ("check" | "flaw", Judged::NotAModule) => flaw_line(alloc, Flaw::NotAModule),
+        ("flaw", Judged::Ill(func)) => flaw_line(alloc, Flaw::Ill { func: *func }),
+        ("link", Judged::Valid(module)) => link_line(alloc, module),
+        (_, Judged::Valid(module)) => calls::outcome_of(alloc, module, kind, rest),
         _ => Err(CaseErr::Lacks("a valid module")),
     }
 }
 
-/// MODULE: valid, ill typed or no module.
-pub fn check_case(alloc: Global, fragments: &Fragments, rest: &str) -> Result<String, CaseErr> {
-    let found = match judge(alloc, &fragments.bytes(alloc, rest)?)? {
-        Judged::Valid(_) => "valid\n",
-        Judged::Ill(_) => "ill typed\n",
-        Judged::NotAModule => "not a module\n",
-    };
-    Ok(String::from_str(alloc, found)?)
-}
-
-/// MODULE: the same, and which function is ill typed.
-pub fn flaw_case(alloc: Global, fragments: &Fragments, rest: &str) -> Result<String, CaseErr> {
-    let flaw = match judge(alloc, &fragments.bytes(alloc, rest)?)? {
-        Judged::Valid(_) => return Ok(String::from_str(alloc, "valid\n")?),
-        Judged::Ill(func) => Flaw::Ill { func },
-        Judged::NotAModule => Flaw::NotAModule,
-    };
-    flaw_line(alloc, flaw)
-}
-
-/// MODULE: whether the host has each import of a valid module, or the first that it does not have.
-pub fn link_case(alloc: Global, fragments: &Fragments, rest: &str) -> Result<String, CaseErr> {
-    let judged = judge(alloc, &fragments.bytes(alloc, rest)?)?;
-    link_line(alloc, &judged)
-}
-
-fn link_line(alloc: Global, judged: &Judged) -> Result<String, CaseErr> {
-    match link(valid(judged)?) {
+fn link_line(alloc: Global, module: &ValidModule) -> Result<String, CaseErr> {
+    match link(module) {
         Ok(()) => Ok(String::from_str(alloc, "linked\n")?),
         Err(Unlinked { import }) => flaw_line(alloc, Flaw::Unlinked { import }),
     }

@@ -1,76 +1,40 @@
 //! The order of values and of keys, and the size and the depth of values.
 
 ghost use Rattle.ledger_types.specs.Key.{key_format};
+ghost use Rattle.value_types.specs.Formats.{scval_format};
 
 use crate::errors::{made, spelled};
 use case_text::{CaseErr, Fragments, first_word};
-use key_order::compare_key;
-use ledger_types::LedgerKey;
+use ledger_types::{LedgerKey, cmp_keys};
 use std::alloc::Global;
 use std::cmp::Ordering;
 use value_types::{ScVal, cmp_val, depth};
 use value_xdr::{decode, val_size, value_from_bytes, value_to_bytes};
 
-/// TYPE BYTES BYTES ..: whether each value comes before all those that stand behind it, or the first two of which that
-/// is not so.
+/// TYPE BYTES BYTES ..: whether each value comes before all those behind it, or the first two for which that does not hold.
 pub fn rises(alloc: Global, fragments: &Fragments, rest: &str) -> Result<String, CaseErr> {
     let (name, rest) = first_word(rest);
     let mut spellings = Vec::new(alloc);
     for word in rest.split(' ') {
         spellings.push(fragments.bytes(alloc, word)?)?;
     }
-    match name {
-        "value" => values_rise(alloc, &spellings),
-        "key" => keys_rise(alloc, &spellings),
-        _ => Err(CaseErr::Lacks("a type that has an order")),
-    }
+    rising(alloc, name, &spellings)
 }
 
-fn values_rise(alloc: Global, spellings: &[Vec<u8>]) -> Result<String, CaseErr> {
-    let mut values = Vec::new(alloc);
-    for bytes in spellings {
-        values.push(spelled(decode::<ScVal>(alloc, bytes), "a value")?)?;
-    }
-    rising_values(alloc, &values)
-}
-
-fn rising_values(alloc: Global, values: &[ScVal]) -> Result<String, CaseErr> {
-    for (i, value) in values.iter().enumerate() {
-        for (j, other) in values.iter().enumerate() {
-            let order = cmp_val(value, other);
+fn rising(alloc: Global, name: &str, spellings: &[Vec<u8>]) -> Result<String, CaseErr> {
+    for (i, bytes) in spellings.iter().enumerate() {
+        for (j, other) in spellings.iter().enumerate() {
+            let order = match name {
+                "value" => order_of_values(alloc, bytes, other)?,
+                "key" => order_of_keys(alloc, bytes, other)?,
+                _ => return Err(CaseErr::Lacks("a type that has an order")),
+            };
             if order != i.cmp(&j) {
                 return order_line(alloc, i, j, order);
             }
         }
     }
     Ok(String::from_str(alloc, "rises\n")?)
-}
-
-fn keys_rise(alloc: Global, spellings: &[Vec<u8>]) -> Result<String, CaseErr> {
-    for (i, bytes) in spellings.iter().enumerate() {
-        let key = spelled(decode::<LedgerKey>(alloc, bytes), "a key")?;
-        if let Some((j, order)) = first_out_of_order(&key, i, spellings) {
-            return order_line(alloc, i, j, order);
-        }
-    }
-    Ok(String::from_str(alloc, "rises\n")?)
-}
-
-/// Compares a key with the bytes of all keys, of which its own have this index.
-fn first_out_of_order(
-    key: &LedgerKey,
-    index: usize,
-    spellings: &[Vec<u8>],
-) -> Option<(usize, Ordering)>
-    requires { key_format.fits key.now }
-{
-    for (i, other) in spellings.iter().enumerate() {
-        let order = compare_key(key, other);
-        if order != index.cmp(&i) {
-            return Some((i, order));
-        }
-    }
-    None
 }
 
 fn order_line(alloc: Global, i: usize, j: usize, order: Ordering) -> Result<String, CaseErr> {
@@ -86,15 +50,34 @@ fn name_of(order: Ordering) -> &'static str {
     }
 }
 
-/// KEY BYTES: how the key's spelling compares with the bytes, which need not spell a key.
+fn order_of_values(alloc: Global, bytes: &[u8], other: &[u8]) -> Result<Ordering, CaseErr> {
+    let value = spelled(decode::<ScVal>(alloc, bytes), "a value")?;
+    order_of_value(alloc, &value, other)
+}
+
+fn order_of_value(alloc: Global, value: &ScVal, other: &[u8]) -> Result<Ordering, CaseErr> {
+    let other = spelled(decode::<ScVal>(alloc, other), "a value")?;
+    Ok(cmp_val(value, &other))
+}
+
+fn order_of_keys(alloc: Global, bytes: &[u8], other: &[u8]) -> Result<Ordering, CaseErr> {
+    let key = spelled(decode::<LedgerKey>(alloc, bytes), "a key")?;
+    order_of_key(alloc, &key, other)
+}
+
+fn order_of_key(alloc: Global, key: &LedgerKey, other: &[u8]) -> Result<Ordering, CaseErr>
+    requires { key_format.fits key.now }
+{
+    let other = spelled(decode::<LedgerKey>(alloc, other), "a key")?;
+    Ok(cmp_keys(key, &other))
+}
+
+/// KEY KEY: how the first compares with the second.
 pub fn against(alloc: Global, fragments: &Fragments, rest: &str) -> Result<String, CaseErr> {
     let (key, other) = first_word(rest);
-    let other = fragments.bytes(alloc, other)?;
-    let key = spelled(
-        decode::<LedgerKey>(alloc, &fragments.bytes(alloc, key)?),
-        "a key",
-    )?;
-    let name = name_of(compare_key(&key, &other));
+    let key = fragments.bytes(alloc, key)?;
+    let order = order_of_keys(alloc, &key, &fragments.bytes(alloc, other)?)?;
+    let name = name_of(order);
     Ok(format!(in alloc; "{name}\n")?)
 }
 
@@ -102,9 +85,15 @@ pub fn against(alloc: Global, fragments: &Fragments, rest: &str) -> Result<Strin
 pub fn measure(alloc: Global, fragments: &Fragments, rest: &str) -> Result<String, CaseErr> {
     let bytes = fragments.bytes(alloc, rest)?;
     let value = spelled(value_from_bytes(alloc, &bytes), "a value")?;
-    if made(value_to_bytes(alloc, &value))?.as_slice() != bytes.as_slice() {
+    measures(alloc, &bytes, &value)
+}
+
+fn measures(alloc: Global, bytes: &[u8], value: &ScVal) -> Result<String, CaseErr>
+    requires { scval_format.fits value.now }
+{
+    if made(value_to_bytes(alloc, value))?.as_slice() != bytes {
         return Ok(String::from_str(alloc, "written otherwise\n")?);
     }
-    let (size, depth) = (val_size(&value), depth(&value));
+    let (size, depth) = (val_size(value), depth(value));
     Ok(format!(in alloc; "size {size} depth {depth}\n")?)
 }

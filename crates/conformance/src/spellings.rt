@@ -36,7 +36,7 @@ pub fn xdr(alloc: Global, fragments: &Fragments, rest: &str) -> Result<String, C
 /// Reads a value and writes it.
 pub fn rewritten<T: Xdr + Drop>(alloc: Global, bytes: &[u8]) -> Result<Spelling, CaseErr> {
     match decode::<T>(alloc, bytes) {
-        Ok(value) => written(bytes, made(encode(alloc, &value))?, value.size()),
+        Ok(value) => written(alloc, bytes, &value),
         Err(error) => refused(error),
     }
 }
@@ -46,13 +46,17 @@ pub fn cloned<T: Xdr + Drop + Clone>(alloc: Global, bytes: &[u8]) -> Result<Spel
     requires same { (v w : T) → T.is_clone v w → w ≡ v }
 {
     match decode::<T>(alloc, bytes) {
-        Ok(value) => written(bytes, made(encode(alloc, &value.clone()?))?, value.size()),
+        Ok(value) => written(alloc, bytes, &value.clone()?),
         Err(error) => refused(error),
     }
 }
 
-/// Compares the bytes that were read with those that were written, and their number with the value's size.
-pub fn written(bytes: &[u8], again: Vec<u8>, size: u64) -> Result<Spelling, CaseErr> {
+/// Writes the value that bytes spell, and compares the bytes with those, and their number with the value's size.
+pub fn written<T: Xdr>(alloc: Global, bytes: &[u8], value: &T) -> Result<Spelling, CaseErr>
+    requires { T.format.fits value.now }
+{
+    let again = made(encode(alloc, value))?;
+    let size = value.size();
     if again.as_slice() == bytes && size == bytes.len() as u64 {
         Ok(Spelling::Same(size))
     } else {

@@ -1,6 +1,5 @@
 //! The types that a case can name.
 
-use crate::errors::made;
 use crate::spellings::{Spelling, cloned, refused, rewritten, written};
 use auth_types::AuthEntry;
 use case_text::CaseErr;
@@ -15,7 +14,7 @@ use tx_xdr::{
     read_envelope, read_set, read_set_today,
 };
 use value_types::{Items, ScVal, ScValType};
-use value_xdr::{Xdr, encode};
+use value_xdr::Xdr;
 
 /// The spelling of a type by its name.
 pub fn spelling_of(alloc: Global, name: &str, bytes: &[u8]) -> Result<Spelling, CaseErr> {
@@ -49,21 +48,21 @@ fn spelling_of_part(alloc: Global, name: &str, bytes: &[u8]) -> Result<Spelling,
     match name {
         "account" => cloned::<MuxedAccount>(alloc, bytes),
         "ledger-bounds" => cloned::<LedgerBounds>(alloc, bytes),
-        "memo" => rewritten::<Memo>(alloc, bytes),
-        "signer" => rewritten::<SignerKey>(alloc, bytes),
+        "memo" => cloned::<Memo>(alloc, bytes),
+        "signer" => cloned::<SignerKey>(alloc, bytes),
         "signers" => rewritten::<Items<SignerKey, 2>>(alloc, bytes),
-        "signature" => rewritten::<DecoratedSignature>(alloc, bytes),
-        "preconditions" => rewritten::<Preconditions>(alloc, bytes),
-        "body" => rewritten::<OperationBody>(alloc, bytes),
-        "operation" => rewritten::<Operation>(alloc, bytes),
-        "transaction" => rewritten::<Transaction>(alloc, bytes),
+        "signature" => cloned::<DecoratedSignature>(alloc, bytes),
+        "preconditions" => cloned::<Preconditions>(alloc, bytes),
+        "body" => cloned::<OperationBody>(alloc, bytes),
+        "operation" => cloned::<Operation>(alloc, bytes),
+        "transaction" => cloned::<Transaction>(alloc, bytes),
         _ => spelling_of_set(alloc, name, bytes),
     }
 }
 
 fn spelling_of_set(alloc: Global, name: &str, bytes: &[u8]) -> Result<Spelling, CaseErr> {
     match name {
-        "envelope" => rewritten::<Envelope>(alloc, bytes),
+        "envelope" => cloned::<Envelope>(alloc, bytes),
         "envelope-file" => envelope_file(alloc, bytes),
         "cluster" => rewritten::<Cluster>(alloc, bytes),
         "stage" => rewritten::<Stage>(alloc, bytes),
@@ -78,21 +77,21 @@ fn spelling_of_set(alloc: Global, name: &str, bytes: &[u8]) -> Result<Spelling, 
 
 fn verdicts(alloc: Global, bytes: &[u8]) -> Result<Spelling, CaseErr> {
     match read_verdicts(alloc, bytes) {
-        Ok(value) => written(bytes, made(encode(alloc, &value))?, value.size()),
+        Ok(value) => written(alloc, bytes, &value),
         Err(error) => refused(error),
     }
 }
 
 fn envelope_file(alloc: Global, bytes: &[u8]) -> Result<Spelling, CaseErr> {
     match read_envelope(alloc, bytes) {
-        Ok(value) => written(bytes, made(encode(alloc, &value))?, value.size()),
+        Ok(value) => written(alloc, bytes, &value),
         Err(error) => refused(error),
     }
 }
 
 fn set_file(alloc: Global, bytes: &[u8]) -> Result<Spelling, CaseErr> {
     match read_set(alloc, bytes) {
-        Ok(value) => written(bytes, made(encode(alloc, &value))?, value.size()),
+        Ok(value) => written(alloc, bytes, &value),
         Err(error) => refused(error),
     }
 }

@@ -1,5 +1,6 @@
 pub mod Contents
 pub mod Counts
+pub mod LastFile
 pub mod MemFiles
 pub mod MemSay
 pub mod Stored

@@ -1,5 +1,8 @@
 //! Errors of calls at the edge.
 
+ghost use Rattle.std.specs.Prelude.{◌≡◌};
+ghost use Rattle.edge_io.specs.declared.failed.EdgeErr.TheVariants.{Failed as CallFailed};
+
 use thiserror::Error;
 
 /// The error of a call that failed.
@@ -14,6 +17,14 @@ pub enum EdgeErr {
     Failed,
     #[error("out of memory")]
     NoMemory,
+}
+
+impl From<Failed> for EdgeErr {
+    ghost from_gives = { λ _ error. error ≡ CallFailed };
+
+    fn from(_: Failed) -> EdgeErr {
+        EdgeErr::Failed
+    }
 }
 
 /// The error of reading a whole file.

@@ -1,30 +1,24 @@
 //! The operating system's files and standard output. No contract says what they hold.
 
-ghost use Rattle.std.specs.Prelude.{◌≡◌, ◌<◌, ℕ, ◌≤◌, length, slice_index, None, IfOk, IsOk, OnOk, OnErr};
+ghost use Rattle.std.specs.Prelude.{◌≡◌, ◌<◌, ℕ, ◌≤◌, length, slice_index, vec_capacity, None, Ok, IfOk, IsOk, IsSome, OnOk, OnErr};
+ghost use Rattle.std.specs.Io.KnownBytes.{Appends};
 ghost use Rattle.edge_io.specs.Contents.{IsThere, Reads, Stores};
 ghost use Rattle.edge_io.specs.Counts.{ChangesOnlyCount, OnFailed, RaisesOnly, Rose, raised};
 ghost use Rattle.edge_io.specs.Text.{Says};
 
+use crate::last_file::{Handle, LastFile};
 use crate::turns::raise;
 use crate::{EdgeErr, Failed, Files, Say, Word};
-use std::io::{Read, Seek, SeekFrom, Write};
+use std::alloc::{AllocError, Global};
+use std::io::Write;
 use std::{fs, io, rt};
-
-/// The open file that was read last, so that a file is opened once for all of its pieces.
-#[derive(Drop)]
-struct OpenFile<R: rt::Files> {
-    name: Word,
-    file: R::File,
-    // The offset of the next read.
-    offset: u64,
-}
 
 /// The operating system's files.
 #[derive(Drop)]
 pub struct RealFiles<R: rt::Files + Drop> {
     rt: R,
     counts: [u64; 8],
-    open: Option<OpenFile<R>>,
+    last: LastFile<R::File>,
 }
 
 /// Standard output.
@@ -35,42 +29,90 @@ pub struct StdSay<R: Print + Drop> {
 }
 
 impl<R: rt::Files + Drop> RealFiles<R> {
-    /// Files of which no call has failed and none is open.
-    pub fn new(rt: R) -> RealFiles<R>
-        ensures { (file : ℕ) → ⟦<RealFiles<R> as Files>⟧.faults result file ≡ 0 }
+    ghost use Rattle.edge_io.specs.LastFile.{kept_of, IsBehind};
+
+    /// Files without failed calls and without an open file. `longest` is the length of the longest file name in bytes. This call
+    /// takes the room for it, and no later call takes memory: a lack of memory is never a failed call. A file with a longer name is
+    /// not kept open, so each of its pieces opens it again.
+    pub fn new(rt: R, alloc: Global, longest: usize) -> Result<RealFiles<R>, AllocError>
+        ensures { IfOk result (λ files. (file : ℕ) → ⟦<RealFiles<R> as Files>⟧.faults files file ≡ 0) }
     {
-        RealFiles {
+        Ok(RealFiles {
             rt,
             counts: [0; 8],
-            open: None,
-        }
+            last: LastFile::new(alloc, longest)?,
+        })
     }
 
     /// Reads from an offset.
     fn read_at(&mut self, name: &Word, at: u64, buf: &mut [u8]) -> io::Result<usize>
         ensures within { IfOk result (λ n. n ≤ length buf.new) }
+        ensures behind { IfOk result (λ n. IsBehind (kept_of self.new.last) name.now at n) }
+        ensures stays { OnOk result (length name.now ≤ vec_capacity self.old.last.name → IsSome (kept_of self.new.last)) }
         ensures counts { self.new.counts ≡ self.old.counts }
     {
-        let mut open = match self.open.take() {
-            Some(open) if open.name.as_str() == name.as_str() => open,
-            _ => OpenFile {
-                name: name.clone()?,
-                file: fs::open(&self.rt, name.as_str())?,
-                offset: 0,
-            },
+        let mut handle = match self.last.take(name) {
+            Some(handle) => handle,
+            None => Handle::new(fs::open(&self.rt, name.as_str())?),
         };
-        if open.offset != at {
-            open.offset = open.file.seek(SeekFrom::Start(at))?;
-        }
-        let n = open.file.read(buf)?;
-        open.offset = open.offset.saturating_add(n as u64);
-        self.open = Some(open);
+        let n = handle.read_at(at, buf)?;
+        self.last.keep(name, handle);
         Ok(n)
+    }
+
+    /// Creates or empties a file, and writes its bytes. Closes the open file first.
+    fn write_file(&mut self, name: &Word, bytes: &[u8]) -> io::Result<()>
+        ensures none { kept_of self.new.last ≡ None }
+        ensures counts { self.new.counts ≡ self.old.counts }
+    {
+        self.last.close();
+        let mut file = fs::create(&self.rt, name.as_str())?;
+        write_whole(&mut file, bytes)
+    }
+}
+
+/// Writes all of the bytes.
+fn write_whole<W: Write>(out: &mut W, bytes: &[u8]) -> io::Result<()>
+    ensures { OnOk result (Appends (W.contents out.old) (W.contents out.new) bytes.now) }
+{
+    out.write_all(bytes)
+}
+
+/// The outcome of a call for a file option. Counts a failure.
+fn counted<T>(counts: &mut [u64; 8], file: u8, outcome: io::Result<T>) -> Result<T, Failed>
+    requires { file < 8 }
+    ensures ok { IfOk result (λ x. outcome ≡ Ok x) }
+    ensures raised { OnErr result (RaisesOnly file (λ k. slice_index counts.old k) (λ k. slice_index counts.new k)) }
+    ensures only { ChangesOnlyCount file (λ k. slice_index counts.old k) (λ k. slice_index counts.new k) }
+    ensures kept { OnOk result (counts.new ≡ counts.old) }
+{
+    match outcome {
+        Ok(value) => Ok(value),
+        Err(_) => {
+            raise(counts, file);
+            Err(Failed)
+        }
+    }
+}
+
+/// Prints all of the bytes. Counts a failure.
+fn say_to<W: Write>(out: &mut W, count: &mut u64, bytes: &[u8]) -> Result<(), Failed>
+    ensures said { OnOk result (Appends (W.contents out.old) (W.contents out.new) bytes.now) }
+    ensures raised { OnErr result (count.new ≡ raised count.old) }
+    ensures kept { OnOk result (count.new ≡ count.old) }
+    ensures counts { count.old ≤ count.new }
+{
+    match write_whole(out, bytes) {
+        Ok(()) => Ok(()),
+        Err(_) => {
+            *count = count.saturating_add(1);
+            Err(Failed)
+        }
     }
 }
 
 impl<R: Print + Drop> StdSay<R> {
-    /// An output of which no call has failed.
+    /// An output without failed calls.
     pub fn new(rt: R) -> StdSay<R>
         ensures { ⟦<StdSay<R> as Say>⟧.faults result ≡ 0 }
     {
@@ -79,6 +121,8 @@ impl<R: Print + Drop> StdSay<R> {
 }
 
 impl<R: rt::Files + Drop> Files for RealFiles<R> {
+    ghost use Rattle.edge_io.specs.LastFile.{kept_of, IsBehind};
+
     ghost contents = { λ _. None };
 
     ghost faults = { λ f file. slice_index f.counts file };
@@ -104,17 +148,16 @@ impl<R: rt::Files + Drop> Files for RealFiles<R> {
         ensures cause { OnErr result (Rose (⟦<RealFiles<R> as Files>⟧.faults self.old file) (⟦<RealFiles<R> as Files>⟧.faults self.new file)) }
         ensures steady { ⊥ → IsThere None name.now → IsOk result × ⊥ × (⟦<RealFiles<R> as Files>⟧.faults self.new file ≡ ⟦<RealFiles<R> as Files>⟧.faults self.old file) }
 
+        // The file stays open if there is room for its name. Then it is that of the name, and its next read begins behind the piece.
+        ensures behind { IfOk result (λ n. IsBehind (kept_of self.new.last) name.now at n) }
+        ensures stays { OnOk result (length name.now ≤ vec_capacity self.old.last.name → IsSome (kept_of self.new.last)) }
+
         // The count rises by one exactly if the call fails.
         ensures raised { OnErr result (RaisesOnly file (⟦<RealFiles<R> as Files>⟧.faults self.old) (⟦<RealFiles<R> as Files>⟧.faults self.new)) }
         ensures kept { OnOk result ((k : ℕ) → ⟦<RealFiles<R> as Files>⟧.faults self.new k ≡ ⟦<RealFiles<R> as Files>⟧.faults self.old k) }
     {
-        match self.read_at(name, at, buf) {
-            Ok(n) => Ok(n),
-            Err(_) => {
-                raise(&mut self.counts, file);
-                Err(Failed)
-            }
-        }
+        let outcome = self.read_at(name, at, buf);
+        counted(&mut self.counts, file, outcome)
     }
 
     fn store(&mut self, file: u8, name: &Word, bytes: &[u8]) -> Result<(), EdgeErr>
@@ -126,18 +169,16 @@ impl<R: rt::Files + Drop> Files for RealFiles<R> {
         ensures cause { OnFailed result (Rose (⟦<RealFiles<R> as Files>⟧.faults self.old file) (⟦<RealFiles<R> as Files>⟧.faults self.new file)) }
         ensures steady { ⊥ → OnFailed result ⊥ × ⊥ × (⟦<RealFiles<R> as Files>⟧.faults self.new file ≡ ⟦<RealFiles<R> as Files>⟧.faults self.old file) }
 
+        // No file stays open.
+        ensures none { kept_of self.new.last ≡ None }
+
         // The count rises by one exactly if the call fails.
         ensures raised { OnErr result (RaisesOnly file (⟦<RealFiles<R> as Files>⟧.faults self.old) (⟦<RealFiles<R> as Files>⟧.faults self.new)) }
         ensures kept { OnOk result ((k : ℕ) → ⟦<RealFiles<R> as Files>⟧.faults self.new k ≡ ⟦<RealFiles<R> as Files>⟧.faults self.old k) }
     {
-        self.open = None;
-        match fs::write(&self.rt, name.as_str(), bytes) {
-            Ok(()) => Ok(()),
-            Err(_) => {
-                raise(&mut self.counts, file);
-                Err(EdgeErr::Failed)
-            }
-        }
+        let outcome = self.write_file(name, bytes);
+        counted(&mut self.counts, file, outcome)?;
+        Ok(())
     }
 }
 
@@ -167,12 +208,7 @@ impl<R: Print + Drop> Say for StdSay<R> {
         ensures raised { OnErr result (⟦<StdSay<R> as Say>⟧.faults self.new ≡ raised (⟦<StdSay<R> as Say>⟧.faults self.old)) }
         ensures kept { OnOk result (⟦<StdSay<R> as Say>⟧.faults self.new ≡ ⟦<StdSay<R> as Say>⟧.faults self.old) }
     {
-        match io::writer(&self.rt).write_all(bytes) {
-            Ok(()) => Ok(()),
-            Err(_) => {
-                self.count = self.count.saturating_add(1);
-                Err(EdgeErr::Failed)
-            }
-        }
+        say_to(&mut io::writer(&self.rt), &mut self.count, bytes)?;
+        Ok(())
     }
 }

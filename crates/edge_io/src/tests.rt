@@ -15,12 +15,15 @@ fn the_real_edge(rt: HostRuntime) -> Result<(), Fail> {
     let dir = env::temp_dir(&rt)?;
     let path = format!(in alloc; "{}/edge_io_{}", dir.display(), process::id(rt.process()))?;
     let name = Word::new(path.clone()?);
-    let mut files = RealFiles::new(rt.clone()?);
+    let mut files = RealFiles::new(rt.clone()?, alloc, path.len())?;
+    let mut without_room = RealFiles::new(rt.clone()?, alloc, 0)?;
     // The second one is longer than a piece.
     for size in [5, 200_000] {
         let bytes = vec![in alloc; 7u8; size]?;
         files.store(1, &name, &bytes)?;
         let read = read_whole(alloc, &mut files, 1, &name)?;
+        assert_eq!(rt; read.as_slice(), bytes.as_slice());
+        let read = read_whole(alloc, &mut without_room, 1, &name)?;
         assert_eq!(rt; read.as_slice(), bytes.as_slice());
     }
     fs::remove_file(&rt, path.as_str())?;

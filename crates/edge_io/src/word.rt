@@ -1,6 +1,6 @@
 //! A word of the command line, such as the name of a file.
 
-ghost use Rattle.std.specs.Prelude.{◌≡◌, [], IfOk, string_bytes};
+ghost use Rattle.std.specs.Prelude.{◌≡◌, ◌≤◌, [], IfOk, All, fold, length, max, string_bytes};
 
 use std::alloc::{AllocError, Global};
 use std::convert::AsStr;
@@ -60,4 +60,16 @@ impl AsStr for Word {
     fn as_str(&self) -> &str {
         self.text.as_str()
     }
+}
+
+/// The length of the longest word in bytes, 0 if there are none. No name of a file that the words give is longer.
+pub fn longest(words: &[Word]) -> usize
+    ensures exact { result ≡ fold (λ most word. max most (length word)) 0 words.now }
+    ensures none_longer { All (λ word. length word ≤ result) words.now }
+{
+    words
+        .iter()
+        .map(|word| word.as_str().len())
+        .max()
+        .unwrap_or(0)
 }

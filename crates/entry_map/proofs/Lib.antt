@@ -1,2 +1,2 @@
-pub mod Searching
 pub mod Mapping
+pub mod Walk

@@ -1,9 +1,10 @@
-//! The entries of a ledger, sorted by their keys' XDR bytes.
+//! The entries of a ledger as an ordered map.
 #![tactic(auto)]
 
+mod changes;
 mod map;
-mod search;
-mod slot;
+mod stored;
 
+pub use changes::{Change, Made};
 pub use map::EntryMap;
-pub use slot::Slot;
+pub use stored::{StoredEntry, store_entry};

@@ -9,7 +9,7 @@ use Rattle.xdr_spec.proofs.Derived.{list_lawful, opaque_lawful}
 use Rattle.value_types.specs.Address.{address_format, address_lawful}
 use Rattle.value_types.specs.Executable.{executable_format, executable_lawful}
 use Rattle.value_types.specs.Formats.{scval_format}
-use Rattle.value_types.specs.Lawful.{scval_lawful}
+use Rattle.value_types.proofs.Lawful.{scval_lawful}
 use Rattle.value_types.specs.declared.address.ScAddress.{ScAddress}
 use Rattle.value_types.specs.declared.executable.Executable.{Executable}
 use Rattle.value_types.specs.declared.value.ScVal.{ScVal}

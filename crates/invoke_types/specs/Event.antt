@@ -10,7 +10,7 @@ use Rattle.xdr_spec.proofs.Derived.{enumeration_lawful, find_kind-back, optional
 use Rattle.value_types.specs.Headed.{headed, headed_lawful}
 use Rattle.value_types.specs.Hash.{hash_format, hash_lawful}
 use Rattle.value_types.specs.Formats.{scval_format}
-use Rattle.value_types.specs.Lawful.{scval_lawful}
+use Rattle.value_types.proofs.Lawful.{scval_lawful}
 use Rattle.value_types.specs.declared.hash.Hash.{Hash}
 use Rattle.value_types.specs.declared.value.ScVal.{ScVal}
 use Rattle.invoke_types.specs.Arguments.{values_format, values_lawful}

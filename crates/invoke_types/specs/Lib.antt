@@ -6,3 +6,4 @@ pub mod Function
 pub mod Event
 pub mod Success
 pub mod ContractId
+pub mod Equality

@@ -63,7 +63,7 @@ impl Xdr for InvokeContractArgs {
 }
 
 /// A create without a constructor (the XDR files' `CreateContractArgs`).
-#[derive(Debug, PartialEq, Eq)]
+#[derive(Debug)]
 pub struct CreateContractArgs {
     /// The preimage of the contract's id.
     pub preimage: Preimage,

@@ -11,7 +11,7 @@ use value_xdr::Xdr;
 use xdr_core::{Cursor, NoMemory, Out, ReadXdr, Why, XdrErr, add_sizes};
 
 /// An asset of the network (the XDR files' `Asset`).
-#[derive(Debug, PartialEq, Eq)]
+#[derive(Debug)]
 pub enum Asset {
     /// 0.
     Native,

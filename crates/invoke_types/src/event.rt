@@ -6,8 +6,8 @@ ghost use Rattle.invoke_types.specs.Event.{number, kind_of, type_format, type_la
 use crate::values::clone_values;
 use std::alloc::{AllocError, Global};
 use value_types::{Hash, Items, ScVal};
-use value_xdr::{Xdr, read_head};
-use xdr_core::{Cursor, NoMemory, Out, ReadXdr, Why, XdrErr, add_sizes};
+use value_xdr::{Xdr, named, read_head};
+use xdr_core::{Cursor, NoMemory, Out, ReadXdr, add_sizes};
 
 /// The number of an empty extension point.
 const NO_EXTENSION: u32 = 0;
@@ -57,11 +57,7 @@ impl Xdr for ContractEventType {
 
     fn read_parts(_alloc: Global, input: &mut Cursor<'_>) -> Result<ContractEventType, ReadXdr> {
         let place = input.place();
-        let number = input.u32()?;
-        ContractEventType::from_number(number).ok_or(ReadXdr::Bad(XdrErr {
-            at: place,
-            why: Why::Tag,
-        }))
+        named(ContractEventType::from_number(input.u32()?), place)
     }
 
     fn write_parts(&self, out: &mut Out) -> Result<(), NoMemory> {

@@ -6,8 +6,8 @@ ghost use Rattle.invoke_types.specs.Function.{number, kind_of, kind, type_format
 
 use crate::arguments::{CreateContractArgs, CreateContractArgsV2, InvokeContractArgs};
 use std::alloc::{AllocError, Global};
-use value_xdr::Xdr;
-use xdr_core::{Cursor, NoMemory, Out, ReadXdr, Why, XdrErr, add_sizes};
+use value_xdr::{Xdr, named};
+use xdr_core::{Cursor, NoMemory, Out, ReadXdr, add_sizes};
 
 /// The types of authorised functions (the XDR files' `SorobanAuthorizedFunctionType`).
 #[derive(Clone, Copy, Debug, PartialEq, Eq)]
@@ -48,11 +48,7 @@ impl Xdr for FunctionType {
 
     fn read_parts(_alloc: Global, input: &mut Cursor<'_>) -> Result<FunctionType, ReadXdr> {
         let place = input.place();
-        let number = input.u32()?;
-        FunctionType::from_number(number).ok_or(ReadXdr::Bad(XdrErr {
-            at: place,
-            why: Why::Tag,
-        }))
+        named(FunctionType::from_number(input.u32()?), place)
     }
 
     fn write_parts(&self, out: &mut Out) -> Result<(), NoMemory> {

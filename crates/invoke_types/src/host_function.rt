@@ -7,8 +7,8 @@ ghost use Rattle.invoke_types.specs.HostFunction.{number, kind_of, kind, type_fo
 use crate::arguments::{CreateContractArgs, CreateContractArgsV2, InvokeContractArgs};
 use std::alloc::{AllocError, Global};
 use value_types::Blob;
-use value_xdr::{Xdr, read_blob, size_of_blob, write_blob};
-use xdr_core::{Cursor, NoMemory, Out, ReadXdr, Why, XdrErr, add_sizes};
+use value_xdr::{Xdr, named, read_blob, size_of_blob, write_blob};
+use xdr_core::{Cursor, NoMemory, Out, ReadXdr, add_sizes};
 
 /// The types of host functions (the XDR files' `HostFunctionType`).
 #[derive(Clone, Copy, Debug, PartialEq, Eq)]
@@ -52,11 +52,7 @@ impl Xdr for HostFunctionType {
 
     fn read_parts(_alloc: Global, input: &mut Cursor<'_>) -> Result<HostFunctionType, ReadXdr> {
         let place = input.place();
-        let number = input.u32()?;
-        HostFunctionType::from_number(number).ok_or(ReadXdr::Bad(XdrErr {
-            at: place,
-            why: Why::Tag,
-        }))
+        named(HostFunctionType::from_number(input.u32()?), place)
     }
 
     fn write_parts(&self, out: &mut Out) -> Result<(), NoMemory> {

@@ -3,6 +3,7 @@
 
 mod arguments;
 mod asset;
+mod equality;
 mod event;
 mod function;
 mod host_function;

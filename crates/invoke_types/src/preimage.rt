@@ -7,8 +7,8 @@ ghost use Rattle.invoke_types.specs.Preimage.{number, kind_of, kind, type_format
 use crate::asset::Asset;
 use std::alloc::{AllocError, Global};
 use value_types::{Hash, ScAddress};
-use value_xdr::Xdr;
-use xdr_core::{Cursor, NoMemory, Out, ReadXdr, Why, XdrErr, add_sizes};
+use value_xdr::{Xdr, named};
+use xdr_core::{Cursor, NoMemory, Out, ReadXdr, add_sizes};
 
 /// The types of preimages of contract ids (the XDR files' `ContractIDPreimageType`).
 #[derive(Clone, Copy, Debug, PartialEq, Eq)]
@@ -46,11 +46,7 @@ impl Xdr for PreimageType {
 
     fn read_parts(_alloc: Global, input: &mut Cursor<'_>) -> Result<PreimageType, ReadXdr> {
         let place = input.place();
-        let number = input.u32()?;
-        PreimageType::from_number(number).ok_or(ReadXdr::Bad(XdrErr {
-            at: place,
-            why: Why::Tag,
-        }))
+        named(PreimageType::from_number(input.u32()?), place)
     }
 
     fn write_parts(&self, out: &mut Out) -> Result<(), NoMemory> {
@@ -65,7 +61,7 @@ impl Xdr for PreimageType {
 }
 
 /// The preimage of a contract's id (the XDR files' `ContractIDPreimage`).
-#[derive(Debug, PartialEq, Eq)]
+#[derive(Debug)]
 pub enum Preimage {
     /// 0: the address of the deployer, and 32 bytes of its choice.
     FromAddress { address: ScAddress, salt: Hash },

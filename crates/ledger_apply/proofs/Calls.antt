@@ -11,16 +11,20 @@ use Rattle.invoke_types.specs.declared.success.SuccessPreimage.{SuccessPreimage}
 use Rattle.tx_xdr.specs.declared.set.Cluster.{Cluster}
 use Rattle.tx_xdr.specs.declared.set.Stage.{Stage}
 use Rattle.tx_xdr.specs.declared.set.TxSet.{TxSet}
-use Rattle.tx_xdr.specs.declared.transaction.Envelope.{Envelope}
+use Rattle.tx_xdr.specs.declared.envelope.Envelope.{Envelope}
+use Rattle.tx_xdr.specs.declared.envelope.Envelope.TheVariants as envelopes
 use Rattle.tx_xdr.specs.declared.transaction.Operation.{Operation}
 use Rattle.tx_xdr.specs.declared.transaction.OperationBody.{OperationBody}
 use Rattle.tx_xdr.specs.declared.transaction.OperationBody.TheVariants.{InvokeHostFunction, ExtendFootprintTtl, RestoreFootprint}
 use Rattle.tx_xdr.specs.declared.transaction.Transaction.{Transaction}
 use Rattle.tx_results.specs.Report.{has_preimage, HavePreimages}
+use Rattle.tx_results.specs.Results.{outcome_in}
+use Rattle.tx_results.specs.declared.results.EnvelopeOutcome.TheVariants as outcomes
+use Rattle.tx_xdr.specs.Envelope.{transaction_in}
 use Rattle.tx_results.specs.declared.results.TransactionOutcome.{TransactionOutcome}
 use Rattle.tx_results.specs.declared.results.TransactionResultPair.{TransactionResultPair}
 use Rattle.apply_spec.specs.Checks.{footprint_of, refusal_of, checks_of, first_failed}
-use Rattle.apply_spec.specs.Enforced.{Enforced, enforced, unless_refused, first_performed, performed, may_extend}
+use Rattle.apply_spec.specs.Enforced.{EnforcedTransaction, enforced_transaction, enforced, envelope_outcome, inner_pair, is_success, unless_refused, first_performed, performed, may_extend}
 use Rattle.apply_spec.specs.Runs.{RunState, before, run_transaction, run_cluster, run_next_cluster, run_stage, run_set, running_header, success_preimages}
 use Rattle.tx_xdr.specs.Stages.{stages_of}
 use Rattle.ledger_apply.proofs.On.{recursion_append}
@@ -30,7 +34,7 @@ use Rattle.ledger_apply.proofs.On.{recursion_append}
 abbrev CallsNothing : TransactionOutcome → Type 0
 CallsNothing outcome = has_preimage outcome ≡ false
 
-chosen : (b : Bool) (x y : Enforced) → CallsNothing x.outcome → CallsNothing y.outcome → CallsNothing (if b then x else y).outcome
+chosen : (b : Bool) (x y : EnforcedTransaction) → CallsNothing x.outcome → CallsNothing y.outcome → CallsNothing (if b then x else y).outcome
 chosen true x y h k = h
 chosen false x y h k = k
 
@@ -47,19 +51,27 @@ checked : (checks : List (Bool × TransactionOutcome)) → AllByRecursion (λ c.
 checked [] h = tt
 checked (check ∷ rest) h = elim check.0 as (λ b. IfSome (if b then first_failed rest else Some check.1) CallsNothing) [ true ↦ checked rest h.1 | false ↦ h.0 ]
 
-unless_nothing : (o : Option TransactionOutcome) (done : Enforced) → IfSome o CallsNothing → CallsNothing done.outcome → CallsNothing (unless_refused o done).outcome
+unless_nothing : (o : Option TransactionOutcome) (done : EnforcedTransaction) → IfSome o CallsNothing → CallsNothing done.outcome → CallsNothing (unless_refused o done).outcome
 unless_nothing None done h g = g
 unless_nothing (Some outcome) done h g = h
 
-enforced_nothing : (header : Header) (entries : LedgerMap) (tx : Transaction) → CallsNothing (enforced header entries tx).outcome
+enforced_nothing : (header : Header) (entries : LedgerMap) (tx : Transaction) → CallsNothing (enforced_transaction header entries tx).outcome
 enforced_nothing header entries tx =
     unless_nothing (refusal_of header tx) (first_performed header entries tx tx.operations) (checked (checks_of header tx) (refl, (refl, (refl, (refl, (refl, tt))))))
     (first_nothing header entries tx tx.operations)
 
+-- ---- an envelope
+
+envelope_nothing : (header : Header) (envelope : Envelope) (outcome : TransactionOutcome) → CallsNothing outcome → CallsNothing (outcome_in (envelope_outcome header.network_id envelope outcome))
+envelope_nothing header (envelopes.Transaction signed) outcome h = h
+envelope_nothing header (envelopes.FeeBump signed) outcome h =
+    let inner = inner_pair header.network_id signed.fee_bump.inner.tx outcome in
+    elim (is_success outcome) as (λ (b : Bool). CallsNothing (outcome_in (if b then outcomes.FeeBumpInnerSuccess inner else outcomes.FeeBumpInnerFailed inner))) [ true ↦ h | false ↦ h ]
+
 -- ---- a set
 
 abbrev PairCallsNothing : TransactionResultPair → Type 0
-PairCallsNothing pair = CallsNothing pair.result.outcome
+PairCallsNothing pair = CallsNothing (outcome_in pair.result.outcome)
 
 abbrev Quiet : RunState → Type 0
 Quiet running = AllByRecursion PairCallsNothing running.results
@@ -70,7 +82,8 @@ fold_keeps P f keeps b (x ∷ xs) h = fold_keeps P f keeps (f b x) xs (keeps b x
 
 transaction_quiet : (header : Header) (running : RunState) (envelope : Envelope) → Quiet running → Quiet (run_transaction header running envelope)
 transaction_quiet header running envelope h =
-    recursion_append PairCallsNothing running.results _ h (enforced_nothing header (before envelope.tx running).entries envelope.tx, tt)
+    let tx = transaction_in envelope in
+    recursion_append PairCallsNothing running.results _ h (envelope_nothing header envelope _ (enforced_nothing header (before tx running).entries tx), tt)
 
 cluster_quiet : (header : Header) (entries : LedgerMap) (cluster : Cluster) → Quiet (run_cluster header entries cluster)
 cluster_quiet header entries cluster = fold_keeps Quiet (run_transaction header) (transaction_quiet header) _ cluster.envelopes tt

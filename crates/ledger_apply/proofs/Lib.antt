@@ -2,6 +2,5 @@ pub mod Spelling
 pub mod Raising
 pub mod Waiting
 pub mod Written
-pub mod Effects
 pub mod On
 pub mod Calls

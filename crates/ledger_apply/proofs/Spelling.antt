@@ -1,53 +1,25 @@
 -- What is known of transactions that have a spelling.
 use Rattle.std.specs.List.{AllByRecursion, list_all}
 use Rattle.std.proofs.Common.{◌≡◌, IsTrue, true, false, All, List, [], ◌∷◌, refl}
-use Rattle.std.proofs.lemmas.List.Elements.{All-from_recursion, All-nil}
+use Rattle.std.proofs.lemmas.List.Elements.{All-from_recursion}
 use Rattle.xdr_spec.specs.Format.{list}
-use Rattle.ledger_types.specs.Key.{key_format}
-use Rattle.ledger_types.specs.declared.key.LedgerKey.{LedgerKey}
 use Rattle.tx_xdr.specs.SetBounds.{today, takes_operation}
 use Rattle.tx_xdr.specs.Operation.{kind, body_format, operation_format}
-use Rattle.tx_xdr.specs.Soroban.{footprint_format, soroban_format}
-use Rattle.tx_xdr.specs.Ext.{ext_format}
-use Rattle.tx_xdr.specs.Transaction.{transaction_format, envelope_format}
-use Rattle.tx_xdr.specs.declared.transaction.Footprint.{Footprint}
-use Rattle.tx_xdr.specs.declared.transaction.SorobanData.{SorobanData}
-use Rattle.tx_xdr.specs.declared.transaction.TransactionExt.{TransactionExt}
-use Rattle.tx_xdr.specs.declared.transaction.TransactionExt.TheVariants as exts
+use Rattle.tx_xdr.specs.Transaction.{transaction_format}
+use Rattle.tx_xdr.specs.Envelope.{envelope_format, transaction_in}
 use Rattle.tx_xdr.specs.declared.transaction.Operation.{Operation}
 use Rattle.tx_xdr.specs.declared.transaction.Transaction.{Transaction}
-use Rattle.tx_xdr.specs.declared.transaction.Envelope.{Envelope}
+use Rattle.tx_xdr.specs.declared.envelope.Envelope.{Envelope}
 use Rattle.tx_xdr.specs.Set.{cluster_format, stage_format, phase_format, set_format, parallel_stages}
 use Rattle.tx_xdr.specs.declared.set.Cluster.{Cluster}
 use Rattle.tx_xdr.specs.declared.set.Stage.{Stage}
 use Rattle.tx_xdr.specs.declared.set.Phase.{Phase}
 use Rattle.tx_xdr.specs.declared.set.Phase.TheVariants.{Components, Parallel}
 use Rattle.tx_xdr.specs.declared.set.TxSet.{TxSet}
+use Rattle.tx_xdr.proofs.Fits.{transaction_in_fits}
 use Rattle.apply_spec.specs.Enforced.{runs_today}
 use Rattle.tx_xdr.specs.Stages.{stages_in}
 use Rattle.ledger_apply.specs.Spelled.{IsCluster, IsStage}
-use Rattle.apply_spec.specs.Checks.{footprint_of, footprint_in}
-
-abbrev pub AreSpelled : List LedgerKey → Type 0
-AreSpelled keys = All (λ key. key_format.fits key) keys
-
-footprint_keys : (footprint : Footprint) → footprint_format.fits footprint → AreSpelled footprint.read_only × AreSpelled footprint.read_write
-unfolding footprint_format list
-footprint_keys footprint h = (All-from_recursion key_format.fits footprint.read_only h.0.2, All-from_recursion key_format.fits footprint.read_write h.1.2)
-
-soroban_keys : (soroban : SorobanData) → soroban_format.fits soroban → footprint_format.fits soroban.footprint
-unfolding soroban_format
-soroban_keys soroban h = h.0
-
-ext_keys : (ext : TransactionExt) → ext_format.fits ext → AreSpelled (footprint_in ext).read_only × AreSpelled (footprint_in ext).read_write
-unfolding ext_format
-ext_keys exts.None h = (All-nil key_format.fits, All-nil key_format.fits)
-ext_keys (exts.Soroban soroban) h = footprint_keys soroban.footprint (soroban_keys soroban h)
-
--- the keys of a transaction's footprint have spellings
-pub declared_spelled : (tx : Transaction) → (transaction_format today).fits tx → AreSpelled (footprint_of tx).read_only × AreSpelled (footprint_of tx).read_write
-unfolding transaction_format
-declared_spelled tx h = ext_keys tx.ext h.1.1.1.1.1.1
 
 -- ---- what runs today
 
@@ -56,14 +28,13 @@ unfolding operation_format body_format
 bodies_today [] h = refl
 bodies_today (operation ∷ operations) h = rw h.0.1.0 (bodies_today operations h.1)
 
--- the operations of a transaction that is spelled within the limits of today run today
-pub runs : (tx : Transaction) → (transaction_format today).fits tx → IsTrue (runs_today tx)
+transaction_runs : (tx : Transaction) → (transaction_format today).fits tx → IsTrue (runs_today tx)
 unfolding transaction_format list
-runs tx h = bodies_today tx.operations h.1.1.1.1.1.0.2
+transaction_runs tx h = bodies_today tx.operations h.1.1.1.1.1.0.2
 
-envelope_today : (envelope : Envelope) → (envelope_format today).fits envelope → (transaction_format today).fits envelope.tx
-unfolding envelope_format
-envelope_today envelope h = h.0
+-- the operations of an envelope that is spelled within the limits of today run today
+pub runs : (envelope : Envelope) → (envelope_format today).fits envelope → IsTrue (runs_today (transaction_in envelope))
+runs envelope h = transaction_runs (transaction_in envelope) (transaction_in_fits today envelope h)
 
 -- ---- sets
 
@@ -76,7 +47,7 @@ all_weaker P Q xs f h = All-from_recursion Q xs (weaker P Q xs f h)
 
 cluster_spelled : (cluster : Cluster) → (cluster_format today).fits cluster → IsCluster cluster
 unfolding cluster_format list
-cluster_spelled cluster h = all_weaker (envelope_format today).fits (λ envelope. (transaction_format today).fits envelope.tx) cluster.envelopes envelope_today h.2
+cluster_spelled cluster h = All-from_recursion (envelope_format today).fits cluster.envelopes h.2
 
 stage_spelled : (stage : Stage) → (stage_format today).fits stage → IsStage stage
 unfolding stage_format list
@@ -96,7 +67,7 @@ unfolding phase_format
 stages_today (Components components) h = not_today h.0
 stages_today (Parallel base_fee stages) h = refl
 
--- the transactions of a set that runs today have a hash
+-- the envelopes of a set that runs today have a hash
 pub set_spelled : (set : TxSet) → (set_format today).fits set → All (λ phase. All IsStage (stages_in phase)) set.phases
 unfolding set_format list
 set_spelled set h = all_weaker (phase_format today).fits (λ phase. All IsStage (stages_in phase)) set.phases phase_spelled h.1.2

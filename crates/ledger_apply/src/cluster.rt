@@ -2,8 +2,6 @@
 
 ghost use Rattle.std.specs.Prelude.{◌≡◌, [], All, IfOk, IsTrue};
 ghost use Rattle.ledger_spec.specs.LedgerFile.{are_settings, has_next};
-ghost use Rattle.tx_xdr.specs.SetBounds.{today};
-ghost use Rattle.tx_xdr.specs.Transaction.{transaction_format};
 ghost use Rattle.apply_spec.specs.Runs.{run_cluster as run_cluster_in, run_next_cluster as run_next_cluster_in, run_stage as run_stage_in};
 ghost use Rattle.ledger_apply.specs.State.{running_of, IsOn};
 ghost use Rattle.ledger_apply.specs.Spelled.{IsCluster, IsStage};

@@ -1,8 +1,9 @@
-//! Runs one transaction in its cluster.
+//! Runs one envelope in its cluster.
 
 ghost use Rattle.std.specs.Prelude.{◌≡◌, IfOk};
 ghost use Rattle.tx_xdr.specs.SetBounds.{today};
 ghost use Rattle.tx_xdr.specs.Transaction.{transaction_format};
+ghost use Rattle.tx_xdr.specs.Envelope.{envelope_format};
 ghost use Rattle.apply_spec.specs.Runs.{before, run_transaction as run_transaction_in};
 ghost use Rattle.ledger_apply.specs.State.{running_in_cluster, IsOnInCluster};
 
@@ -11,7 +12,7 @@ use ledger_file::Ledger;
 use std::alloc::Global;
 use tx_apply::{enforce, read_write_of};
 use tx_results::{TransactionResult, TransactionResultPair};
-use tx_xdr::{Envelope, Transaction, tx_hash};
+use tx_xdr::{Envelope, Transaction, envelope_hash};
 use xdr_core::NoMemory;
 
 /// Puts in the pending extensions of the keys that a transaction declares read-write.
@@ -41,7 +42,7 @@ fn put_written(alloc: Global, running: ClusterRun, tx: &Transaction) -> Result<C
     })
 }
 
-/// Runs a transaction in its cluster.
+/// Runs an envelope in its cluster: a transaction, or a fee bump's inner transaction.
 ///
 /// Before it runs, the pending extensions of its read-write keys are put in, even if it fails. Its own extensions are
 /// pending afterwards. Both take O(log n) comparisons for each of its keys, where n is the number of pending keys.
@@ -50,23 +51,22 @@ pub fn run_transaction(
     running: ClusterRun,
     envelope: &Envelope,
 ) -> Result<ClusterRun, NoMemory>
-    requires fits { (transaction_format today).fits envelope.now.tx }
+    requires fits { (envelope_format today).fits envelope.now }
     requires on { IsOnInCluster running.ledger.header running }
     ensures run { IfOk result (λ r. running_in_cluster r ≡ run_transaction_in running.ledger.header (running_in_cluster running) envelope.now) }
     ensures on { IfOk result (IsOnInCluster running.ledger.header) }
 {
-    let tx = &envelope.tx;
     let ClusterRun {
         ledger,
         pending,
         mut results,
-    } = put_written(alloc, running, tx)?;
+    } = put_written(alloc, running, envelope.transaction())?;
     if results.as_slice().len() >= MOST_RESULTS {
         return Err(NoMemory);
     }
     let header = ledger.header;
-    let done = enforce(alloc, &ledger, &header, tx)?;
-    let hash = tx_hash(alloc, &header.network_id, tx)?;
+    let done = enforce(alloc, &ledger, &header, envelope)?;
+    let hash = envelope_hash(alloc, &header.network_id, envelope)?;
     let pending = pending.with_all(alloc, done.extensions.into_vec())?;
     results.push(TransactionResultPair {
         hash,

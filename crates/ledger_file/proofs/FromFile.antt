@@ -5,7 +5,7 @@ use Rattle.std.specs.List.{AllByRecursion}
 use Rattle.std.specs.FinMap.{is_sorted, entries, entries-from_sorted, len-entries, values}
 use Rattle.std.specs.FinMap.Entries.{below_all}
 use Rattle.std.proofs.lemmas.List.{length-map}
-use Rattle.std.proofs.Common.{◌≡◌, ℕ, zero, suc, ◌+◌, Bool, true, false, not, ◌&&◌, cond, T, List, [], ◌∷◌, length, map, Some, None, Option, Ok, Err, Result, refl, sym, ap, subst, ◌∙◌, arith}
+use Rattle.std.proofs.Common.{◌≡◌, ℕ, zero, suc, ◌+◌, Bool, true, false, not, ◌&&◌, cond, T, List, [], ◌∷◌, length, map, Some, None, Option, Ok, Err, Result, refl, sym, ap, subst, ◌∙◌, inl, inr, arith}
 use Rattle.sha2.specs.Sha256.{sha256}
 use Rattle.xdr_spec.specs.declared.XdrErr.{XdrErr}
 use Rattle.xdr_spec.specs.Format.{IsBytes}
@@ -14,6 +14,8 @@ use Rattle.xdr_spec.specs.Decoded.{decoded}
 use Rattle.xdr_spec.proofs.Decoding.{decoded_spells}
 use Rattle.ledger_types.specs.Record.{record_format}
 use Rattle.ledger_types.specs.File.{file_format, file_lawful}
+use Rattle.ledger_types.specs.declared.version.FileVersion.{FileVersion}
+use Rattle.ledger_types.specs.declared.version.FileVersion.TheVariants.{V1, V2}
 use Rattle.ledger_types.specs.declared.header.Header.{Header}
 use Rattle.ledger_types.specs.declared.file.LedgerFile.{LedgerFile}
 use Rattle.ledger_types.specs.declared.record.LedgerRecord.{LedgerRecord}
@@ -22,11 +24,11 @@ use Rattle.ledger_spec.specs.declared.LedgerWhy.{LedgerWhy}
 use Rattle.ledger_spec.specs.declared.LedgerWhy.TheVariants as why
 use Rattle.ledger_spec.specs.declared.LedgerRefusal.{LedgerRefusal}
 use Rattle.ledger_spec.specs.LedgerMap.{LedgerMap, IsKeptAt}
-use Rattle.ledger_spec.specs.LedgerFile.{record_of, are_settings, has_next, record_key, fault_of, fault_at, first_fault, kept_of, map_of, as_map, judged_if, ledger_of, refusal}
+use Rattle.ledger_spec.specs.LedgerFile.{record_of, can_run, has_protocol, are_settings, has_next, bytes_in, record_key, fault_of, fault_at, first_fault, kept_of, map_of, as_map, judged_if, ledger_of, refusal}
 use Rattle.ledger_file.specs.Records.{pair_of}
-use Rattle.ledger_file.specs.FileOf.{IsFileOf}
+use Rattle.ledger_file.specs.FileOf.{IsFileOf, IsSpelled}
 use Rattle.ledger_file.proofs.Keys.{order, less_through, first_of_two, second_of_two, both_of_two, good, kept_by}
-use Rattle.ledger_file.proofs.Judging.{header_fits, records_fit, records_few}
+use Rattle.ledger_file.proofs.Judging.{header_fits, records_fit, records_few, protocol_of_old}
 
 -- ---- records of which none is at fault
 
@@ -88,27 +90,35 @@ is_T : (b : Bool) → b ≡ true → T b
 is_T true e = tt
 is_T false e = cc
 
-of_file : (follows : Bool) (bytes : List ℕ) (file : LedgerFile) → Spells file_format file bytes → are_settings file.header.settings ≡ true
+spelled_by : (version : FileVersion) (bytes : List ℕ) (header : Header) (m : LedgerMap) → bytes ≡ bytes_in version header m
+    → (version ≡ V1 → header.protocol ≡ 23) → IsSpelled bytes header m
+spelled_by V1 bytes header m is old = inr (old refl, is)
+spelled_by V2 bytes header m is old = inl is
+
+of_file : (follows : Bool) (bytes : List ℕ) (file : LedgerFile) → Spells file_format file bytes → can_run file.header ≡ true
     → (follows ≡ true → has_next file.header ≡ true) → AreGood None file.records → IsFileOf follows bytes file.header (map_of file.records)
-of_file follows bytes file s settings next h =
+of_file follows bytes file s runs next h =
     let es : entries (map_of file.records) ≡ map pair_of file.records =
     entries-from_sorted order (map pair_of file.records) (is_T (is_sorted order (map pair_of file.records)) (sorted_good None file.records h)) in
     let again : map record_of (values (map_of file.records)) ≡ file.records =
     ap (λ (x : List (List ℕ × Kept)). map record_of (map (λ (e : List ℕ × Kept). e.1) x)) es ∙ all_made_again None file.records h in
     record {
-      bytes-is = s.bytes-is ∙ ap (λ (rs : List LedgerRecord). file_format.spell (record { header = file.header; records = rs })) (sym again);
+      spelled = spelled_by file.version bytes file.header (map_of file.records)
+          (s.bytes-is ∙ ap (λ (rs : List LedgerRecord). file_format.spell (record { version = file.version; header = file.header; records = rs })) (sym again))
+          (protocol_of_old file s.fits);
       fits = header_fits file s.fits;
       is_map = record {
         each = subst (λ (x : List (List ℕ × Kept)). All (λ e. IsKeptAt e.0 e.1) x) (sym es) (all_kept None file.records (records_fit file s.fits) h);
         few = omega (arith, len-entries (map_of file.records), ap length es, length-map file.records pair_of, records_few file s.fits);
       };
-      settings = settings;
+      protocol = first_of_two (has_protocol file.header) (are_settings file.header.settings) runs;
+      settings = second_of_two (has_protocol file.header) (are_settings file.header.settings) runs;
       next = next;
     }
 
 -- what the answer of the judge says
 pub record Answers (follows : Bool) (file : LedgerFile) (header : Header) (m : LedgerMap) : Type 0 where
-  pub settings : are_settings file.header.settings ≡ true
+  pub runs : can_run file.header ≡ true
   pub next : follows ≡ true → has_next file.header ≡ true
   pub none : first_fault 0 None file.records ≡ None
   pub header-is : file.header ≡ header
@@ -120,14 +130,14 @@ ok_pair h k m n e = let both : ◌≡◌ {A = Header × LedgerMap} (h, m) (k, n)
 err_not_ok : (e : LedgerRefusal) (p : Header × LedgerMap) → ◌≡◌ {A = Result (Header × LedgerMap) LedgerRefusal} (Err e) (Ok p) → ⊥
 err_not_ok e p h = cc
 
-answers_map : (follows : Bool) (file : LedgerFile) (header : Header) (m : LedgerMap) (f : Option LedgerRefusal) → are_settings file.header.settings ≡ true
+answers_map : (follows : Bool) (file : LedgerFile) (header : Header) (m : LedgerMap) (f : Option LedgerRefusal) → can_run file.header ≡ true
     → (follows ≡ true → has_next file.header ≡ true) → first_fault 0 None file.records ≡ f → as_map file f ≡ Ok (header, m) → Answers follows file header m
-answers_map follows file header m None settings next none e =
+answers_map follows file header m None runs next none e =
     let both = ok_pair file.header header (map_of file.records) m e in
-    record { settings = settings; next = next; none = none; header-is = both.0; map-is = both.1 }
-answers_map follows file header m (Some r) settings next none e = absurd (err_not_ok r (header, m) e)
+    record { runs = runs; next = next; none = none; header-is = both.0; map-is = both.1 }
+answers_map follows file header m (Some r) runs next none e = absurd (err_not_ok r (header, m) e)
 
-answers_by : (follows : Bool) (file : LedgerFile) (header : Header) (m : LedgerMap) (s n f : Bool) → are_settings file.header.settings ≡ s → has_next file.header ≡ n → follows ≡ f
+answers_by : (follows : Bool) (file : LedgerFile) (header : Header) (m : LedgerMap) (s n f : Bool) → can_run file.header ≡ s → has_next file.header ≡ n → follows ≡ f
     → cond (not s) (Err (refusal why.Settings 0)) (cond (f && not n) (Err (refusal why.SeqEnd 0)) (as_map file (first_fault 0 None file.records))) ≡ Ok (header, m)
     → Answers follows file header m
 answers_by follows file header m true true true p q r e = answers_map follows file header m (first_fault 0 None file.records) p (λ _. q) refl e
@@ -143,10 +153,10 @@ answers_by follows file header m false n f p q r e = absurd (err_not_ok (refusal
 from_decoded : (follows : Bool) (bytes : List ℕ) (header : Header) (m : LedgerMap) → IsBytes bytes → (r : Result LedgerFile XdrErr)
     → decoded file_format bytes ≡ r → judged_if follows r ≡ Ok (header, m) → IsFileOf follows bytes header m
 from_decoded follows bytes header m fit (Ok file) d e =
-    let a = answers_by follows file header m (are_settings file.header.settings) (has_next file.header) follows refl refl refl e in
+    let a = answers_by follows file header m (can_run file.header) (has_next file.header) follows refl refl refl e in
     let s = decoded_spells file_format file_lawful bytes fit file d in
     subst (λ (h : Header). IsFileOf follows bytes h m) a.header-is
-    (subst (λ (n : LedgerMap). IsFileOf follows bytes file.header n) a.map-is (of_file follows bytes file s a.settings a.next (are_good 0 None file.records a.none)))
+    (subst (λ (n : LedgerMap). IsFileOf follows bytes file.header n) a.map-is (of_file follows bytes file s a.runs a.next (are_good 0 None file.records a.none)))
 from_decoded follows bytes header m fit (Err x) d e = absurd (err_not_ok (refusal why.Xdr x.at) (header, m) e)
 
 pub file_read : (follows : Bool) (bytes : List ℕ) (header : Header) (m : LedgerMap) → IsBytes bytes → ledger_of follows bytes ≡ Ok (header, m) → IsFileOf follows bytes header m

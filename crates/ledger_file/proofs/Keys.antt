@@ -4,13 +4,12 @@ use Rattle.std.specs.declared.cmp.Ordering.TheVariants.{Less, Equal, Greater}
 use Rattle.std.specs.Ordering.{nat_cmp, is_lt}
 use Rattle.std.specs.Cmp.Lexicographic.{slice_cmp, nat_list_cmp_total}
 use Rattle.std.specs.List.{list_all}
-use Rattle.std.specs.FinMap.{is_sorted, entries, entries_sorted, len, len-entries}
+use Rattle.std.specs.FinMap.{is_sorted, entries, entries_sorted}
 use Rattle.std.specs.FinMap.Entries.{below_all}
-use Rattle.std.specs.Prelude.{slice_get, if◌then◌else◌}
+use Rattle.std.specs.Prelude.{if◌then◌else◌}
 use Rattle.std.specs.Str.{bytes_eq}
 use Rattle.std.proofs.lemmas.Slice.Eq.{bytes_eq-Decides}
-use Rattle.std.proofs.lemmas.List.{length-map}
-use Rattle.std.proofs.Common.{◌≡◌, ℕ, suc, ◌-◌, Bool, true, false, not, T, ◌&&◌, List, [], ◌∷◌, ◌++◌, length, Some, None, Option, refl, sym, ap, ◌∙◌, arith}
+use Rattle.std.proofs.Common.{◌≡◌, ℕ, Bool, true, false, not, T, ◌&&◌, List, [], ◌∷◌, ◌++◌, Some, None, Option, refl, ap, ◌∙◌}
 use Rattle.sha2.specs.Sha256.{sha256}
 use Rattle.xdr_spec.specs.Format.{number32}
 use Rattle.ledger_types.specs.Record.{record_format, ttl_format}
@@ -21,9 +20,7 @@ use Rattle.ledger_spec.specs.declared.Kept.{Kept}
 use Rattle.ledger_spec.specs.declared.LedgerWhy.TheVariants as why
 use Rattle.ledger_spec.specs.LedgerMap.{LedgerMap, IsKeptAt, HasCodeHash}
 use Rattle.ledger_spec.specs.LedgerFile.{is_above, has_code_hash, record_key, kept_of, fault_of}
-use Rattle.entry_map.specs.declared.slot.Slot.{Slot}
-use Rattle.entry_map.specs.Slots.{pair_of as slot_pair, pairs_of, is_last}
-use Rattle.ledger_file.specs.Records.{last_key}
+use Rattle.entry_map.specs.Entries.{last_key, is_last}
 
 some_none : {A : Type 0} (a : A) → ◌≡◌ {A = Option A} (Some a) None → ⊥
 some_none a e = cc
@@ -100,15 +97,6 @@ kept_by before item fits e = record {
   hashed = coded_by item.entry.data (good before item e).coded;
 }
 
--- the last key of slots
-pub last_key-read : (slots : List Slot) (s : Slot) → slice_get slots (length slots - 1) ≡ Some s → last_key (pairs_of slots) ≡ Some s.key
-last_key-read [] s e = cc
-last_key-read (x ∷ []) s e = let same : x ≡ s = cc in ap (λ (y : Slot). Some y.key) same
-last_key-read (x ∷ y ∷ slots) s e = last_key-read (y ∷ slots) s (ap (slice_get (x ∷ y ∷ slots)) (sym (place (length slots))) ∙ e)
-  where
-    place : (n : ℕ) → suc (suc n) - 1 ≡ suc (suc n - 1)
-    place n = omega arith
-
 -- ---- what calls say
 
 pub is_true : (b : Bool) → T b → b ≡ true
@@ -120,7 +108,3 @@ pub last_by : (m : LedgerMap) (item : LedgerRecord) (key : List ℕ) → key ≡
 last_by m item key is e =
     above_all (entries m) key (is_true (is_sorted order (entries m)) (entries_sorted m))
     (ap (is_above (last_key (entries m))) is ∙ (good (last_key (entries m)) item e).above)
-
--- the number of slots is that of the map's entries
-pub slots_len : (m : LedgerMap) (slots : List Slot) → pairs_of slots ≡ entries m → length slots ≡ len m
-slots_len m slots e = sym (length-map slots slot_pair) ∙ ap length e ∙ sym (len-entries m)

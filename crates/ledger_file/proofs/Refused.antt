@@ -11,7 +11,7 @@ use Rattle.ledger_types.specs.File.{file_format, file_lawful}
 use Rattle.ledger_types.specs.declared.file.LedgerFile.{LedgerFile}
 use Rattle.ledger_types.specs.declared.header.Header.{Header}
 use Rattle.ledger_types.specs.declared.record.LedgerRecord.{LedgerRecord}
-use Rattle.ledger_spec.specs.LedgerFile.{are_settings, as_map, fault_at, fault_of, first_fault, has_next, judged, judged_if, ledger_of, record_key, refusal}
+use Rattle.ledger_spec.specs.LedgerFile.{can_run, as_map, fault_at, fault_of, first_fault, has_next, judged, judged_if, ledger_of, record_key, refusal}
 use Rattle.ledger_spec.specs.LedgerMap.{LedgerMap}
 use Rattle.ledger_spec.specs.declared.LedgerRefusal.{LedgerRefusal}
 use Rattle.ledger_spec.specs.declared.LedgerWhy.{LedgerWhy}
@@ -61,7 +61,7 @@ not_of_header false false records at none h = none h
 
 not_judged : (follows : Bool) (file : LedgerFile) (at : ℕ) → judged follows file ≡ Err (refusal why.Xdr at) → ⊥
 not_judged follows file at h =
-    not_of_header (not (are_settings file.header.settings)) (follows && not (has_next file.header)) (as_map file (first_fault 0 None file.records)) at
+    not_of_header (not (can_run file.header)) (follows && not (has_next file.header)) (as_map file (first_fault 0 None file.records)) at
     (not_as_map file (first_fault 0 None file.records) at (not_of_records at 0 None file.records)) h
 
 -- ---- so the reason Xdr says that it was not read

@@ -3,7 +3,7 @@ use Rattle.std.specs.declared.cmp.Ordering.{Ordering}
 use Rattle.std.specs.Ordering.{nat_cmp}
 use Rattle.std.specs.Cmp.Lexicographic.{slice_cmp}
 use Rattle.std.specs.FinMap.{empty, entries, entries_sorted, entries-from_sorted, empty_of_len, from_sorted, is_sorted, len, len-entries, same_entries_map}
-use Rattle.std.proofs.Common.{◌≡◌, ℕ, zero, suc, ◌+◌, ◌<◌, ◌≤◌, ◌^◌, T, List, [], ◌∷◌, ◌++◌, length, take, drop, get_or, map, Some, None, Option, refl, sym, ap, subst, ◌∙◌, arith, add-one}
+use Rattle.std.proofs.Common.{◌≡◌, ℕ, zero, suc, ◌+◌, ◌<◌, ◌≤◌, T, List, [], ◌∷◌, ◌++◌, length, take, drop, get_or, map, Some, None, Option, refl, sym, ap, subst, ◌∙◌, arith, add-one}
 use Rattle.std.specs.List.{AllByRecursion}
 use Rattle.std.proofs.lemmas.List.{take_more, map-append, length-map, length-take-le, take_all, drop_all}
 use Rattle.std.proofs.Math.Seq.{drop-cons}
@@ -13,7 +13,8 @@ use Rattle.ledger_spec.specs.declared.LedgerWhy.{LedgerWhy}
 use Rattle.ledger_spec.specs.declared.LedgerRefusal.{LedgerRefusal}
 use Rattle.ledger_spec.specs.LedgerMap.{LedgerMap}
 use Rattle.ledger_spec.specs.LedgerFile.{record_key, fault_of, fault_at, first_fault, map_of, refusal}
-use Rattle.ledger_file.specs.Records.{pair_of, last_key, IsFaultUnlessMemory, IsFirstUnlessMemory}
+use Rattle.entry_map.specs.Entries.{last_key}
+use Rattle.ledger_file.specs.Records.{pair_of, IsFaultUnlessMemory, IsFirstUnlessMemory}
 use Rattle.ledger_file.specs.declared.error.LedgerErr.{LedgerErr}
 use Rattle.ledger_file.specs.declared.error.LedgerErr.TheVariants.{Refused, NoMemory}
 use Rattle.ledger_file.proofs.Keys.{last_key-push}
@@ -89,10 +90,6 @@ entries-empty {X = X} R =
 
 len_made : (all : List LedgerRecord) (n : ℕ) → n ≤ length all → length (made all n) ≡ n
 len_made all n le = length-map (take n all) pair_of ∙ length-take-le n all le
-
--- a count can tell one entry more
-pub few_more : (all : List LedgerRecord) (n : ℕ) (m : LedgerMap) → Judged all n (entries m) → n < length all → length all < 2 ^ 32 → len m + 1 < 2 ^ 32
-few_more all n m j lt few = omega (arith, len-entries m, ap length j.entries-is, len_made all n (omega arith))
 
 take_whole : (all : List LedgerRecord) → take (length all) all ≡ all
 take_whole all = take_all (length all) all (omega arith)

@@ -7,15 +7,18 @@ use Rattle.std.specs.FinMap.{is_sorted, entries, entries_sorted, entries-from_so
 use Rattle.std.specs.FinMap.Entries.{below_all}
 use Rattle.std.proofs.lemmas.List.{length-map}
 use Rattle.std.proofs.lemmas.Slice.Eq.{bytes_eq-Decides}
-use Rattle.std.proofs.Common.{◌≡◌, ℕ, suc, ◌+◌, Bool, true, false, not, ◌&&◌, cond, T, List, [], ◌∷◌, length, map, Some, None, Option, Ok, Err, Result, refl, sym, ap, subst, ◌∙◌, arith}
+use Rattle.std.proofs.Common.{◌≡◌, ℕ, suc, ◌+◌, Bool, true, false, not, ◌&&◌, cond, T, List, [], ◌∷◌, length, map, Some, None, Option, Ok, Err, Result, refl, sym, ap, subst, ◌∙◌, inl, inr, arith}
 use Rattle.sha2.specs.Sha256.{sha256}
 use Rattle.sha2.proofs.Facts256.{length-sha256}
 use Rattle.xdr_spec.specs.Format.{number32, list}
 use Rattle.xdr_spec.proofs.Decoding.{spells_decoded}
 use Rattle.value_types.specs.Hash.{hash_format}
-use Rattle.ledger_types.specs.Header.{header_format}
+use Rattle.ledger_types.specs.FileVersion.{protocol_format}
+use Rattle.ledger_types.specs.Header.{header_in, header_format}
 use Rattle.ledger_types.specs.Record.{ttl_format, record_format}
-use Rattle.ledger_types.specs.File.{file_format, file_lawful}
+use Rattle.ledger_types.specs.File.{file_format, file_lawful, rest_format}
+use Rattle.ledger_types.specs.declared.version.FileVersion.{FileVersion}
+use Rattle.ledger_types.specs.declared.version.FileVersion.TheVariants.{V1, V2}
 use Rattle.ledger_types.specs.declared.header.Header.{Header}
 use Rattle.ledger_types.specs.declared.entry.LedgerEntryData.{LedgerEntryData}
 use Rattle.ledger_types.specs.declared.entry.LedgerEntryData.TheVariants.{ContractData, ContractCode}
@@ -24,11 +27,11 @@ use Rattle.ledger_spec.specs.declared.Kept.{Kept}
 use Rattle.ledger_spec.specs.declared.LedgerWhy.TheVariants as why
 use Rattle.ledger_spec.specs.declared.LedgerRefusal.{LedgerRefusal}
 use Rattle.ledger_spec.specs.LedgerMap.{LedgerMap, IsLedgerMap, IsKeptAt, HasCodeHash}
-use Rattle.ledger_spec.specs.LedgerFile.{record_of, file_of, are_settings, has_next, is_above, record_key, fault_of, first_fault, map_of, as_map, judged_if, ledger_of, refusal, has_code_hash}
+use Rattle.ledger_spec.specs.LedgerFile.{record_of, file_of, ledger_bytes, bytes_in, can_run, has_protocol, are_settings, has_next, is_above, record_key, fault_of, first_fault, map_of, as_map, judged_if, ledger_of, refusal, has_code_hash}
 use Rattle.ledger_file.specs.Records.{pair_of}
-use Rattle.ledger_file.specs.FileOf.{IsFileOf}
+use Rattle.ledger_file.specs.FileOf.{IsFileOf, IsSpelled}
 use Rattle.ledger_file.proofs.Digests.{IsBytes-sha256}
-use Rattle.ledger_file.proofs.Keys.{order, is_true, first_of_two, second_of_two}
+use Rattle.ledger_file.proofs.Keys.{order, is_true, first_of_two, second_of_two, both_of_two}
 
 -- the record of an entry and the bytes of its key
 abbrev made : List ℕ × Kept → LedgerRecord
@@ -111,11 +114,28 @@ map_again m h =
 
 -- ---- the file
 
-file_fits : (header : Header) (m : LedgerMap) → header_format.fits header → IsLedgerMap m → file_format.fits (file_of header m)
-unfolding file_format list
-file_fits header m fits h =
+-- the protocol can stand in a file of this version
+abbrev Names : FileVersion → Header → Type 0
+Names version header = (protocol_format version).fits header.protocol
+
+header_fits_in : (version : FileVersion) (header : Header) → header_format.fits header → Names version header → (header_in version).fits header
+unfolding header_in
+header_fits_in version header h p = (h.0, (p, h.1.1))
+
+records_are : (m : LedgerMap) → IsLedgerMap m → (list 4294967295 record_format).fits (map record_of (values m))
+unfolding list
+records_are m h =
     let count : length (map record_of (values m)) ≡ length (entries m) = length-map (values m) record_of ∙ length-map (entries m) (λ (e : List ℕ × Kept). e.1) in
-    (fits, (omega (arith, count, len-entries m, h.few), omega (arith, count, len-entries m, h.few), records_fit (entries m) h.each))
+    (omega (arith, count, len-entries m, h.few), omega (arith, count, len-entries m, h.few), records_fit (entries m) h.each)
+
+file_fits : (version : FileVersion) (header : Header) (m : LedgerMap) → header_format.fits header → Names version header → IsLedgerMap m
+    → file_format.fits (file_of version header m)
+unfolding file_format rest_format
+file_fits version header m fits p h = (refl, (header_fits_in version header fits p, records_are m h))
+
+named : (header : Header) → header_format.fits header → Names V2 header
+unfolding header_in
+named header h = h.1.0
 
 judged_by : (s n f : Bool) (r : Result (Header × LedgerMap) LedgerRefusal) → s ≡ true → (f ≡ true → n ≡ true)
     → cond (not s) (Err (refusal why.Settings 0)) (cond (f && not n) (Err (refusal why.SeqEnd 0)) r) ≡ r
@@ -125,16 +145,35 @@ judged_by true false true r p q = let no : false ≡ true = q refl in cc
 judged_by true false false r p q = refl
 judged_by false n f r p q = cc
 
-pub file_is_read : (follows : Bool) (bytes : List ℕ) (header : Header) (m : LedgerMap) → IsFileOf follows bytes header m → ledger_of follows bytes ≡ Ok (header, m)
-file_is_read follows bytes header m h =
-    let file = file_of header m in
+version_is_read : (version : FileVersion) (follows : Bool) (header : Header) (m : LedgerMap) → header_format.fits header → Names version header → IsLedgerMap m
+    → can_run header ≡ true → (follows ≡ true → has_next header ≡ true) → ledger_of follows (bytes_in version header m) ≡ Ok (header, m)
+version_is_read version follows header m fits p is_map runs next =
+    let file = file_of version header m in
     let none : first_fault 0 None (map record_of (values m)) ≡ None =
-    faultless 0 None (entries m) (first_above (entries m)) (is_true (is_sorted order (entries m)) (entries_sorted m)) h.is_map.each in
-    ap (judged_if follows) (spells_decoded file_format file_lawful file bytes (record { fits = file_fits header m h.fits h.is_map; bytes-is = h.bytes-is }))
-    ∙ judged_by (are_settings header.settings) (has_next header) follows (as_map file (first_fault 0 None (map record_of (values m)))) h.settings h.next
+    faultless 0 None (entries m) (first_above (entries m)) (is_true (is_sorted order (entries m)) (entries_sorted m)) is_map.each in
+    ap (judged_if follows) (spells_decoded file_format file_lawful file (bytes_in version header m) (record { fits = file_fits version header m fits p is_map; bytes-is = refl }))
+    ∙ judged_by (can_run header) (has_next header) follows (as_map file (first_fault 0 None (map record_of (values m)))) runs next
     ∙ ap (as_map file) none
-    ∙ ap (λ (n : LedgerMap). Ok (header, n)) (map_again m h.is_map)
+    ∙ ap (λ (n : LedgerMap). Ok (header, n)) (map_again m is_map)
   where
     first_above : (es : List (List ℕ × Kept)) → IsAboveFirst None es
     first_above [] = tt
     first_above (x ∷ es) = refl
+
+by_version : (follows : Bool) (bytes : List ℕ) (header : Header) (m : LedgerMap) → header_format.fits header → IsLedgerMap m
+    → can_run header ≡ true → (follows ≡ true → has_next header ≡ true) → IsSpelled bytes header m → ledger_of follows bytes ≡ Ok (header, m)
+by_version follows bytes header m fits is_map runs next (inl is) =
+    ap (ledger_of follows) is ∙ version_is_read V2 follows header m fits (named header fits) is_map runs next
+by_version follows bytes header m fits is_map runs next (inr old) =
+    ap (ledger_of follows) old.1 ∙ version_is_read V1 follows header m fits old.0 is_map runs next
+
+pub file_is_read : (follows : Bool) (bytes : List ℕ) (header : Header) (m : LedgerMap) → IsFileOf follows bytes header m → ledger_of follows bytes ≡ Ok (header, m)
+file_is_read follows bytes header m h =
+    by_version follows bytes header m h.fits h.is_map (both_of_two (has_protocol header) (are_settings header.settings) h.protocol h.settings) h.next h.spelled
+
+pub written_is_read : (header : Header) (m : LedgerMap) → header_format.fits header → IsLedgerMap m → can_run header ≡ true
+    → ledger_of false (ledger_bytes header m) ≡ Ok (header, m)
+written_is_read header m fits is_map runs = version_is_read V2 false header m fits (named header fits) is_map runs (λ e. absurd (not_true e))
+  where
+    not_true : false ≡ true → ⊥
+    not_true e = cc

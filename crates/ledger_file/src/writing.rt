@@ -1,17 +1,17 @@
 //! Writes ledgers as bytes.
 
-ghost use Rattle.std.specs.Prelude.{◌≡◌, ◌++◌, All, OnOk, OnErr, IfOk};
+ghost use Rattle.std.specs.Prelude.{◌≡◌, ◌++◌, OnOk, OnErr, IfOk};
+ghost use Rattle.std.specs.FinMap.{entries as entries_of};
 ghost use Rattle.std.specs.List.{flat_map};
 ghost use Rattle.xdr_core.specs.Writes.{StartsWith};
 ghost use Rattle.ledger_types.specs.Header.{header_format};
 ghost use Rattle.ledger_types.specs.Record.{record_format};
-ghost use Rattle.ledger_spec.specs.LedgerMap.{IsKeptAt};
 ghost use Rattle.ledger_spec.specs.LedgerFile.{record_of, ledger_bytes};
-ghost use Rattle.entry_map.specs.Slots.{pairs_of};
+ghost use Rattle.ledger_file.specs.Records.{record_bytes, IsKept};
 
 use crate::ledger::Ledger;
-use entry_map::Slot;
-use ledger_types::{LEDGER_FILE_VERSION, TtlEntry};
+use entry_map::{EntryMap, StoredEntry};
+use ledger_types::{FileVersion, TtlEntry};
 use std::alloc::Global;
 use value_types::Blob;
 use value_xdr::Xdr;
@@ -19,41 +19,39 @@ use xdr_core::{NoMemory, Out};
 
 /// Writes the record of an entry.
 #[tactic(auto, unfolding(ledger_types::specs::Record::record_format))]
-fn write_record(slot: &Slot, out: &mut Out) -> Result<(), NoMemory>
-    requires { IsKeptAt slot.now.key slot.now.kept }
-    ensures ok { OnOk result (out.new ≡ out.old ++ record_format.spell (record_of slot.now.kept)) }
+fn write_record(stored: &StoredEntry, out: &mut Out) -> Result<(), NoMemory>
+    requires { IsKept stored.now.kept }
+    ensures ok { OnOk result (out.new ≡ out.old ++ record_format.spell (record_of stored.now.kept)) }
     ensures err { OnErr result (StartsWith out.new out.old) }
 {
-    slot.kept.entry.write(out)?;
+    stored.kept.entry.write(out)?;
     let ttl = TtlEntry {
-        key_hash: slot.key_hash,
-        live_until_ledger_seq: slot.kept.live_until,
+        key_hash: stored.key_hash,
+        live_until_ledger_seq: stored.kept.live_until,
     };
     ttl.write(out)
 }
 
-/// Writes the records of entries.
-fn write_records(slots: &[Slot], out: &mut Out) -> Result<(), NoMemory>
-    requires { All (λ e. IsKeptAt e.0 e.1) (pairs_of slots.now) }
-    ensures ok { OnOk result (out.new ≡ out.old ++ flat_map (λ slot. record_format.spell (record_of slot.kept)) slots.now) }
+/// Writes the records of all entries.
+fn write_records(entries: &EntryMap, out: &mut Out) -> Result<(), NoMemory>
+    ensures ok { OnOk result (out.new ≡ out.old ++ flat_map record_bytes (entries_of entries.now)) }
     ensures err { OnErr result (StartsWith out.new out.old) }
 {
-    for slot in slots {
-        write_record(slot, out)?;
+    for (_key, stored) in entries.iter() {
+        write_record(stored, out)?;
     }
     Ok(())
 }
 
-/// Writes the file of a ledger.
+/// Writes the file of a ledger, in version 2.
 pub fn write_ledger(alloc: Global, ledger: &Ledger) -> Result<Blob, NoMemory>
     requires { header_format.fits ledger.now.header }
     ensures { IfOk result (λ file. file ≡ ledger_bytes ledger.now.header ledger.now.entries) }
 {
     let mut out = Out::new(alloc);
-    out.put_u32(LEDGER_FILE_VERSION)?;
+    out.put_u32(FileVersion::V2.number())?;
     ledger.header.write(&mut out)?;
-    let slots = ledger.entries.as_slice();
-    out.put_u32(slots.len() as u32)?;
-    write_records(slots, &mut out)?;
+    out.put_u32(ledger.entries.len() as u32)?;
+    write_records(&ledger.entries, &mut out)?;
     Ok(Blob::from_vec(out.into_vec()))
 }

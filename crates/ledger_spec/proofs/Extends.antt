@@ -11,7 +11,7 @@ use Rattle.ledger_spec.specs.LedgerMap.{LedgerMap, find, key_bytes}
 use Rattle.ledger_spec.specs.Seen.{Seen, live, absent, archived, seen, is_temporary}
 use Rattle.ledger_spec.specs.Changes.{extend, extend_seen, extend_live, asked_life, longer, furthest, Unextended, backward, missing, too_far, in_archive}
 use Rattle.ledger_spec.specs.ChangeLaws.{last_of, living_until, OthersStay, IsReason}
-use Rattle.ledger_spec.proofs.Places.{put_here, put_elsewhere}
+use Rattle.ledger_spec.proofs.Found.{put_here, put_elsewhere}
 use Rattle.ledger_spec.proofs.Life.{tests_true, is_temporary_entry}
 
 -- ---- the life that is asked for

@@ -1,4 +1,6 @@
-pub mod Places
+pub mod Found
 pub mod Life
 pub mod Puts
+pub mod Makes
 pub mod Extends
+pub mod Keeping

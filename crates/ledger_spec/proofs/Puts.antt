@@ -13,7 +13,7 @@ use Rattle.ledger_spec.specs.LedgerFile.{are_settings}
 use Rattle.ledger_spec.specs.Seen.{Seen, live, absent, archived, seen}
 use Rattle.ledger_spec.specs.Changes.{put, put_seen, delete, delete_seen, first_life, raise, raised}
 use Rattle.ledger_spec.specs.ChangeLaws.{IsTemporary, last_of, living_until, OthersStay, IsPut}
-use Rattle.ledger_spec.proofs.Places.{put_here, put_elsewhere, taken_here, taken_elsewhere}
+use Rattle.ledger_spec.proofs.Found.{put_here, put_elsewhere, taken_here, taken_elsewhere}
 use Rattle.ledger_spec.proofs.Life.{tests_true, tests_false, live_is, is_live, temporary_lives, persistent_lives}
 
 some_is : (a b : LedgerMap) → Some a ≡ Some b → a ≡ b

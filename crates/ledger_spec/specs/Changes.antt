@@ -1,5 +1,5 @@
 -- Changes of a ledger's map in ledger n (own, after CAP-0046-12: state archival).
-use Rattle.std.specs.Prelude.{ℕ, ◌+◌, ◌-◌, ◌&&◌, Option, Some, None, Result, Ok, Err, max, nat_lt, nat_le, if◌then◌else◌}
+use Rattle.std.specs.Prelude.{ℕ, ◌+◌, ◌-◌, Bool, true, false, ◌&&◌, Option, Some, None, Result, Ok, Err, max, nat_lt, nat_le, if◌then◌else◌}
 use Rattle.std.specs.FinMap.{insert, remove}
 use Rattle.ledger_types.specs.Entry.{key_of}
 use Rattle.ledger_types.specs.declared.key.LedgerKey.{LedgerKey}
@@ -47,6 +47,18 @@ delete_seen archived map key = None
 -- a delete in ledger n, by what the access finds at the key
 abbrev pub delete : ℕ → LedgerMap → LedgerKey → Option LedgerMap
 delete n map key = delete_seen (seen n map key) map key
+
+-- A make creates an entry with a given live-until ledger: a nonce, or the instance of a new contract. If the key is live,
+-- the make is false and the map stays. If the key is archived, there is no map: that access ends the run.
+abbrev pub make_seen : Seen → ℕ → LedgerMap → LedgerEntry → ℕ → Option (Bool × LedgerMap)
+make_seen (live kept) n map entry live_until = Some (false, map)
+make_seen absent n map entry live_until =
+    Some (true, insert map (key_bytes (key_of entry)) (record { entry = written n entry; live_until = live_until }))
+make_seen archived n map entry live_until = None
+
+-- a make in ledger n, by what the access finds at the entry's key
+abbrev pub make : ℕ → LedgerMap → LedgerEntry → ℕ → Option (Bool × LedgerMap)
+make n map entry live_until = make_seen (seen n map (key_of entry)) n map entry live_until
 
 -- why an extension fails
 pub data Unextended : Type 0 where

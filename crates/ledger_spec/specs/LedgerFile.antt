@@ -1,4 +1,4 @@
--- The file of a ledger (own): a header and one record for each entry, sorted by the keys' XDR bytes.
+-- The file of a ledger (own): a version, a header and one record for each entry, sorted by the keys' XDR bytes.
 use Rattle.std.specs.Prelude.{ℕ, ◌+◌, Bool, true, ◌&&◌, not, List, [], ◌∷◌, map, Option, Some, None, Result, Ok, Err, nat_lt, nat_le, if◌then◌else◌}
 use Rattle.std.specs.Ordering.{is_lt, nat_cmp}
 use Rattle.std.specs.FinMap.{from_sorted, values}
@@ -13,6 +13,8 @@ use Rattle.ledger_types.specs.declared.entry.LedgerEntryData.{LedgerEntryData}
 use Rattle.ledger_types.specs.declared.entry.LedgerEntryData.TheVariants.{ContractData, ContractCode}
 use Rattle.ledger_types.specs.declared.record.LedgerRecord.{LedgerRecord}
 use Rattle.ledger_types.specs.declared.file.LedgerFile.{LedgerFile}
+use Rattle.ledger_types.specs.declared.version.FileVersion.{FileVersion}
+use Rattle.ledger_types.specs.declared.version.FileVersion.TheVariants.{V2}
 use Rattle.ledger_types.specs.declared.header.Settings.{Settings}
 use Rattle.ledger_types.specs.declared.header.Header.{Header}
 use Rattle.ledger_spec.specs.declared.Kept.{Kept}
@@ -30,13 +32,17 @@ record_of kept = record {
   ttl = record { key_hash = record { 0 = sha256 (key_bytes (key_of kept.entry)) }; live_until_ledger_seq = kept.live_until };
 }
 
--- the file of a ledger: its header, and its records sorted by the keys' bytes
-abbrev pub file_of : Header → LedgerMap → LedgerFile
-file_of header entries = record { header = header; records = map record_of (values entries) }
+-- a ledger's file of this version: its header, and its records sorted by the keys' bytes
+abbrev pub file_of : FileVersion → Header → LedgerMap → LedgerFile
+file_of version header entries = record { version = version; header = header; records = map record_of (values entries) }
 
--- the bytes of a ledger's file
+-- the bytes of a ledger's file of this version
+abbrev pub bytes_in : FileVersion → Header → LedgerMap → List ℕ
+bytes_in version header entries = file_format.spell (file_of version header entries)
+
+-- The bytes of a ledger's file. Only version 2 is written.
 abbrev pub ledger_bytes : Header → LedgerMap → List ℕ
-ledger_bytes header entries = file_format.spell (file_of header entries)
+ledger_bytes header entries = bytes_in V2 header entries
 
 -- ---- reading
 
@@ -49,6 +55,14 @@ abbrev pub are_settings : Settings → Bool
 are_settings settings =
     is_life settings settings.min_temporary_ttl && is_life settings settings.min_persistent_ttl
     && nat_le settings.max_entry_ttl 200000000 && nat_le 1 settings.terms.wasm_insn_exec.instructions.constant
+
+-- this program runs the ledgers of protocol 23 and later
+abbrev pub has_protocol : Header → Bool
+has_protocol header = nat_le 23 header.protocol
+
+-- the header is that of a ledger that this program can run on
+abbrev pub can_run : Header → Bool
+can_run header = has_protocol header && are_settings header.settings
 
 -- another ledger may follow this one
 abbrev pub has_next : Header → Bool
@@ -104,11 +118,11 @@ abbrev pub as_map : LedgerFile → Option LedgerRefusal → Result (Header × Le
 as_map file None = Ok (file.header, map_of file.records)
 as_map file (Some found) = Err found
 
--- The settings are tested first. If `follows` asks that another ledger may follow, the ledger's number comes next. Then
+-- The protocol and the settings are tested first. If `follows` asks that another ledger may follow, the ledger's number comes next. Then
 -- the records are tested one by one.
 abbrev pub judged : Bool → LedgerFile → Result (Header × LedgerMap) LedgerRefusal
 judged follows file =
-    if not (are_settings file.header.settings) then Err (refusal why.Settings 0)
+    if not (can_run file.header) then Err (refusal why.Settings 0)
     else if follows && not (has_next file.header) then Err (refusal why.SeqEnd 0)
     else as_map file (first_fault 0 None file.records)
 

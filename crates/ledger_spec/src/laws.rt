@@ -1,17 +1,18 @@
 //! Laws of what an access finds in a ledger's map, before and after a change.
 
-ghost use Rattle.std.specs.Prelude.{◌≡◌, ◌↔◌, ◌<◌, ◌≤◌, ℕ, ◌+◌, min, max, Some, None, Ok, Err, IsSomeAnd, IsTrue};
+ghost use Rattle.std.specs.Prelude.{◌≡◌, ◌↔◌, ◌<◌, ◌≤◌, ◌^◌, ℕ, Bool, false, ◌+◌, min, max, Some, None, Ok, Err, IsSomeAnd, IsTrue};
 ghost use Rattle.std.specs.Option.{option_map};
+ghost use Rattle.std.specs.FinMap.{insert, remove};
 ghost use Rattle.ledger_types.specs.Entry.{key_of};
 ghost use Rattle.ledger_types.specs.declared.key.LedgerKey.{LedgerKey};
 ghost use Rattle.ledger_types.specs.declared.entry.LedgerEntry.{LedgerEntry};
 ghost use Rattle.ledger_types.specs.declared.header.Settings.{Settings};
 ghost use Rattle.ledger_spec.specs.declared.Kept.{Kept};
-ghost use Rattle.ledger_spec.specs.LedgerMap.{LedgerMap, find};
+ghost use Rattle.ledger_spec.specs.LedgerMap.{LedgerMap, find, key_bytes, IsLedgerMap};
 ghost use Rattle.ledger_spec.specs.LedgerFile.{are_settings};
 ghost use Rattle.ledger_spec.specs.Seen.{seen, live, absent, archived};
-ghost use Rattle.ledger_spec.specs.Changes.{put, delete, extend, raise, Unextended};
-ghost use Rattle.ledger_spec.specs.ChangeLaws.{IsTemporary, last_of, living_until, OthersStay, IsPut, IsReason};
+ghost use Rattle.ledger_spec.specs.Changes.{put, delete, make, extend, raise, first_life, furthest, Unextended};
+ghost use Rattle.ledger_spec.specs.ChangeLaws.{IsTemporary, last_of, living_until, OthersStay, IsPut, IsMade, CanGet, IsReason};
 
 /// What an access finds in ledger n depends on the entry's live-until ledger; a key that is neither live nor archived is
 /// absent.
@@ -57,6 +58,46 @@ pub fn delete_is_absent()
     // the entries at other keys stay
     ensures others { (n : ℕ) (map after : LedgerMap) (key : LedgerKey)
         → delete n map key ≡ Some after → OthersStay key map after }
+{}
+
+/// An entry that is made at an absent key is there afterwards, with the given live-until ledger.
+pub fn make_is_seen()
+    // an absent key gets the entry, with n as its last modified ledger
+    ensures made { (n : ℕ) (map : LedgerMap) (entry : LedgerEntry) (live_until : ℕ)
+        → seen n map (key_of entry) ≡ absent → IsMade n entry live_until (make n map entry live_until) }
+    // the entry is live in ledger n, unless the given live-until ledger is below n
+    ensures lives { (n : ℕ) (map after : LedgerMap) (made : Bool) (entry : LedgerEntry) (live_until : ℕ) → n ≤ live_until
+        → seen n map (key_of entry) ≡ absent → make n map entry live_until ≡ Some (made, after)
+        → seen n after (key_of entry) ≡ live (record { entry = record entry { last_modified_ledger_seq = n }; live_until = live_until }) }
+    // a live entry stays as it is
+    ensures stays { (n : ℕ) (map : LedgerMap) (entry : LedgerEntry) (live_until : ℕ) (kept : Kept)
+        → seen n map (key_of entry) ≡ live kept → make n map entry live_until ≡ Some (false, map) }
+    // a make fails exactly if the key is archived
+    ensures refused { (n : ℕ) (map : LedgerMap) (entry : LedgerEntry) (live_until : ℕ)
+        → (make n map entry live_until ≡ None) ↔ (seen n map (key_of entry) ≡ archived) }
+    // the entries at other keys stay
+    ensures others { (n : ℕ) (map after : LedgerMap) (made : Bool) (entry : LedgerEntry) (live_until : ℕ)
+        → make n map entry live_until ≡ Some (made, after) → OthersStay (key_of entry) map after }
+{}
+
+/// An entry that is taken out of a map can be put back.
+pub fn taken_goes_back()
+    ensures { (map : LedgerMap) (key : LedgerKey) (kept : Kept)
+        → find map key ≡ Some kept → insert (remove map (key_bytes key)) (key_bytes key) kept ≡ map }
+{}
+
+/// A ledger's map stays a ledger's map when it changes.
+pub fn changes_keep_ledger_maps()
+    ensures put { (settings : Settings) (n : ℕ) (map after : LedgerMap) (entry : LedgerEntry) → CanGet n map entry
+        → first_life settings n entry < 2 ^ 32 → put settings n map entry ≡ Some after → IsLedgerMap after }
+    ensures delete { (n : ℕ) (map after : LedgerMap) (key : LedgerKey)
+        → IsLedgerMap map → delete n map key ≡ Some after → IsLedgerMap after }
+    ensures make { (n : ℕ) (map after : LedgerMap) (made : Bool) (entry : LedgerEntry) (live_until : ℕ) → CanGet n map entry
+        → live_until < 2 ^ 32 → make n map entry live_until ≡ Some (made, after) → IsLedgerMap after }
+    ensures extend { (settings : Settings) (n : ℕ) (map after : LedgerMap) (key : LedgerKey) (threshold extend_to : ℕ) → IsLedgerMap map
+        → furthest settings n < 2 ^ 32 → extend settings n map key threshold extend_to ≡ Ok after → IsLedgerMap after }
+    ensures raise { (map : LedgerMap) (key : LedgerKey) (live_until : ℕ)
+        → IsLedgerMap map → live_until < 2 ^ 32 → IsLedgerMap (raise map key live_until) }
 {}
 
 /// An extension never shortens a life. It lengthens the life of a live entry that has few ledgers left.

@@ -2,9 +2,14 @@
 #![tactic(auto)]
 
 mod laws;
+mod state;
 
-pub use laws::{delete_is_absent, extend_is_longer, put_is_seen, raise_is_longest, seen_by_life};
+pub use laws::{
+    changes_keep_ledger_maps, delete_is_absent, extend_is_longer, make_is_seen, put_is_seen,
+    raise_is_longest, seen_by_life, taken_goes_back,
+};
 use ledger_types::LedgerEntry;
+pub use state::{KeyState, first_life, is_temporary, state_of};
 
 /// An entry and the last ledger in which it is live.
 #[derive(Drop)]
@@ -24,7 +29,7 @@ pub enum LedgerWhy {
     TtlHash,
     /// 4: the hash of a code entry is not the hash of its code.
     CodeHash,
-    /// 5: a setting is out of its range.
+    /// 5: the protocol is below 23, or a setting is out of its range.
     Settings,
     /// 6: the ledger's number is too high for another ledger to follow.
     SeqEnd,

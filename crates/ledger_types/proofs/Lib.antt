@@ -1,2 +1,3 @@
 pub mod Widths
-mod KeyLaws
+pub mod Ranking
+pub mod KeyLaws

@@ -11,7 +11,7 @@ use Rattle.value_types.specs.Headed.{headed, headed_lawful}
 use Rattle.value_types.specs.Hash.{hash_format, hash_lawful}
 use Rattle.value_types.specs.Address.{address_format, address_lawful}
 use Rattle.value_types.specs.Formats.{scval_format}
-use Rattle.value_types.specs.Lawful.{scval_lawful}
+use Rattle.value_types.proofs.Lawful.{scval_lawful}
 use Rattle.value_types.specs.declared.hash.Hash.{Hash}
 use Rattle.value_types.specs.declared.address.ScAddress.{ScAddress}
 use Rattle.value_types.specs.declared.value.ScVal.{ScVal}

@@ -3,10 +3,13 @@ pub mod AssetCode
 pub mod TrustLineAsset
 pub mod EntryType
 pub mod Key
+pub mod KeyOrder
 pub mod ContractEntries
 pub mod Entry
 pub mod Record
 pub mod Terms
+pub mod FileVersion
 pub mod Header
 pub mod File
 pub mod Verdicts
+pub mod Equality

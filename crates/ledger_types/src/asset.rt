@@ -7,8 +7,8 @@ ghost use Rattle.ledger_types.specs.TrustLineAsset.{number, kind_of, kind, type_
 
 use std::alloc::{AllocError, Global};
 use value_types::{AccountId, Hash};
-use value_xdr::Xdr;
-use xdr_core::{Cursor, NoMemory, Out, ReadXdr, Why, XdrErr, add_sizes};
+use value_xdr::{Xdr, named};
+use xdr_core::{Cursor, NoMemory, Out, ReadXdr, add_sizes};
 
 /// The code of an asset, at most four characters (`AssetCode4`).
 #[derive(Debug, PartialEq, Eq)]
@@ -126,11 +126,7 @@ impl Xdr for AssetType {
 
     fn read_parts(_alloc: Global, input: &mut Cursor<'_>) -> Result<AssetType, ReadXdr> {
         let place = input.place();
-        let number = input.u32()?;
-        AssetType::from_number(number).ok_or(ReadXdr::Bad(XdrErr {
-            at: place,
-            why: Why::Tag,
-        }))
+        named(AssetType::from_number(input.u32()?), place)
     }
 
     fn write_parts(&self, out: &mut Out) -> Result<(), NoMemory> {

@@ -4,8 +4,8 @@ ghost use Rattle.std.specs.Prelude.{◌≡◌};
 ghost use Rattle.ledger_types.specs.Durability.{number, kind_of, durability_format, durability_lawful};
 
 use std::alloc::Global;
-use value_xdr::Xdr;
-use xdr_core::{Cursor, NoMemory, Out, ReadXdr, Why, XdrErr};
+use value_xdr::{Xdr, named};
+use xdr_core::{Cursor, NoMemory, Out, ReadXdr};
 
 /// The durability of contract data (`ContractDataDurability`).
 #[derive(Clone, Copy, Debug, PartialEq, Eq)]
@@ -45,11 +45,7 @@ impl Xdr for Durability {
 
     fn read_parts(_alloc: Global, input: &mut Cursor<'_>) -> Result<Durability, ReadXdr> {
         let place = input.place();
-        let number = input.u32()?;
-        Durability::from_number(number).ok_or(ReadXdr::Bad(XdrErr {
-            at: place,
-            why: Why::Tag,
-        }))
+        named(Durability::from_number(input.u32()?), place)
     }
 
     fn write_parts(&self, out: &mut Out) -> Result<(), NoMemory> {

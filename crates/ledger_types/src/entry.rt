@@ -6,8 +6,8 @@ ghost use Rattle.ledger_types.specs.Entry.{number, kind_of, type_format, type_la
 
 use crate::contract_entries::{ContractCodeEntry, ContractDataEntry, EXTENSION_SIZE, NO_EXTENSION};
 use std::alloc::{AllocError, Global};
-use value_xdr::{Xdr, read_head};
-use xdr_core::{Cursor, NoMemory, Out, ReadXdr, Why, XdrErr, add_sizes};
+use value_xdr::{Xdr, named, read_head};
+use xdr_core::{Cursor, NoMemory, Out, ReadXdr, add_sizes};
 
 /// The types of entries in this program's ledgers: those of `LedgerEntryType` that belong to contracts.
 #[derive(Clone, Copy, Debug, PartialEq, Eq)]
@@ -45,11 +45,7 @@ impl Xdr for ContractEntryType {
 
     fn read_parts(_alloc: Global, input: &mut Cursor<'_>) -> Result<ContractEntryType, ReadXdr> {
         let place = input.place();
-        let number = input.u32()?;
-        ContractEntryType::from_number(number).ok_or(ReadXdr::Bad(XdrErr {
-            at: place,
-            why: Why::Tag,
-        }))
+        named(ContractEntryType::from_number(input.u32()?), place)
     }
 
     fn write_parts(&self, out: &mut Out) -> Result<(), NoMemory> {

@@ -4,8 +4,8 @@ ghost use Rattle.std.specs.Prelude.{◌≡◌};
 ghost use Rattle.ledger_types.specs.EntryType.{number, kind_of, type_format, type_lawful};
 
 use std::alloc::Global;
-use value_xdr::Xdr;
-use xdr_core::{Cursor, NoMemory, Out, ReadXdr, Why, XdrErr};
+use value_xdr::{Xdr, named};
+use xdr_core::{Cursor, NoMemory, Out, ReadXdr};
 
 /// The types of ledger entries (`LedgerEntryType`, without configuration settings).
 #[derive(Clone, Copy, Debug, PartialEq, Eq)]
@@ -64,11 +64,7 @@ impl Xdr for LedgerEntryType {
 
     fn read_parts(_alloc: Global, input: &mut Cursor<'_>) -> Result<LedgerEntryType, ReadXdr> {
         let place = input.place();
-        let number = input.u32()?;
-        LedgerEntryType::from_number(number).ok_or(ReadXdr::Bad(XdrErr {
-            at: place,
-            why: Why::Tag,
-        }))
+        named(LedgerEntryType::from_number(input.u32()?), place)
     }
 
     fn write_parts(&self, out: &mut Out) -> Result<(), NoMemory> {

@@ -1,46 +1,59 @@
 //! The file of a ledger.
 
-ghost use Rattle.ledger_types.specs.File.{file_format, file_lawful};
+ghost use Rattle.xdr_core.specs.Reads.{Reads};
+ghost use Rattle.ledger_types.specs.File.{rest_format, file_format, file_lawful};
 
-use crate::header::Header;
+use crate::header::{Header, header_size, read_header, write_header};
 use crate::record::LedgerRecord;
+use crate::version::FileVersion;
 use std::alloc::Global;
 use value_types::Items;
-use value_xdr::{Xdr, read_head};
+use value_xdr::Xdr;
 use xdr_core::{Cursor, NoMemory, Out, ReadXdr, add_sizes};
-
-/// The version of the files that this program reads and writes.
-pub const LEDGER_FILE_VERSION: u32 = 1;
-
-/// The length of the version in bytes.
-const VERSION_SIZE: u64 = 4;
 
 /// The content of a ledger's file (own), before it is checked to be a ledger.
 #[derive(Drop)]
 pub struct LedgerFile {
+    pub version: FileVersion,
     pub header: Header,
     pub records: Items<LedgerRecord, 4294967295>,
 }
 
-#[tactic(auto, unfolding(crate::specs::File::file_format, xdr_core::specs::Sizes::capped))]
+/// Reads what follows the number of this version.
+#[tactic(auto, unfolding(crate::specs::File::rest_format))]
+fn read_rest(
+    alloc: Global,
+    input: &mut Cursor<'_>,
+    version: FileVersion,
+) -> Result<LedgerFile, ReadXdr>
+    ensures { Reads (rest_format version).read input.old input.new result }
+{
+    let header = read_header(alloc, input, version)?;
+    let records = Items::<LedgerRecord, 4294967295>::read(alloc, input)?;
+    Ok(LedgerFile {
+        version,
+        header,
+        records,
+    })
+}
+
+#[tactic(auto, unfolding(crate::specs::File::file_format, crate::specs::File::rest_format, crate::specs::FileVersion::version_format, xdr_core::specs::Sizes::capped))]
 impl Xdr for LedgerFile {
     ghost format = { file_format };
 
     fn read_parts(alloc: Global, input: &mut Cursor<'_>) -> Result<LedgerFile, ReadXdr> {
-        read_head(input, LEDGER_FILE_VERSION)?;
-        let header = Header::read(alloc, input)?;
-        let records = Items::<LedgerRecord, 4294967295>::read(alloc, input)?;
-        Ok(LedgerFile { header, records })
+        let version = FileVersion::read(alloc, input)?;
+        read_rest(alloc, input, version)
     }
 
     fn write_parts(&self, out: &mut Out) -> Result<(), NoMemory> {
-        out.put_u32(LEDGER_FILE_VERSION)?;
-        self.header.write(out)?;
+        self.version.write(out)?;
+        write_header(&self.header, out, self.version)?;
         self.records.write(out)
     }
 
     fn size(&self) -> u64 {
-        let size = add_sizes(VERSION_SIZE, self.header.size());
+        let size = add_sizes(self.version.size(), header_size(&self.header, self.version));
         add_sizes(size, self.records.size())
     }
 

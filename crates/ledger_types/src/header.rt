@@ -1,9 +1,13 @@
 //! Settings and headers of ledgers.
 
-ghost use Rattle.std.specs.Prelude.{◌≡◌, ⊤};
-ghost use Rattle.ledger_types.specs.Header.{settings_format, settings_lawful, header_format, header_lawful};
+ghost use Rattle.std.specs.Prelude.{◌≡◌, ◌++◌, ⊤, length, OnOk, OnErr};
+ghost use Rattle.xdr_core.specs.Reads.{Reads};
+ghost use Rattle.xdr_core.specs.Sizes.{capped};
+ghost use Rattle.xdr_core.specs.Writes.{StartsWith};
+ghost use Rattle.ledger_types.specs.Header.{settings_format, settings_lawful, header_in, header_format, header_lawful};
 
 use crate::terms::{TERMS_SIZE, read_terms, write_terms};
+use crate::version::{FileVersion, protocol_size, read_protocol, write_protocol};
 use budget_meter::Terms;
 use std::alloc::{AllocError, Global};
 use value_types::Hash;
@@ -76,6 +80,8 @@ impl Xdr for Settings {
 pub struct Header {
     /// The SHA-256 of the network's passphrase.
     pub network_id: Hash,
+    /// The version of the protocol, 23 or higher.
+    pub protocol: u32,
     /// The ledger's number.
     pub seq: u32,
     /// The close time, in seconds since 1970.
@@ -95,34 +101,70 @@ impl Clone for Header {
 
 impl Copy for Header {}
 
-#[tactic(auto, unfolding(crate::specs::Header::header_format, xdr_core::specs::Sizes::capped))]
+/// Reads the header of a file of this version. After an error the cursor may stand anywhere.
+#[tactic(auto, unfolding(crate::specs::Header::header_in))]
+pub fn read_header(
+    alloc: Global,
+    input: &mut Cursor<'_>,
+    version: FileVersion,
+) -> Result<Header, ReadXdr>
+    ensures { Reads (header_in version).read input.old input.new result }
+{
+    let network_id = Hash::read(alloc, input)?;
+    let protocol = read_protocol(alloc, input, version)?;
+    let seq = u32::read(alloc, input)?;
+    let close_time = u64::read(alloc, input)?;
+    let settings = Settings::read(alloc, input)?;
+    Ok(Header {
+        network_id,
+        protocol,
+        seq,
+        close_time,
+        settings,
+    })
+}
+
+/// Writes the header of a file of this version.
+#[tactic(auto, unfolding(crate::specs::Header::header_in))]
+pub fn write_header(header: &Header, out: &mut Out, version: FileVersion) -> Result<(), NoMemory>
+    requires { (header_in version).fits header.now }
+    ensures ok { OnOk result (out.new ≡ out.old ++ (header_in version).spell header.now) }
+    ensures err { OnErr result (StartsWith out.new out.old) }
+{
+    header.network_id.write(out)?;
+    write_protocol(header.protocol, out, version)?;
+    header.seq.write(out)?;
+    header.close_time.write(out)?;
+    header.settings.write(out)
+}
+
+/// The length of the header in a file of this version, in bytes.
+#[tactic(auto, unfolding(crate::specs::Header::header_in, xdr_core::specs::Sizes::capped))]
+pub fn header_size(header: &Header, version: FileVersion) -> u64
+    ensures { (header_in version).fits header.now → result ≡ capped (length ((header_in version).spell header.now)) }
+{
+    let size = add_sizes(
+        header.network_id.size(),
+        protocol_size(header.protocol, version),
+    );
+    let size = add_sizes(size, header.seq.size());
+    let size = add_sizes(size, header.close_time.size());
+    add_sizes(size, header.settings.size())
+}
+
 impl Xdr for Header {
     ghost format = { header_format };
 
     fn read_parts(alloc: Global, input: &mut Cursor<'_>) -> Result<Header, ReadXdr> {
-        let network_id = Hash::read(alloc, input)?;
-        let seq = u32::read(alloc, input)?;
-        let close_time = u64::read(alloc, input)?;
-        let settings = Settings::read(alloc, input)?;
-        Ok(Header {
-            network_id,
-            seq,
-            close_time,
-            settings,
-        })
+        read_header(alloc, input, FileVersion::V2)
     }
 
     fn write_parts(&self, out: &mut Out) -> Result<(), NoMemory> {
-        self.network_id.write(out)?;
-        self.seq.write(out)?;
-        self.close_time.write(out)?;
-        self.settings.write(out)
+        write_header(self, out, FileVersion::V2)
     }
 
     fn size(&self) -> u64 {
-        let size = add_sizes(self.network_id.size(), self.seq.size());
-        let size = add_sizes(size, self.close_time.size());
-        add_sizes(size, self.settings.size())
+        header_size(self, FileVersion::V2)
     }
 
     ghost lawful = { header_lawful };

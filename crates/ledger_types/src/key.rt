@@ -2,8 +2,6 @@
 
 ghost use Rattle.std.specs.Prelude.{◌≡◌};
 ghost use Rattle.xdr_core.specs.Reads.{Reads};
-ghost use Rattle.value_types.specs.Headed.{headed};
-ghost use Rattle.value_types.specs.Hash.{hash_format};
 ghost use Rattle.ledger_types.specs.Key.{kind, arms, key_format, key_lawful};
 
 use crate::asset::TrustLineAsset;
@@ -11,7 +9,7 @@ use crate::durability::Durability;
 use crate::entry_type::LedgerEntryType;
 use std::alloc::{AllocError, Global};
 use value_types::{AccountId, Bytes, Hash, ScAddress, ScVal};
-use value_xdr::{Xdr, read_head};
+use value_xdr::{Xdr, read_balance_id, size_of_balance_id, write_balance_id};
 use xdr_core::{Cursor, NoMemory, Out, ReadXdr, add_sizes};
 
 /// The key of a ledger entry (`LedgerKey`, without configuration settings).
@@ -49,12 +47,6 @@ pub enum LedgerKey {
     /// 9: the SHA-256 of the key of the entry that it belongs to.
     Ttl(Hash),
 }
-
-/// The number of the only type of a claimable balance's id.
-const BALANCE_ID: u32 = 0;
-
-/// The length of that number in bytes.
-const BALANCE_ID_SIZE: u64 = 4;
 
 impl Clone for LedgerKey {
     ghost is_clone = { λ v w. w ≡ v };
@@ -108,13 +100,6 @@ impl LedgerKey {
             LedgerKey::Ttl(_) => LedgerEntryType::Ttl,
         }
     }
-}
-
-fn read_balance_id(alloc: Global, input: &mut Cursor<'_>) -> Result<Hash, ReadXdr>
-    ensures { Reads (headed 0 hash_format).read input.old input.new result }
-{
-    read_head(input, BALANCE_ID)?;
-    Hash::read(alloc, input)
 }
 
 fn read_trustline(alloc: Global, input: &mut Cursor<'_>) -> Result<LedgerKey, ReadXdr>
@@ -201,10 +186,7 @@ impl Xdr for LedgerKey {
                 account.write(out)?;
                 name.write(out)
             }
-            LedgerKey::ClaimableBalance(id) => {
-                out.put_u32(BALANCE_ID)?;
-                id.write(out)
-            }
+            LedgerKey::ClaimableBalance(id) => write_balance_id(id, out),
             LedgerKey::LiquidityPool(id) => id.write(out),
             LedgerKey::ContractData {
                 contract,
@@ -226,7 +208,7 @@ impl Xdr for LedgerKey {
             LedgerKey::Trustline { account, asset } => add_sizes(account.size(), asset.size()),
             LedgerKey::Offer { seller, offer } => add_sizes(seller.size(), offer.size()),
             LedgerKey::Data { account, name } => add_sizes(account.size(), name.size()),
-            LedgerKey::ClaimableBalance(id) => add_sizes(BALANCE_ID_SIZE, id.size()),
+            LedgerKey::ClaimableBalance(id) => size_of_balance_id(id),
             LedgerKey::LiquidityPool(id) => id.size(),
             LedgerKey::ContractData {
                 contract,

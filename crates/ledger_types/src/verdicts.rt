@@ -1,6 +1,6 @@
 //! Verdicts: the good signatures.
 
-ghost use Rattle.std.specs.Prelude.{◌≡◌, ◌↔◌, ⊤, IsTrue, Contains};
+ghost use Rattle.std.specs.Prelude.{◌≡◌, ◌↔◌, ⊤, IfOk, IsTrue, Contains};
 ghost use Rattle.ledger_types.specs.Verdicts.{verdict_of, verdict_format, verdict_lawful, verdicts_format, verdicts_lawful};
 
 use std::alloc::{AllocError, Global};
@@ -56,6 +56,17 @@ impl Xdr for Verdict {
 pub struct Verdicts {
     /// In any order.
     pub pairs: Items<Verdict, 4294967295>,
+}
+
+impl Clone for Verdicts {
+    ghost is_clone = { λ v w. w ≡ v };
+
+    fn clone(&self) -> Result<Verdicts, AllocError>
+        ensures { IfOk result (λ v. v ≡ self.now) }
+    {
+        let pairs = self.pairs.clone()?;
+        Ok(Verdicts { pairs })
+    }
 }
 
 impl Verdicts {

@@ -1,3 +1,1 @@
 pub mod Exact
-mod Failing
-mod Functions

@@ -28,7 +28,7 @@ fn run<R: Runtime + AllocGlobal>(rt: &R) -> Option<usize> {
     let mut words = std::env::args(rt).ok()?.skip(1);
     let name = Word::new(words.next()?);
     let times = words.next()?.parse::<u32>().ok()?;
-    let mut files = RealFiles::new(rt.clone().ok()?);
+    let mut files = RealFiles::new(rt.clone().ok()?, alloc, name.as_str().len()).ok()?;
     let file = read_whole(alloc, &mut files, 0, &name).ok()?;
     again(alloc, &file, times)
 }

@@ -3,10 +3,6 @@ use Rattle.std.proofs.Common.{◌≡◌, ℕ, ◌-◌, ◌^◌, List, ◌++◌, 
 use Rattle.std.specs.Prelude.{codes, decimal, min}
 use Rattle.std.specs.FinMap.{entries, len}
 use Rattle.std.specs.List.{flat_map}
-use Rattle.entry_map.specs.Slots.{pairs_of}
-use Rattle.entry_map.specs.declared.slot.Slot.{Slot}
-use Rattle.ledger_file.proofs.Keys.{slots_len}
-use Rattle.ledger_spec.specs.LedgerMap.{LedgerMap}
 use Rattle.ledger_types.specs.declared.header.Header.{Header}
 use Rattle.value_types.specs.Depth.{value_depth}
 use Rattle.value_types.specs.Formats.{kind, scval_format}
@@ -27,10 +23,3 @@ value_shown v a b c line t s d fits is_type is_size is_depth first second third 
     ∙ ap (λ n. codes "type " ++ decimal n ++ codes " size " ++ decimal s ++ codes " depth " ++ decimal d ++ codes "\n") is_type
     ∙ ap (λ n. codes "type " ++ decimal (number (kind v)) ++ codes " size " ++ decimal n ++ codes " depth " ++ decimal d ++ codes "\n") is_size
     ∙ ap (λ n. codes "type " ++ decimal (number (kind v)) ++ codes " size " ++ decimal (length (scval_format.spell v)) ++ codes " depth " ++ decimal n ++ codes "\n") (depth_shown v d fits is_depth)
-
--- the lines of a map's entries, by the slots that hold them
-pub ledger_shown : (header : Header) (m : LedgerMap) (slots : List Slot) (first lines : List ℕ) → pairs_of slots ≡ entries m → first ≡ header_line header (length slots) → lines ≡ first ++ flat_map record_line (pairs_of slots) → lines ≡ ledger_lines header m
-ledger_shown header m slots first lines same is_first is =
-    is
-    ∙ ap (λ l. l ++ flat_map record_line (pairs_of slots)) (is_first ∙ ap (header_line header) (slots_len m slots same))
-    ∙ ap (λ es. header_line header (len m) ++ flat_map record_line es) same

@@ -1,12 +1,13 @@
 -- The lines of a transaction set (own; sets and transactions are those of the Stellar XDR files).
 use Rattle.std.specs.Prelude.{ℕ, ◌+◌, List, [], ◌∷◌, ◌++◌, codes, decimal}
 use Rattle.std.specs.Fmt.{signed_decimal}
+use Rattle.tx_xdr.specs.Envelope.{transaction_in}
 use Rattle.tx_xdr.specs.Operation.{kind, number}
 use Rattle.tx_xdr.specs.Stages.{stages_of}
 use Rattle.tx_xdr.specs.declared.set.Cluster.{Cluster}
 use Rattle.tx_xdr.specs.declared.set.Stage.{Stage}
 use Rattle.tx_xdr.specs.declared.set.TxSet.{TxSet}
-use Rattle.tx_xdr.specs.declared.transaction.Envelope.{Envelope}
+use Rattle.tx_xdr.specs.declared.envelope.Envelope.{Envelope}
 use Rattle.tx_xdr.specs.declared.transaction.Operation.{Operation}
 
 -- the number of the first operation
@@ -14,11 +15,12 @@ abbrev pub operation_name : List Operation → List ℕ
 operation_name [] = codes "none"
 operation_name (operation ∷ others) = decimal (number (kind operation.body))
 
--- the number of its stage, the number of its cluster, its index, its first operation, and its sequence number
+-- the number of its stage, the number of its cluster, its index, its first operation, and its sequence number; of a fee bump the
+-- last two are its inner transaction's
 abbrev pub envelope_line_at : ℕ → ℕ → ℕ → Envelope → List ℕ
 envelope_line_at stage cluster index envelope =
     decimal stage ++ codes " " ++ decimal cluster ++ codes " " ++ decimal index ++ codes " "
-    ++ operation_name envelope.tx.operations ++ codes " " ++ signed_decimal envelope.tx.seq_num ++ codes "\n"
+    ++ operation_name (transaction_in envelope).operations ++ codes " " ++ signed_decimal (transaction_in envelope).seq_num ++ codes "\n"
 
 -- the lines of the items of a list, numbered from `from`
 abbrev pub numbered : {A : Type 0} → (ℕ → A → List ℕ) → ℕ → List A → List ℕ

@@ -2,11 +2,13 @@
 
 ghost use Rattle.std.specs.Prelude.{◌≡◌, ◌++◌, length, OnOk, IfOk};
 ghost use Rattle.std.specs.List.{flat_map};
-ghost use Rattle.entry_map.specs.Slots.{pairs_of};
+ghost use Rattle.std.specs.FinMap.{entries as entries_of};
+ghost use Rattle.ledger_types.specs.Entry.{key_of};
+ghost use Rattle.ledger_spec.specs.LedgerMap.{key_bytes};
 ghost use Rattle.show_lines.specs.LedgerLines.{header_line, ledger_lines, record_line, value_line};
 ghost use Rattle.value_types.specs.Formats.{scval_format};
 
-use entry_map::Slot;
+use entry_map::{EntryMap, StoredEntry};
 use ledger_file::Ledger;
 use ledger_types::Header;
 use std::alloc::{AllocError, Global};
@@ -31,9 +33,8 @@ pub fn value_line(alloc: Global, value: &ScVal, size: usize) -> Result<Vec<u8>, 
 pub fn ledger_lines(alloc: Global, ledger: &Ledger) -> Result<Vec<u8>, AllocError>
     ensures { IfOk result (λ v. v.items ≡ ledger_lines ledger.now.header ledger.now.entries) }
 {
-    let slots = ledger.entries.as_slice();
-    let mut lines = header_line(alloc, &ledger.header, slots.len())?;
-    push_records(alloc, &mut lines, slots)?;
+    let mut lines = header_line(alloc, &ledger.header, ledger.entries.len())?;
+    push_records(alloc, &mut lines, &ledger.entries)?;
     Ok(lines)
 }
 
@@ -47,18 +48,18 @@ fn header_line(alloc: Global, header: &Header, records: usize) -> Result<Vec<u8>
     Ok(line)
 }
 
-fn push_records(alloc: Global, lines: &mut Vec<u8>, slots: &[Slot]) -> Result<(), AllocError>
-    ensures { OnOk result (lines.new.items ≡ lines.old.items ++ flat_map record_line (pairs_of slots.now)) }
+fn push_records(alloc: Global, lines: &mut Vec<u8>, entries: &EntryMap) -> Result<(), AllocError>
+    ensures { OnOk result (lines.new.items ≡ lines.old.items ++ flat_map record_line (entries_of entries.now)) }
 {
-    for slot in slots {
-        push_record(alloc, lines, slot)?;
+    for (_key, stored) in entries.iter() {
+        push_record(alloc, lines, stored)?;
     }
     Ok(())
 }
 
-fn push_record(alloc: Global, lines: &mut Vec<u8>, slot: &Slot) -> Result<(), AllocError>
-    ensures { OnOk result (lines.new.items ≡ lines.old.items ++ record_line (slot.now.key, slot.now.kept)) }
+fn push_record(alloc: Global, lines: &mut Vec<u8>, stored: &StoredEntry) -> Result<(), AllocError>
+    ensures { OnOk result (lines.new.items ≡ lines.old.items ++ record_line (key_bytes (key_of stored.now.kept.entry), stored.now.kept)) }
 {
-    push_hex(alloc, lines, &slot.key_hash.0, b" ")?;
-    push_number(lines, slot.kept.live_until as u64, b"\n")
+    push_hex(alloc, lines, &stored.key_hash.0, b" ")?;
+    push_number(lines, stored.kept.live_until as u64, b"\n")
 }

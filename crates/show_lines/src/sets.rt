@@ -17,7 +17,8 @@ enum Part<'a> {
 }
 
 /// The lines of a set, one for each transaction in order: the number of its stage in the whole set, of its cluster in the stage, its
-/// index in the cluster, each from 0; the number of its first operation, or `none`; and its sequence number.
+/// index in the cluster, each from 0; the number of its first operation, or `none`; and its sequence number. Of a fee bump the last
+/// two are its inner transaction's.
 pub fn set_lines(alloc: Global, set: &TxSet) -> Result<Vec<u8>, AllocError>
     ensures { IfOk result (λ v. v.items ≡ set_lines set.now) }
 {
@@ -132,8 +133,9 @@ fn push_envelope(
     push_number(lines, stage, b" ")?;
     push_number(lines, cluster, b" ")?;
     push_number(lines, index, b" ")?;
-    push_operation(lines, envelope.tx.operations.as_slice())?;
-    push_signed(lines, envelope.tx.seq_num, b"\n")
+    let tx = envelope.transaction();
+    push_operation(lines, tx.operations.as_slice())?;
+    push_signed(lines, tx.seq_num, b"\n")
 }
 
 fn push_operation(lines: &mut Vec<u8>, operations: &[Operation]) -> Result<(), AllocError>

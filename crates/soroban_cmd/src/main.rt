@@ -1,7 +1,7 @@
 //! The program: runs `soroban` on the process's words, over the operating system's files and standard output.
 #![tactic(auto)]
 
-use edge_io::{OpenGate, RealFiles, StdSay, Word};
+use edge_io::{OpenGate, RealFiles, StdSay, Word, longest};
 use soroban_top::{Status, finish, soroban};
 use std::alloc::AllocError;
 use std::io;
@@ -19,13 +19,19 @@ fn main(rt: HostRuntime) -> ExitCode {
 
 fn run<R: Runtime + AllocGlobal + Threads + Sync>(rt: &R) -> Result<Status, AllocError> {
     let alloc = rt.alloc();
-    let mut files = RealFiles::new(rt.clone()?);
     let mut say = StdSay::new(rt.clone()?);
-    let status = match words(rt) {
-        Ok(words) => soroban(rt, alloc, &words, &mut files, &mut say, &OpenGate),
+    let status = match begin(rt) {
+        Ok((words, mut files)) => soroban(rt, alloc, &words, &mut files, &mut say, &OpenGate),
         Err(status) => finish(alloc, Err(status), &mut say),
     };
     Ok(status)
+}
+
+/// The words, and files with room for the names that these words can give.
+fn begin<R: Runtime + AllocGlobal>(rt: &R) -> Result<(Vec<Word>, RealFiles<R>), Status> {
+    let words = words(rt)?;
+    let files = RealFiles::new(rt.clone()?, rt.alloc(), longest(&words))?;
+    Ok((words, files))
 }
 
 /// The words after the program's name. Words that are not text are wrong words.

@@ -1,12 +1,14 @@
 -- What a command leaves that stopped before it stored.
-use Rattle.std.proofs.Common.{◌≡◌, ℕ, List, [], ◌∷◌, Some, None, IfSome, Result, Ok, Err, inl, inr}
+use Rattle.std.proofs.Common.{◌≡◌, ℕ, List, [], ◌∷◌, Option, Some, None, IfSome, Result, Ok, Err, inl, inr}
+use Rattle.command_words.specs.declared.request.Request.{Request}
 use Rattle.edge_io.specs.Contents.{Contents, FileMap}
 use Rattle.soroban_top.specs.Counts.{HasCause, HasFaulted}
 use Rattle.soroban_top.specs.Product.{File, Job, Made}
 use Rattle.soroban_top.specs.Left.{IsNameOf, Leaves, StoresPrefix}
+use Rattle.soroban_top.specs.Outcome.{ReadsWords}
 use Rattle.soroban_top.specs.Steps.{UnlessFault}
 use Rattle.soroban_top.specs.declared.status.Status.{Status}
-use Rattle.soroban_top.specs.declared.status.Status.TheVariants.{Done, Fault, NoMemory}
+use Rattle.soroban_top.specs.declared.status.Status.TheVariants.{Done, Fault, NoMemory, Usage}
 
 -- a fault is of one of the files
 name_of_fault : (files : List File) (name : List ℕ) (old new : ℕ → ℕ) → HasFaulted files name old new → IsNameOf files name
@@ -25,6 +27,17 @@ leaves_all (Fault name) reads (Ok made) old new counts later e cause = inl (name
 leaves_all (Fault name) reads (Err refusal) old new counts later e cause = (name_of_fault reads name counts later cause, e)
 leaves_all NoMemory reads (Ok made) old new counts later e cause = prefix_none made.stores old new e
 leaves_all status reads outcome old new counts later e cause = e
+
+-- words that are no request leave all as it was
+no_request : (status : Status) (asked : Option Request) (reads : List File) (outcome : Result Made Status) (old new : Contents) → new ≡ old → ReadsWords {X = Request} (Err status) asked → Leaves status reads outcome old new
+no_request Usage asked reads outcome old new e h = e
+no_request NoMemory asked reads (Ok made) old new e h = prefix_none made.stores old new e
+no_request NoMemory asked reads (Err refusal) old new e h = e
+no_request status asked reads outcome old new e h = absurd h
+
+pub stopped_asking : (known old new : Contents) (status : Status) (asked : Option Request) (reads : List File) (outcome : FileMap → Result Made Status) → new ≡ old → ReadsWords {X = Request} (Err status) asked → IfSome known (λ m. Leaves status reads (outcome m) old new)
+stopped_asking None old new status asked reads outcome e h = tt
+stopped_asking (Some m) old new status asked reads outcome e h = no_request status asked reads (outcome m) old new e h
 
 -- a command that stopped while it read leaves all as it was
 pub stopped_reading : (known old new : Contents) (status : Status) (reads : List File) (outcome : FileMap → Result Made Status) (counts later : ℕ → ℕ) → new ≡ old → HasCause reads counts later status → IfSome known (λ m. Leaves status reads (outcome m) old new)

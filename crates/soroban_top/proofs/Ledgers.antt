@@ -17,7 +17,8 @@ use Rattle.xdr_spec.specs.Format.{IsBytes}
 use Rattle.xdr_spec.specs.Refusal.{Refuses}
 use Rattle.xdr_spec.specs.declared.Why.{Why}
 use Rattle.soroban_top.specs.Judged.{as_ledger, ledger_in}
-use Rattle.soroban_top.specs.Laws.{LedgerDoneLaw, LedgerLaw, LedgerShownLaw}
+use Rattle.soroban_top.specs.Laws.{LedgerDoneLaw, LedgerLaw, LedgerShownLaw, MigrateDoneLaw, MigrateLaw, MigrateRefusedLaw}
+use Rattle.soroban_top.specs.Migrated.{migrated}
 use Rattle.soroban_top.specs.Outcome.{applied, only_said, outputs_of}
 use Rattle.soroban_top.specs.Product.{file}
 use Rattle.soroban_top.specs.Shown.{any_ledger_in}
@@ -80,3 +81,17 @@ pub ledger_done : LedgerDoneLaw
 unfolding any_ledger_in
 ledger_done s m bytes kind given =
     rw (given.has_text, given.opens, kind, two_steps (ledger_of false bytes) (λ l. ledger_lines l.0 l.1) only_said) (shown_done bytes (λ l. only_said (ledger_lines l.0 l.1)) given.are_bytes)
+
+-- ---- migrate
+
+pub migrate_refused : MigrateRefusedLaw
+unfolding any_ledger_in
+migrate_refused g m bytes given at = rw given.has_ledger (ledger_due false bytes (λ l. Ok (migrated (file 1 g.ledger_out) l)) at given.are_bytes (λ l h. cc))
+
+pub migrate_done : MigrateDoneLaw
+unfolding any_ledger_in
+migrate_done g m bytes given = rw given.has_ledger (shown_done bytes (λ l. migrated (file 1 g.ledger_out) l) given.are_bytes)
+
+pub migrate_stores : MigrateLaw
+unfolding any_ledger_in
+migrate_stores g m bytes header entries has is = rw (has, file_is_read false bytes header entries is) refl

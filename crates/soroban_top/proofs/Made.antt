@@ -5,7 +5,7 @@ use Rattle.apply_spec.specs.Outputs.{outputs_after, outputs_with}
 use Rattle.apply_spec.specs.Runs.{RunState, new_header, success_preimages}
 use Rattle.invoke_types.specs.declared.success.SuccessPreimage.{SuccessPreimage}
 use Rattle.ledger_spec.specs.LedgerFile.{has_next}
-use Rattle.ledger_types.specs.Header.{header_format}
+use Rattle.ledger_types.specs.Header.{header_format, header_in}
 use Rattle.ledger_types.specs.declared.header.Header.{Header}
 use Rattle.tx_results.specs.Report.{report_bytes}
 use Rattle.tx_results.specs.declared.results.ResultSet.{ResultSet}
@@ -14,10 +14,10 @@ use Rattle.xdr_spec.specs.Format.{number32, number64}
 
 -- the header of the ledger that follows can be written
 pub new_header_fits : (header : Header) (close_time : ℕ) → header_format.fits header → IsTrue (has_next header) → close_time < 2 ^ 64 → header_format.fits (new_header header close_time)
-unfolding header_format number32 number64
+unfolding header_in number32 number64
 new_header_fits header close_time fits next small =
     let below : header.seq < 4000000000 = ltb-true header.seq 4000000000 next in
-    (fits.0, (omega arith, (small, fits.1.1.1)))
+    (fits.0, (fits.1.0, (omega arith, (small, fits.1.1.1.1))))
 
 pub report_made : (running : RunState) (results : ResultSet) (successes : List (Option SuccessPreimage)) (report : List ℕ) → results.pairs ≡ running.results → successes ≡ success_preimages running → report ≡ report_bytes results successes
     → report ≡ report_bytes (record { pairs = running.results }) (success_preimages running)

@@ -4,7 +4,7 @@ use Rattle.std.specs.Prelude.{⊤, nat_lt, if◌then◌else◌}
 use Rattle.std.specs.FinMap.{get}
 use Rattle.base64_text.specs.Text.{bytes_in}
 use Rattle.command_words.specs.declared.request.Request.{Request}
-use Rattle.command_words.specs.declared.request.Request.TheVariants.{Apply, Show, Vet}
+use Rattle.command_words.specs.declared.request.Request.TheVariants.{Apply, Show, Vet, Migrate}
 use Rattle.command_words.specs.declared.request.ShowKind.{ShowKind}
 use Rattle.command_words.specs.declared.request.ShowKind.TheVariants as kinds
 use Rattle.edge_io.specs.Contents.{Contents, FileMap}
@@ -12,17 +12,18 @@ use Rattle.ledger_spec.specs.LedgerFile.{ledger_of}
 use Rattle.ledger_spec.specs.declared.LedgerRefusal.{LedgerRefusal}
 use Rattle.ledger_types.specs.Verdicts.{verdicts_format}
 use Rattle.module_vet.specs.Verdict.{verdict_of}
-use Rattle.module_vet.specs.declared.Flaw.{Flaw}
-use Rattle.module_vet.specs.declared.Flaw.TheVariants as flaw
+use Rattle.module_loader.specs.declared.error.Flaw.{Flaw}
+use Rattle.module_loader.specs.declared.error.Flaw.TheVariants as flaw
 use Rattle.module_vet.specs.declared.Sizes.{Sizes}
 use Rattle.tx_xdr.specs.SetBounds.{today, whole}
 use Rattle.tx_xdr.specs.Set.{set_format}
-use Rattle.tx_xdr.specs.Transaction.{envelope_format}
+use Rattle.tx_xdr.specs.Envelope.{envelope_format}
 use Rattle.value_types.specs.Formats.{scval_format}
 use Rattle.xdr_spec.specs.Decoded.{decoded}
 use Rattle.xdr_spec.specs.declared.XdrErr.{XdrErr}
 use Rattle.soroban_top.specs.Asked.{reads_named}
 use Rattle.soroban_top.specs.Judged.{AreThere, as_bytes, as_ledger, as_spelled, as_verdicts, bytes_of, content_of, ledger_at, ledger_in, opened, set_at, set_in, set_opened, verdicts_at, verdicts_in}
+use Rattle.soroban_top.specs.Migrated.{any_ledger_at}
 use Rattle.soroban_top.specs.Outcome.{due}
 use Rattle.soroban_top.specs.Shown.{any_envelope_in, any_ledger_in, any_set_in, shown, shown_at, shown_opened, value_in}
 use Rattle.soroban_top.specs.Steps.{◌>>=◌, UnlessFault, status_of}
@@ -62,6 +63,10 @@ as_spelled_judged (Err e) = tt
 ledger_judged : (bytes : List ℕ) → IsNoFault (status_of (ledger_in bytes))
 unfolding ledger_in
 ledger_judged bytes = as_ledger_judged (ledger_of true bytes)
+
+any_ledger_judged : (bytes : List ℕ) → IsNoFault (status_of (any_ledger_in bytes))
+unfolding any_ledger_in
+any_ledger_judged bytes = as_ledger_judged (ledger_of false bytes)
 
 verdicts_judged : (bytes : List ℕ) → IsNoFault (status_of (verdicts_in bytes))
 unfolding verdicts_in
@@ -117,6 +122,8 @@ no_fault (Some (Show s)) m there =
     both (shown_at m s) _ (judged m s.file (shown_opened s.base64 s.kind s.file) there.0 (shown_opened_judged s.base64 s.kind s.file)) (λ lines. tt)
 no_fault (Some (Vet v)) m there =
     both (vetted_at m v.module_file) _ (judged m v.module_file vetted there.0 vetted_judged) (λ lines. tt)
+no_fault (Some (Migrate g)) m there =
+    both (any_ledger_at m g.ledger) _ (judged m g.ledger any_ledger_in there.0 any_ledger_judged) (λ ledger. tt)
 
 unless : (P : Type 0) (status : Status) → IsNoFault status → UnlessFault status P → P
 unless P (Fault name) none h = absurd none

@@ -13,7 +13,7 @@ counted a b c d e seq count good results is_good is_count first second third fou
     fifth ∙ ap (λ l. l ++ decimal (count - good) ++ codes " failed\n") (fourth ∙ ap (λ l. l ++ decimal good ++ codes " succeeded, ") (third ∙ ap (λ l. l ++ decimal count ++ codes " transactions, ") (second ∙ ap (λ l. l ++ decimal seq ++ codes ": ") first))) in
     line ∙ ap₂ (λ m n. codes "ledger " ++ decimal seq ++ codes ": " ++ decimal m ++ codes " transactions, " ++ decimal n ++ codes " succeeded, " ++ decimal (m - n) ++ codes " failed\n") is_count is_good
 
-pub hashed : (old name bytes hash a b c : List ℕ) → hash ≡ encode_lower (sha256 bytes) → a ≡ old ++ name → b ≡ a ++ hash → c ≡ b ++ codes "\n" → c ≡ old ++ hash_line name bytes
-hashed old name bytes hash a b c is first second third =
-    let all : c ≡ old ++ name ++ encode_lower (sha256 bytes) ++ codes "\n" = third ∙ ap (λ l. l ++ codes "\n") (second ∙ ap (λ l. l ++ hash) first ∙ ap (λ l. old ++ name ++ l) is) in
+pub hashed : (old name bytes hash a c : List ℕ) → hash ≡ sha256 bytes → a ≡ old ++ name → c ≡ a ++ encode_lower hash ++ codes "\n" → c ≡ old ++ hash_line name bytes
+hashed old name bytes hash a c is first second =
+    let all : c ≡ old ++ name ++ encode_lower (sha256 bytes) ++ codes "\n" = second ∙ ap₂ (λ l h. l ++ encode_lower h ++ codes "\n") first is in
     all ∙ ap (λ l. l ++ codes "\n") (append_assoc old name (encode_lower (sha256 bytes))) ∙ append_assoc old (name ++ encode_lower (sha256 bytes)) (codes "\n")

@@ -4,9 +4,9 @@ use Rattle.show_lines.specs.SetLines.{envelope_line, set_lines}
 use Rattle.show_lines.specs.LedgerLines.{value_line}
 use Rattle.tx_xdr.specs.SetBounds.{whole}
 use Rattle.tx_xdr.specs.Set.{set_format, set_lawful}
-use Rattle.tx_xdr.specs.Transaction.{envelope_format, envelope_lawful}
+use Rattle.tx_xdr.specs.Envelope.{envelope_format, envelope_lawful}
 use Rattle.value_types.specs.Formats.{scval_format}
-use Rattle.value_types.specs.Lawful.{scval_lawful}
+use Rattle.value_types.proofs.Lawful.{scval_lawful}
 use Rattle.xdr_spec.specs.Decoded.{decoded}
 use Rattle.xdr_spec.specs.declared.XdrErr.{XdrErr}
 use Rattle.soroban_top.specs.Judged.{as_spelled}

@@ -1,7 +1,8 @@
 -- The outcomes of the commands, in terms of the spellings (RFC 4506) of their files' bytes alone.
 use Rattle.std.specs.Prelude.{◌≡◌, ◌↔◌, ℕ, false, List, Result, Ok, Some}
 use Rattle.command_words.specs.declared.request.ApplyRequest.{ApplyRequest}
-use Rattle.command_words.specs.declared.request.Request.TheVariants.{Apply, Show, Vet}
+use Rattle.command_words.specs.declared.request.MigrateRequest.{MigrateRequest}
+use Rattle.command_words.specs.declared.request.Request.TheVariants.{Apply, Show, Vet, Migrate}
 use Rattle.command_words.specs.declared.request.ShowKind.{ShowKind}
 use Rattle.command_words.specs.declared.request.ShowKind.TheVariants as kinds
 use Rattle.command_words.specs.declared.request.ShowRequest.{ShowRequest}
@@ -15,18 +16,20 @@ use Rattle.ledger_types.specs.Verdicts.{verdicts_format}
 use Rattle.ledger_types.specs.declared.header.Header.{Header}
 use Rattle.ledger_types.specs.declared.verdicts.Verdicts.{Verdicts}
 use Rattle.module_vet.specs.Verdict.{IsVerdict}
-use Rattle.module_vet.specs.declared.Flaw.{Flaw}
+use Rattle.module_loader.specs.declared.error.Flaw.{Flaw}
 use Rattle.module_vet.specs.declared.Sizes.{Sizes}
 use Rattle.tx_xdr.specs.SetBounds.{today, whole}
 use Rattle.tx_xdr.specs.Set.{set_format}
-use Rattle.tx_xdr.specs.Transaction.{envelope_format}
+use Rattle.tx_xdr.specs.Envelope.{envelope_format}
 use Rattle.tx_xdr.specs.declared.set.TxSet.{TxSet}
 use Rattle.value_types.specs.Formats.{scval_format}
 use Rattle.xdr_spec.specs.Format.{Format, IsBytes}
 use Rattle.xdr_spec.specs.Refusal.{Spells, Refuses}
 use Rattle.xdr_spec.specs.declared.Why.{Why}
 use Rattle.soroban_top.specs.Judged.{content_of, ledger_at, opened}
+use Rattle.soroban_top.specs.Migrated.{migrated}
 use Rattle.soroban_top.specs.Outcome.{due, only_said, outcome_of}
+use Rattle.soroban_top.specs.Product.{file}
 use Rattle.soroban_top.specs.Steps.{◌>>=◌}
 use Rattle.soroban_top.specs.Vetted.{as_vetted}
 use Rattle.soroban_top.specs.declared.status.Status.{Status}
@@ -59,17 +62,17 @@ pub record HasInputs (a : ApplyRequest) (m : FileMap) (set : List ℕ) : Type 0 
 abbrev pub due_of : ApplyRequest → FileMap → Status
 due_of a m = due (Some (Apply a)) m
 
--- Ledger with reason Xdr is due exactly if the bytes are refused, at that place, whatever else is wrong.
+-- Ledger with reason Xdr is due exactly if the bytes are refused, at that offset, whatever else is wrong.
 abbrev pub LedgerLaw : Type 0
 LedgerLaw = (a : ApplyRequest) (m : FileMap) (bytes : List ℕ) → HasLedgerFile a m bytes → (at : ℕ)
     → (due_of a m ≡ status.Ledger ledger_why.Xdr at) ↔ ((why : Why) × Refuses file_format bytes at why)
 
--- Verdicts is due exactly if the bytes are refused, at that place.
+-- Verdicts is due exactly if the bytes are refused, at that offset.
 abbrev pub VerdictsLaw : Type 0
 VerdictsLaw = (a : ApplyRequest) (m : FileMap) (bytes : List ℕ) → HasLedger a m bytes → (at : ℕ)
     → (due_of a m ≡ status.Verdicts at) ↔ ((why : Why) × Refuses verdicts_format bytes at why)
 
--- Malformed is due exactly if the bytes spell no set that runs today, with the place and the reason of their refusal.
+-- Malformed is due exactly if the bytes spell no set that runs today, with the offset and the reason of their refusal.
 abbrev pub MalformedLaw : Type 0
 MalformedLaw = (a : ApplyRequest) (m : FileMap) (bytes : List ℕ) → HasInputs a m bytes → (at : ℕ) (why : Why)
     → (due_of a m ≡ status.Malformed at why) ↔ Refuses (set_format today) bytes at why
@@ -92,7 +95,7 @@ pub record HasShown (s : ShowRequest) (m : FileMap) (bytes : List ℕ) : Type 0 
 abbrev pub due_of_show : ShowRequest → FileMap → Status
 due_of_show s m = due (Some (Show s)) m
 
--- For a shown file of this kind, Malformed is due exactly if the bytes are refused, with their place and reason.
+-- For a shown file of this kind, Malformed is due exactly if the bytes are refused, with that offset and that reason.
 abbrev pub ShownMalformed : ShowKind → {A : Type 0} → Format A → Type 0
 ShownMalformed kind F = (s : ShowRequest) (m : FileMap) (bytes : List ℕ) → s.kind ≡ kind → HasShown s m bytes → (at : ℕ) (why : Why)
     → (due_of_show s m ≡ status.Malformed at why) ↔ Refuses F bytes at why
@@ -115,7 +118,7 @@ EnvelopeMalformedLaw = ShownMalformed kinds.Envelope (envelope_format whole)
 abbrev pub EnvelopeDoneLaw : Type 0
 EnvelopeDoneLaw = ShownDone kinds.Envelope (envelope_format whole)
 
--- For a shown ledger, Ledger with reason Xdr is due exactly if the bytes are refused, at that place; Done is due exactly if they
+-- For a shown ledger, Ledger with reason Xdr is due exactly if the bytes are refused, at that offset; Done is due exactly if they
 -- are the file of a ledger.
 abbrev pub LedgerShownLaw : Type 0
 LedgerShownLaw = (s : ShowRequest) (m : FileMap) (bytes : List ℕ) → s.kind ≡ kinds.Ledger → HasShown s m bytes → (at : ℕ)
@@ -135,3 +138,25 @@ ValueDoneLaw = ShownDone kinds.Value scval_format
 abbrev pub VetLaw : Type 0
 VetLaw = (v : VetRequest) (m : FileMap) (bytes : List ℕ) (verdict : Result Sizes Flaw) → content_of m v.module_file ≡ Ok bytes → IsVerdict bytes verdict
     → outcome_of (Vet v) m ≡ (as_vetted verdict >>= λ line. Ok (only_said line))
+
+-- ---- migrate
+
+-- the file of the ledger that is migrated has these bytes
+pub record HasMigrated (g : MigrateRequest) (m : FileMap) (bytes : List ℕ) : Type 0 where
+  pub has_ledger : content_of m g.ledger ≡ Ok bytes
+  pub are_bytes : IsBytes bytes
+
+-- Ledger with reason Xdr is due exactly if the bytes are refused, at that offset.
+abbrev pub MigrateRefusedLaw : Type 0
+MigrateRefusedLaw = (g : MigrateRequest) (m : FileMap) (bytes : List ℕ) → HasMigrated g m bytes → (at : ℕ)
+    → (due (Some (Migrate g)) m ≡ status.Ledger ledger_why.Xdr at) ↔ ((why : Why) × Refuses file_format bytes at why)
+
+-- Done is due exactly if they are the file of a ledger.
+abbrev pub MigrateDoneLaw : Type 0
+MigrateDoneLaw = (g : MigrateRequest) (m : FileMap) (bytes : List ℕ) → HasMigrated g m bytes
+    → (due (Some (Migrate g)) m ≡ status.Done) ↔ ((header : Header) × (entries : LedgerMap) × IsFileOf false bytes header entries)
+
+-- The file of a ledger is stored for the ledger of which the bytes are the file.
+abbrev pub MigrateLaw : Type 0
+MigrateLaw = (g : MigrateRequest) (m : FileMap) (bytes : List ℕ) (header : Header) (entries : LedgerMap) → content_of m g.ledger ≡ Ok bytes → IsFileOf false bytes header entries
+    → outcome_of (Migrate g) m ≡ Ok (migrated (file 1 g.ledger_out) (header, entries))

@@ -5,6 +5,7 @@ pub mod Judged
 pub mod Laws
 pub mod Left
 pub mod Lines
+pub mod Migrated
 pub mod Outcome
 pub mod Product
 pub mod Seen

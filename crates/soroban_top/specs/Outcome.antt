@@ -2,12 +2,13 @@
 use Rattle.std.specs.Prelude.{◌≡◌, ℕ, List, [], ◌∷◌, Option, Some, None, Result, Ok, Err, ⊤}
 use Rattle.apply_spec.specs.Outputs.{Outputs, outputs}
 use Rattle.command_words.specs.declared.request.Request.{Request}
-use Rattle.command_words.specs.declared.request.Request.TheVariants.{Apply, Show, Vet}
+use Rattle.command_words.specs.declared.request.Request.TheVariants.{Apply, Show, Vet, Migrate}
 use Rattle.edge_io.specs.Contents.{FileMap}
 use Rattle.ledger_spec.specs.LedgerMap.{LedgerMap}
 use Rattle.ledger_types.specs.declared.header.Header.{Header}
 use Rattle.tx_xdr.specs.declared.set.TxSet.{TxSet}
 use Rattle.soroban_top.specs.Judged.{ledger_at, verdicts_at, set_at}
+use Rattle.soroban_top.specs.Migrated.{any_ledger_at, migrated}
 use Rattle.soroban_top.specs.Product.{Made, File, file}
 use Rattle.soroban_top.specs.Shown.{shown_at}
 use Rattle.soroban_top.specs.Steps.{◌>>=◌, status_of}
@@ -43,6 +44,9 @@ outcome_of (Show s) m = do
 outcome_of (Vet v) m = do
   lines ← vetted_at m v.module_file
   Ok (only_said lines)
+outcome_of (Migrate g) m = do
+  ledger ← any_ledger_at m g.ledger
+  Ok (migrated (file 1 g.ledger_out) ledger)
 
 -- the outcome of the words
 abbrev pub outcome_if : Option Request → FileMap → Result Made Status

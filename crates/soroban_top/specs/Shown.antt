@@ -11,9 +11,9 @@ use Rattle.show_lines.specs.SetLines.{envelope_line, set_lines}
 use Rattle.show_lines.specs.LedgerLines.{ledger_lines, value_line}
 use Rattle.tx_xdr.specs.SetBounds.{whole}
 use Rattle.tx_xdr.specs.Set.{set_format}
-use Rattle.tx_xdr.specs.Transaction.{envelope_format}
+use Rattle.tx_xdr.specs.Envelope.{envelope_format}
 use Rattle.tx_xdr.specs.declared.set.TxSet.{TxSet}
-use Rattle.tx_xdr.specs.declared.transaction.Envelope.{Envelope}
+use Rattle.tx_xdr.specs.declared.envelope.Envelope.{Envelope}
 use Rattle.value_types.specs.Formats.{scval_format}
 use Rattle.value_types.specs.declared.value.ScVal.{ScVal}
 use Rattle.xdr_spec.specs.Decoded.{decoded}

@@ -135,22 +135,18 @@ fn say_parts<S: Say>(say: &mut S, before: &[u8], middle: &[u8], after: &[u8]) ->
     ensures cause { OnFailed result (Rose (S.faults say.old) (S.faults say.new)) }
     ensures steady { S.steady say.old → OnFailed result ⊥ × S.steady say.new × (S.faults say.new ≡ S.faults say.old) }
 {
-    match say_two(say, before, middle) {
-        Ok(()) => say_part(say, after),
-        Err(error) => Err(error),
-    }
+    say_two(say, before, middle)?;
+    say_part(say, after)
 }
 
-fn say_two<S: Say>(say: &mut S, prefix: &[u8], back: &[u8]) -> Result<(), EdgeErr>
-    ensures said { SaysLines result (prefix.now ++ back.now) (S.text say.old) (S.text say.new) }
+fn say_two<S: Say>(say: &mut S, before: &[u8], after: &[u8]) -> Result<(), EdgeErr>
+    ensures said { SaysLines result (before.now ++ after.now) (S.text say.old) (S.text say.new) }
     ensures counts { S.faults say.old ≤ S.faults say.new }
     ensures cause { OnFailed result (Rose (S.faults say.old) (S.faults say.new)) }
     ensures steady { S.steady say.old → OnFailed result ⊥ × S.steady say.new × (S.faults say.new ≡ S.faults say.old) }
 {
-    match say_part(say, prefix) {
-        Ok(()) => say_part(say, back),
-        Err(error) => Err(error),
-    }
+    say_part(say, before)?;
+    say_part(say, after)
 }
 
 fn say_part<S: Say>(say: &mut S, lines: &[u8]) -> Result<(), EdgeErr>

@@ -1,6 +1,6 @@
 //! The outcomes of the commands, in terms of the spellings of their files' bytes.
 
-ghost use Rattle.soroban_top.specs.Laws.{DoneLaw, EnvelopeDoneLaw, EnvelopeMalformedLaw, LedgerDoneLaw, LedgerLaw, LedgerShownLaw, MalformedLaw, SetDoneLaw, SetMalformedLaw, ValueDoneLaw, ValueMalformedLaw, VerdictsLaw, VetLaw};
+ghost use Rattle.soroban_top.specs.Laws.{DoneLaw, EnvelopeDoneLaw, EnvelopeMalformedLaw, LedgerDoneLaw, LedgerLaw, LedgerShownLaw, MalformedLaw, MigrateDoneLaw, MigrateLaw, MigrateRefusedLaw, SetDoneLaw, SetMalformedLaw, ValueDoneLaw, ValueMalformedLaw, VerdictsLaw, VetLaw};
 
 /// `apply`: Ledger with reason Xdr is due exactly if the bytes of the ledger's file are refused. If that file is accepted, Verdicts
 /// is due exactly if the verdicts' bytes are refused. If these are accepted, too, Malformed is due exactly if the set's bytes are
@@ -28,4 +28,12 @@ pub fn show_laws()
 /// `vet` reports the sizes of the module that the bytes encode, or its first flaw.
 pub fn vet_law()
     ensures { VetLaw }
+{}
+
+/// `migrate`: Ledger with reason Xdr is due exactly if the bytes are refused, and Done exactly if they are the file of a ledger.
+/// Then the file of this ledger is stored.
+pub fn migrate_laws()
+    ensures refused { MigrateRefusedLaw }
+    ensures done { MigrateDoneLaw }
+    ensures stored { MigrateLaw }
 {}

@@ -1,12 +1,12 @@
 //! The lines of `apply`.
 
 ghost use Rattle.std.specs.Prelude.{◌≡◌, ◌≤◌, ◌++◌, length, OnOk, IfOk};
-ghost use Rattle.apply_spec.specs.Outputs.{count_line, hash_line, is_success, outputs_with, successes};
+ghost use Rattle.apply_spec.specs.Outputs.{count_line, hash_line, has_succeeded as has_succeeded_in, outputs_with, successes};
 
 use sha2::{Digest, Sha256};
 use std::alloc::{AllocError, Global};
-use text_lines::push_number;
-use tx_results::{TransactionOutcome, TransactionResultPair};
+use text_lines::{push_hex, push_number};
+use tx_results::{EnvelopeOutcome, TransactionOutcome, TransactionResultPair};
 
 /// Makes the line that counts the transactions of ledger `seq`, and the lines with the hashes of the report and the ledger's file.
 pub fn lines(
@@ -46,17 +46,21 @@ fn successes(results: &[TransactionResultPair]) -> usize
 {
     results
         .iter()
-        .filter(|pair| is_success(&pair.result.outcome))
+        .filter(|pair| has_succeeded(&pair.result.outcome))
         .count()
 }
 
-fn is_success(outcome: &TransactionOutcome) -> bool
-    ensures { result ≡ is_success outcome.now }
+fn has_succeeded(outcome: &EnvelopeOutcome) -> bool
+    ensures { result ≡ has_succeeded_in outcome.now }
 {
-    matches!(outcome, TransactionOutcome::Success(_))
+    matches!(
+        outcome,
+        EnvelopeOutcome::Transaction(TransactionOutcome::Success(_))
+            | EnvelopeOutcome::FeeBumpInnerSuccess(_)
+    )
 }
 
-/// Appends a name, and the SHA-256 of bytes.
+/// Appends a line: a name, and the SHA-256 of bytes in hex.
 fn push_hash(
     alloc: Global,
     lines: &mut Vec<u8>,
@@ -65,9 +69,7 @@ fn push_hash(
 ) -> Result<(), AllocError>
     ensures { OnOk result (lines.new.items ≡ lines.old.items ++ hash_line name.now bytes.now) }
 {
-    let hash = hex::encode(alloc, &Sha256::digest(bytes))?;
     lines.extend_from_slice(name)?;
-    lines.extend_from_slice(hash.as_bytes())?;
-    lines.push(b'\n')?;
+    push_hex(alloc, lines, &Sha256::digest(bytes), b"\n")?;
     Ok(())
 }

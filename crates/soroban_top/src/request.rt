@@ -9,6 +9,7 @@ ghost use Rattle.soroban_top.specs.Steps.{Gives, GivesExactly, UnlessFault, stat
 ghost use Rattle.soroban_top.specs.Views.{made_of, targets_of};
 
 use crate::apply::apply;
+use crate::migrate::migrate;
 use crate::show::show;
 use crate::vetting::vet;
 use crate::{Product, Status};
@@ -47,5 +48,6 @@ pub fn produce<'a, F: Files>(
         Request::Apply(options) => apply(alloc, files, options),
         Request::Show(options) => show(alloc, files, options),
         Request::Vet(options) => vet(alloc, files, options),
+        Request::Migrate(options) => migrate(alloc, files, options),
     }
 }

@@ -1,6 +1,7 @@
-//! Reads the content of shown files.
+//! Reads values of bytes: sets, envelopes, ledgers and contract values.
 
 ghost use Rattle.std.specs.Prelude.{IfOk, IfErr};
+ghost use Rattle.ledger_types.specs.Header.{header_format};
 ghost use Rattle.tx_xdr.specs.SetBounds.{whole};
 ghost use Rattle.tx_xdr.specs.Set.{set_format};
 ghost use Rattle.value_types.specs.Formats.{scval_format};
@@ -42,6 +43,7 @@ pub fn envelope_in(alloc: Global, bytes: &[u8]) -> Result<Envelope, Status>
 #[tactic(auto, unfolding(crate::specs::Shown::any_ledger_in))]
 pub fn ledger_in(alloc: Global, bytes: &[u8]) -> Result<Ledger, Status>
     ensures given { Gives seen result (any_ledger_in bytes.now) }
+    ensures fits { IfOk result (λ l. header_format.fits l.header) }
     ensures cause { IfErr result IsOfBytes }
 {
     let ledger = read_ledger(alloc, bytes, false)?;

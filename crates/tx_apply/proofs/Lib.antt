@@ -1,2 +1,5 @@
 pub mod Keys
 pub mod Extending
+pub mod Checked
+pub mod Declared
+pub mod Effects

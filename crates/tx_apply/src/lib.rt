@@ -3,9 +3,10 @@
 
 mod bounds;
 mod checks;
+mod envelope;
 mod extend;
 mod footprint;
 mod transaction;
 
+pub use envelope::{TxDone, enforce};
 pub use footprint::{read_only_of, read_write_of};
-pub use transaction::{TxDone, enforce};

@@ -6,8 +6,8 @@ ghost use Rattle.ledger_spec.specs.LedgerFile.{are_settings, has_next};
 ghost use Rattle.apply_spec.specs.Checks.{footprint_of};
 ghost use Rattle.tx_xdr.specs.SetBounds.{today, takes_operation};
 ghost use Rattle.tx_xdr.specs.Operation.{kind};
-ghost use Rattle.apply_spec.specs.Enforced.{enforced, extended, performed, runs_today, without_effect as without_effect_in};
-ghost use Rattle.tx_apply.specs.Done.{done_of};
+ghost use Rattle.apply_spec.specs.Enforced.{enforced_transaction, extended, performed, runs_today, without_effect as without_effect_in};
+ghost use Rattle.tx_apply.specs.Done.{transaction_done_of};
 
 use crate::checks::refusal_of;
 use crate::extend::{extensions, may_extend};
@@ -23,17 +23,17 @@ use xdr_core::NoMemory;
 
 /// The outcome of a transaction and its effect.
 #[derive(Drop)]
-pub struct TxDone {
+pub struct TransactionDone {
     pub outcome: TransactionOutcome,
     /// Pending until they are put in.
     pub extensions: Items<Extension, 4294967295>,
 }
 
-fn without_effect(alloc: Global, outcome: TransactionOutcome) -> TxDone
+fn without_effect(alloc: Global, outcome: TransactionOutcome) -> TransactionDone
     ensures outcome { result.outcome ≡ outcome }
     ensures extensions { result.extensions ≡ [] }
 {
-    TxDone {
+    TransactionDone {
         outcome,
         extensions: Items::from_vec(Vec::new(alloc)),
     }
@@ -57,8 +57,8 @@ fn extension(result_of_extend: ExtendResult) -> OperationResult
 }
 
 /// Returns the outcome of a transaction whose only operation failed.
-fn failed(alloc: Global, only: OperationResult) -> Result<TxDone, NoMemory>
-    ensures { IfOk result (λ done. done_of done ≡ without_effect_in (TransactionOutcome.Failed (only ∷ []))) }
+fn failed(alloc: Global, only: OperationResult) -> Result<TransactionDone, NoMemory>
+    ensures { IfOk result (λ done. transaction_done_of done ≡ without_effect_in (TransactionOutcome.Failed (only ∷ []))) }
 {
     let results = one_result(alloc, only)?;
     Ok(without_effect(alloc, TransactionOutcome::Failed(results)))
@@ -71,11 +71,11 @@ fn extend<G: Ground>(
     header: &Header,
     tx: &Transaction,
     extend_to: u32,
-) -> Result<TxDone, NoMemory>
+) -> Result<TransactionDone, NoMemory>
     requires read_only { All (λ key. key_format.fits key) (footprint_of tx.now).read_only }
     requires settings { IsTrue (are_settings header.now.settings) }
     requires next { IsTrue (has_next header.now) }
-    ensures { IfOk result (λ done. done_of done ≡ extended header.now (G.map ground.now) (footprint_of tx.now) extend_to) }
+    ensures { IfOk result (λ done. transaction_done_of done ≡ extended header.now (G.map ground.now) (footprint_of tx.now) extend_to) }
 {
     let keys = read_only_of(tx);
     if !may_extend(&header.settings, keys, read_write_of(tx), extend_to) {
@@ -84,7 +84,7 @@ fn extend<G: Ground>(
     let n = header.seq + 1;
     let extensions = extensions(alloc, ground, n, keys, n + extend_to)?;
     let results = one_result(alloc, extension(ExtendResult::Success))?;
-    Ok(TxDone {
+    Ok(TransactionDone {
         outcome: TransactionOutcome::Success(results),
         extensions: Items::from_vec(extensions),
     })
@@ -97,12 +97,12 @@ fn perform<G: Ground>(
     header: &Header,
     tx: &Transaction,
     body: &OperationBody,
-) -> Result<TxDone, NoMemory>
+) -> Result<TransactionDone, NoMemory>
     requires runs { IsTrue (takes_operation today (kind body.now)) }
     requires read_only { All (λ key. key_format.fits key) (footprint_of tx.now).read_only }
     requires settings { IsTrue (are_settings header.now.settings) }
     requires next { IsTrue (has_next header.now) }
-    ensures { IfOk result (λ done. done_of done ≡ performed header.now (G.map ground.now) tx.now body.now) }
+    ensures { IfOk result (λ done. transaction_done_of done ≡ performed header.now (G.map ground.now) tx.now body.now) }
 {
     match body {
         OperationBody::ExtendFootprintTtl { extend_to } => {
@@ -114,20 +114,18 @@ fn perform<G: Ground>(
 }
 
 /// Checks and runs a transaction over the entries of a ledger.
-///
-/// `header` is that of the previous ledger, with the close time of the ledger that is being made.
-pub fn enforce<G: Ground>(
+pub fn run_transaction<G: Ground>(
     alloc: Global,
     ground: &G,
     header: &Header,
     tx: &Transaction,
-) -> Result<TxDone, NoMemory>
+) -> Result<TransactionDone, NoMemory>
     requires runs { IsTrue (runs_today tx.now) }
     requires read_only { All (λ key. key_format.fits key) (footprint_of tx.now).read_only }
     requires read_write { All (λ key. key_format.fits key) (footprint_of tx.now).read_write }
     requires settings { IsTrue (are_settings header.now.settings) }
     requires next { IsTrue (has_next header.now) }
-    ensures { IfOk result (λ done. done_of done ≡ enforced header.now (G.map ground.now) tx.now) }
+    ensures { IfOk result (λ done. transaction_done_of done ≡ enforced_transaction header.now (G.map ground.now) tx.now) }
 {
     if let Some(outcome) = refusal_of(alloc, header, tx)? {
         return Ok(without_effect(alloc, outcome));

@@ -6,8 +6,8 @@ ghost use Rattle.tx_parts.specs.MuxedAccount.{number, kind_of, kind, type_format
 
 use std::alloc::{AllocError, Global};
 use value_types::Hash;
-use value_xdr::Xdr;
-use xdr_core::{Cursor, NoMemory, Out, ReadXdr, Why, XdrErr, add_sizes};
+use value_xdr::{Xdr, named};
+use xdr_core::{Cursor, NoMemory, Out, ReadXdr, add_sizes};
 
 /// The types of account keys (`CryptoKeyType`, without the types that no account has).
 #[derive(Clone, Copy, Debug, PartialEq, Eq)]
@@ -45,11 +45,7 @@ impl Xdr for CryptoKeyType {
 
     fn read_parts(_alloc: Global, input: &mut Cursor<'_>) -> Result<CryptoKeyType, ReadXdr> {
         let place = input.place();
-        let number = input.u32()?;
-        CryptoKeyType::from_number(number).ok_or(ReadXdr::Bad(XdrErr {
-            at: place,
-            why: Why::Tag,
-        }))
+        named(CryptoKeyType::from_number(input.u32()?), place)
     }
 
     fn write_parts(&self, out: &mut Out) -> Result<(), NoMemory> {

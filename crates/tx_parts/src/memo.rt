@@ -4,10 +4,10 @@ ghost use Rattle.std.specs.Prelude.{◌≡◌};
 ghost use Rattle.xdr_core.specs.Reads.{Reads};
 ghost use Rattle.tx_parts.specs.Memo.{number, kind_of, kind, type_format, type_lawful, arms, memo_format, memo_lawful};
 
-use std::alloc::Global;
+use std::alloc::{AllocError, Global};
 use value_types::{Bytes, Hash};
-use value_xdr::Xdr;
-use xdr_core::{Cursor, NoMemory, Out, ReadXdr, Why, XdrErr, add_sizes};
+use value_xdr::{Xdr, named};
+use xdr_core::{Cursor, NoMemory, Out, ReadXdr, add_sizes};
 
 /// The types of memos (`MemoType`).
 #[derive(Clone, Copy, Debug, PartialEq, Eq)]
@@ -54,11 +54,7 @@ impl Xdr for MemoType {
 
     fn read_parts(_alloc: Global, input: &mut Cursor<'_>) -> Result<MemoType, ReadXdr> {
         let place = input.place();
-        let number = input.u32()?;
-        MemoType::from_number(number).ok_or(ReadXdr::Bad(XdrErr {
-            at: place,
-            why: Why::Tag,
-        }))
+        named(MemoType::from_number(input.u32()?), place)
     }
 
     fn write_parts(&self, out: &mut Out) -> Result<(), NoMemory> {
@@ -85,6 +81,20 @@ pub enum Memo {
     Hash(Hash),
     /// 4: the hash of the transaction that this one pays back.
     Return(Hash),
+}
+
+impl Clone for Memo {
+    ghost is_clone = { λ v w. w ≡ v };
+
+    fn clone(&self) -> Result<Memo, AllocError> {
+        match self {
+            Memo::None => Ok(Memo::None),
+            Memo::Text(text) => Ok(Memo::Text(text.clone()?)),
+            Memo::Id(id) => Ok(Memo::Id(*id)),
+            Memo::Hash(hash) => Ok(Memo::Hash(*hash)),
+            Memo::Return(hash) => Ok(Memo::Return(*hash)),
+        }
+    }
 }
 
 impl Memo {

@@ -1,15 +1,15 @@
 //! Preconditions of transactions.
 
-ghost use Rattle.std.specs.Prelude.{◌≡◌};
+ghost use Rattle.std.specs.Prelude.{◌≡◌, IfOk};
 ghost use Rattle.xdr_core.specs.Reads.{Reads};
 ghost use Rattle.tx_parts.specs.Preconditions.{v2_format, v2_lawful, number, kind_of, kind, type_format, type_lawful, arms, preconditions_format, preconditions_lawful};
 
 use crate::bounds::{LedgerBounds, TimeBounds};
 use crate::signer_key::SignerKey;
-use std::alloc::Global;
+use std::alloc::{AllocError, Global};
 use value_types::Items;
-use value_xdr::Xdr;
-use xdr_core::{Cursor, NoMemory, Out, ReadXdr, Why, XdrErr, add_sizes};
+use value_xdr::{Xdr, named};
+use xdr_core::{Cursor, NoMemory, Out, ReadXdr, add_sizes};
 
 /// The preconditions of version 2 (`PreconditionsV2`).
 #[derive(Drop)]
@@ -24,6 +24,27 @@ pub struct PreconditionsV2 {
     pub min_seq_ledger_gap: u32,
     /// Keys that have to sign besides.
     pub extra_signers: Items<SignerKey, 2>,
+}
+
+fn clone_signers(signers: &Items<SignerKey, 2>) -> Result<Items<SignerKey, 2>, AllocError>
+    ensures { IfOk result (λ copies. copies ≡ signers.now) }
+{
+    signers.clone()
+}
+
+impl Clone for PreconditionsV2 {
+    ghost is_clone = { λ v w. w ≡ v };
+
+    fn clone(&self) -> Result<PreconditionsV2, AllocError> {
+        Ok(PreconditionsV2 {
+            time_bounds: self.time_bounds,
+            ledger_bounds: self.ledger_bounds,
+            min_seq_num: self.min_seq_num,
+            min_seq_age: self.min_seq_age,
+            min_seq_ledger_gap: self.min_seq_ledger_gap,
+            extra_signers: clone_signers(&self.extra_signers)?,
+        })
+    }
 }
 
 #[tactic(auto, unfolding(crate::specs::Preconditions::v2_format))]
@@ -107,11 +128,7 @@ impl Xdr for PreconditionType {
 
     fn read_parts(_alloc: Global, input: &mut Cursor<'_>) -> Result<PreconditionType, ReadXdr> {
         let place = input.place();
-        let number = input.u32()?;
-        PreconditionType::from_number(number).ok_or(ReadXdr::Bad(XdrErr {
-            at: place,
-            why: Why::Tag,
-        }))
+        named(PreconditionType::from_number(input.u32()?), place)
     }
 
     fn write_parts(&self, out: &mut Out) -> Result<(), NoMemory> {
@@ -134,6 +151,18 @@ pub enum Preconditions {
     Time(TimeBounds),
     /// 2.
     V2(PreconditionsV2),
+}
+
+impl Clone for Preconditions {
+    ghost is_clone = { λ v w. w ≡ v };
+
+    fn clone(&self) -> Result<Preconditions, AllocError> {
+        match self {
+            Preconditions::None => Ok(Preconditions::None),
+            Preconditions::Time(bounds) => Ok(Preconditions::Time(*bounds)),
+            Preconditions::V2(v2) => Ok(Preconditions::V2(v2.clone()?)),
+        }
+    }
 }
 
 impl Preconditions {

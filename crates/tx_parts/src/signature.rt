@@ -1,8 +1,9 @@
 //! The signatures of transactions.
 
+ghost use Rattle.std.specs.Prelude.{◌≡◌};
 ghost use Rattle.tx_parts.specs.Signature.{signature_format, signature_lawful};
 
-use std::alloc::Global;
+use std::alloc::{AllocError, Global};
 use value_types::Bytes;
 use value_xdr::Xdr;
 use xdr_core::{Cursor, NoMemory, Out, ReadXdr};
@@ -12,6 +13,17 @@ use xdr_core::{Cursor, NoMemory, Out, ReadXdr};
 pub struct DecoratedSignature {
     pub hint: [u8; 4],
     pub signature: Bytes<64>,
+}
+
+impl Clone for DecoratedSignature {
+    ghost is_clone = { λ v w. w ≡ v };
+
+    fn clone(&self) -> Result<DecoratedSignature, AllocError> {
+        Ok(DecoratedSignature {
+            hint: self.hint,
+            signature: self.signature.clone()?,
+        })
+    }
 }
 
 #[tactic(auto, unfolding(crate::specs::Signature::signature_format, xdr_core::specs::Sizes::capped))]

@@ -4,10 +4,10 @@ ghost use Rattle.std.specs.Prelude.{◌≡◌};
 ghost use Rattle.xdr_core.specs.Reads.{Reads};
 ghost use Rattle.tx_parts.specs.SignerKey.{number, kind_of, kind, type_format, type_lawful, arms, signer_key_format, signer_key_lawful};
 
-use std::alloc::Global;
+use std::alloc::{AllocError, Global};
 use value_types::{Bytes, Hash};
-use value_xdr::Xdr;
-use xdr_core::{Cursor, NoMemory, Out, ReadXdr, Why, XdrErr, add_sizes};
+use value_xdr::{Xdr, named};
+use xdr_core::{Cursor, NoMemory, Out, ReadXdr, add_sizes};
 
 /// The types of signer keys (`SignerKeyType`).
 #[derive(Clone, Copy, Debug, PartialEq, Eq)]
@@ -51,11 +51,7 @@ impl Xdr for SignerKeyType {
 
     fn read_parts(_alloc: Global, input: &mut Cursor<'_>) -> Result<SignerKeyType, ReadXdr> {
         let place = input.place();
-        let number = input.u32()?;
-        SignerKeyType::from_number(number).ok_or(ReadXdr::Bad(XdrErr {
-            at: place,
-            why: Why::Tag,
-        }))
+        named(SignerKeyType::from_number(input.u32()?), place)
     }
 
     fn write_parts(&self, out: &mut Out) -> Result<(), NoMemory> {
@@ -80,6 +76,24 @@ pub enum SignerKey {
     HashX(Hash),
     /// 3: an ed25519 public key, and the payload that it signs.
     Ed25519SignedPayload { ed25519: Hash, payload: Bytes<64> },
+}
+
+impl Clone for SignerKey {
+    ghost is_clone = { λ v w. w ≡ v };
+
+    fn clone(&self) -> Result<SignerKey, AllocError> {
+        match self {
+            SignerKey::Ed25519(key) => Ok(SignerKey::Ed25519(*key)),
+            SignerKey::PreAuthTx(hash) => Ok(SignerKey::PreAuthTx(*hash)),
+            SignerKey::HashX(hash) => Ok(SignerKey::HashX(*hash)),
+            SignerKey::Ed25519SignedPayload { ed25519, payload } => {
+                Ok(SignerKey::Ed25519SignedPayload {
+                    ed25519: *ed25519,
+                    payload: payload.clone()?,
+                })
+            }
+        }
+    }
 }
 
 impl SignerKey {

@@ -7,14 +7,17 @@ use Rattle.xdr_spec.specs.Format.{list, signed64}
 use Rattle.value_types.specs.Hash.{hash_format}
 use Rattle.value_types.specs.declared.hash.Hash.{Hash}
 use Rattle.tx_results.specs.Operations.{extend_format, invoke_format, inner_format, operation_format}
-use Rattle.tx_results.specs.Results.{outcome_format, result_format, pair_format, result_set_format}
+use Rattle.tx_results.specs.Results.{outcome_format, inner_result_format, inner_pair_format, envelope_outcome_format, result_format, pair_format, result_set_format}
 use Rattle.tx_results.specs.declared.codes.ExtendResult.{ExtendResult}
 use Rattle.tx_results.specs.declared.operation.InvokeResult.{InvokeResult}
 use Rattle.tx_results.specs.declared.operation.InvokeResult.TheVariants as invokes
 use Rattle.tx_results.specs.declared.operation.InnerResult.TheVariants as inners
 use Rattle.tx_results.specs.declared.operation.OperationResult.{OperationResult}
 use Rattle.tx_results.specs.declared.operation.OperationResult.TheVariants as operations
+use Rattle.tx_results.specs.declared.results.TransactionOutcome.{TransactionOutcome}
 use Rattle.tx_results.specs.declared.results.TransactionOutcome.TheVariants as outcomes
+use Rattle.tx_results.specs.declared.results.InnerTransactionResultPair.{InnerTransactionResultPair}
+use Rattle.tx_results.specs.declared.results.EnvelopeOutcome.TheVariants as envelopes
 use Rattle.tx_results.specs.declared.results.TransactionResultPair.{TransactionResultPair}
 use Rattle.tx_results.specs.declared.results.ResultSet.{ResultSet}
 
@@ -66,7 +69,25 @@ pub soroban_invalid_fits : outcome_format.fits outcomes.SorobanInvalid
 unfolding outcome_format
 soroban_invalid_fits = refl
 
-pub pair_fits : (pair : TransactionResultPair) → hash_format.fits pair.hash → FitsSigned w64 pair.result.fee_charged → outcome_format.fits pair.result.outcome → pair_format.fits pair
+-- ---- envelopes
+
+pub transaction_alone_fits : (outcome : TransactionOutcome) → outcome_format.fits outcome → envelope_outcome_format.fits (envelopes.Transaction outcome)
+unfolding outcome_format envelope_outcome_format
+transaction_alone_fits outcome h = h
+
+pub inner_pair_fits : (inner : InnerTransactionResultPair) → hash_format.fits inner.hash → FitsSigned w64 inner.result.fee_charged → outcome_format.fits inner.result.outcome → inner_pair_format.fits inner
+unfolding inner_pair_format inner_result_format signed64
+inner_pair_fits inner hash fee outcome = (hash, (fee, (outcome, refl)))
+
+pub inner_success_fits : (inner : InnerTransactionResultPair) → inner_pair_format.fits inner → envelope_outcome_format.fits (envelopes.FeeBumpInnerSuccess inner)
+unfolding envelope_outcome_format
+inner_success_fits inner h = h
+
+pub inner_failed_fits : (inner : InnerTransactionResultPair) → inner_pair_format.fits inner → envelope_outcome_format.fits (envelopes.FeeBumpInnerFailed inner)
+unfolding envelope_outcome_format
+inner_failed_fits inner h = h
+
+pub pair_fits : (pair : TransactionResultPair) → hash_format.fits pair.hash → FitsSigned w64 pair.result.fee_charged → envelope_outcome_format.fits pair.result.outcome → pair_format.fits pair
 unfolding pair_format result_format signed64
 pair_fits pair hash fee outcome = (hash, (fee, (outcome, refl)))
 

@@ -1,1 +1,2 @@
+pub mod CodeNumbers
 pub mod Fits

@@ -6,7 +6,7 @@ use Rattle.std.specs.Option.{is_some}
 use Rattle.xdr_spec.specs.Format.{optional}
 use Rattle.invoke_types.specs.Success.{success_format}
 use Rattle.invoke_types.specs.declared.success.SuccessPreimage.{SuccessPreimage}
-use Rattle.tx_results.specs.Results.{result_set_format}
+use Rattle.tx_results.specs.Results.{result_set_format, outcome_in}
 use Rattle.tx_results.specs.declared.operation.InvokeResult.{InvokeResult}
 use Rattle.tx_results.specs.declared.operation.InvokeResult.TheVariants as invokes
 use Rattle.tx_results.specs.declared.operation.InnerResult.{InnerResult}
@@ -21,7 +21,7 @@ use Rattle.tx_results.specs.declared.results.ResultSet.{ResultSet}
 abbrev pub report_bytes : ResultSet → List (Option SuccessPreimage) → List ℕ
 report_bytes results successes = result_set_format.spell results ++ flat_map (optional success_format).spell successes
 
--- ---- where a preimage stands: exactly where an INVOKE_HOST_FUNCTION ended in SUCCESS
+-- ---- where a preimage stands: exactly where an INVOKE_HOST_FUNCTION ended in SUCCESS, of a fee bump that of the inner transaction
 
 abbrev pub is_good_call : InvokeResult → Bool
 is_good_call (invokes.Success preimage) = true
@@ -40,4 +40,4 @@ has_preimage (outcomes.Success results) = list_any is_good_operation results
 has_preimage _ = false
 
 abbrev pub HavePreimages : List TransactionResultPair → List (Option SuccessPreimage) → Type 0
-HavePreimages pairs successes = map is_some successes ≡ map (λ pair. has_preimage pair.result.outcome) pairs
+HavePreimages pairs successes = map is_some successes ≡ map (λ pair. has_preimage (outcome_in pair.result.outcome)) pairs

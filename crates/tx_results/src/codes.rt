@@ -2,7 +2,7 @@
 
 ghost use Rattle.std.specs.Prelude.{◌≡◌};
 ghost use Rattle.tx_results.specs.Operations.{invoke_number, invoke_of_number, extend_number, extend_of_number, inner_number, inner_of_number, operation_number, operation_of_number};
-ghost use Rattle.tx_results.specs.Results.{code_number, code_of_number};
+ghost use Rattle.tx_results.specs.Results.{code_number, code_of_number, envelope_code_number, envelope_code_of_number};
 
 /// The result codes of INVOKE_HOST_FUNCTION that this host uses (`InvokeHostFunctionResultCode`).
 #[derive(Clone, Copy, Debug, PartialEq, Eq)]
@@ -144,7 +144,7 @@ impl OperationResultCode {
     }
 }
 
-/// The result codes of transactions that this host uses (`TransactionResultCode`).
+/// The result codes of transactions that this host uses (`TransactionResultCode`, without those of fee bumps).
 #[derive(Clone, Copy, Debug, PartialEq, Eq)]
 pub enum TransactionResultCode {
     /// txSUCCESS 0.
@@ -192,6 +192,45 @@ impl TransactionResultCode {
             TransactionResultCode::MissingOperation => 0xffff_fffc,
             TransactionResultCode::Malformed => 0xffff_fff0,
             TransactionResultCode::SorobanInvalid => 0xffff_ffef,
+        }
+    }
+}
+
+/// The result codes of envelopes that this host uses (`TransactionResultCode`).
+#[derive(Clone, Copy, Debug, PartialEq, Eq)]
+pub enum EnvelopeResultCode {
+    /// txFEE_BUMP_INNER_SUCCESS 1.
+    FeeBumpInnerSuccess,
+    /// txFEE_BUMP_INNER_FAILED -13.
+    FeeBumpInnerFailed,
+    /// The code of a transaction that is not in a fee bump.
+    Transaction(TransactionResultCode),
+}
+
+impl EnvelopeResultCode {
+    /// The variant with this number, or `None` if no variant has it (RFC 4506, section 4.3).
+    #[tactic(auto, using(crate::proofs::CodeNumbers::found_alone))]
+    pub fn from_number(number: u32) -> Option<EnvelopeResultCode>
+        ensures { result ≡ envelope_code_of_number number }
+    {
+        match number {
+            1 => Some(EnvelopeResultCode::FeeBumpInnerSuccess),
+            0xffff_fff3 => Some(EnvelopeResultCode::FeeBumpInnerFailed),
+            _ => match TransactionResultCode::from_number(number) {
+                Some(code) => Some(EnvelopeResultCode::Transaction(code)),
+                None => None,
+            },
+        }
+    }
+
+    /// The number of the variant (RFC 4506, section 4.3).
+    pub fn number(self) -> u32
+        ensures { result ≡ envelope_code_number self }
+    {
+        match self {
+            EnvelopeResultCode::FeeBumpInnerSuccess => 1,
+            EnvelopeResultCode::FeeBumpInnerFailed => 0xffff_fff3,
+            EnvelopeResultCode::Transaction(code) => code.number(),
         }
     }
 }

@@ -5,13 +5,18 @@ mod codes;
 mod numbers;
 mod operation;
 mod operation_codec;
+mod outcome_codec;
 mod result_codec;
 mod results;
 mod writing;
 
 pub use codes::{
-    ExtendResult, InnerKind, InvokeResultCode, OperationResultCode, TransactionResultCode,
+    EnvelopeResultCode, ExtendResult, InnerKind, InvokeResultCode, OperationResultCode,
+    TransactionResultCode,
 };
 pub use operation::{InnerResult, InvokeResult, OperationResult};
-pub use results::{ResultSet, TransactionOutcome, TransactionResult, TransactionResultPair};
+pub use results::{
+    EnvelopeOutcome, InnerTransactionResult, InnerTransactionResultPair, ResultSet,
+    TransactionOutcome, TransactionResult, TransactionResultPair,
+};
 pub use writing::{write_report, write_results};

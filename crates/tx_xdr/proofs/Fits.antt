@@ -2,16 +2,21 @@
 use Rattle.std.specs.List.{AllByRecursion}
 use Rattle.std.proofs.Common.{◌≡◌, true, List, [], ◌∷◌, refl}
 use Rattle.xdr_spec.specs.Format.{list}
-use Rattle.tx_xdr.specs.SetBounds.{whole, today, takes_operation}
+use Rattle.tx_xdr.specs.SetBounds.{whole, takes_operation}
 use Rattle.tx_xdr.specs.Operation.{kind, body_format, operation_format}
-use Rattle.tx_xdr.specs.Transaction.{transaction_format, envelope_format}
+use Rattle.tx_xdr.specs.Transaction.{transaction_format}
+use Rattle.tx_xdr.specs.Envelope.{signed_format, fee_bump_format, signed_fee_bump_format, envelope_format, transaction_in}
 use Rattle.tx_xdr.specs.declared.limits.SetBounds.{SetBounds}
 use Rattle.tx_xdr.specs.declared.transaction.OperationType.{OperationType}
 use Rattle.tx_xdr.specs.declared.transaction.OperationType.TheVariants.{InvokeHostFunction, ExtendFootprintTtl, RestoreFootprint}
 use Rattle.tx_xdr.specs.declared.transaction.OperationBody.{OperationBody}
 use Rattle.tx_xdr.specs.declared.transaction.Operation.{Operation}
 use Rattle.tx_xdr.specs.declared.transaction.Transaction.{Transaction}
-use Rattle.tx_xdr.specs.declared.transaction.Envelope.{Envelope}
+use Rattle.tx_xdr.specs.declared.envelope.SignedTransaction.{SignedTransaction}
+use Rattle.tx_xdr.specs.declared.envelope.FeeBump.{FeeBump}
+use Rattle.tx_xdr.specs.declared.envelope.SignedFeeBump.{SignedFeeBump}
+use Rattle.tx_xdr.specs.declared.envelope.Envelope.{Envelope}
+use Rattle.tx_xdr.specs.declared.envelope.Envelope.TheVariants as envelopes
 
 every_type : (k : OperationType) → takes_operation whole k ≡ true
 every_type InvokeHostFunction = refl
@@ -36,7 +41,25 @@ transaction_fits_whole limits tx h =
     let ops = h.1.1.1.1.1.0 in
     (h.0, (h.1.0, (h.1.1.0, (h.1.1.1.0, (h.1.1.1.1.0, ((ops.0, ops.1, operations_fit limits tx.operations ops.2), h.1.1.1.1.1.1))))))
 
--- the transaction of an envelope that runs today has a hash
-pub transaction_fits : (envelope : Envelope) → (envelope_format today).fits envelope → (transaction_format whole).fits envelope.tx
+signed_fits : (limits : SetBounds) (signed : SignedTransaction) → (signed_format limits).fits signed → (signed_format whole).fits signed
+unfolding signed_format
+signed_fits limits signed h = (transaction_fits_whole limits signed.tx h.0, h.1)
+
+fee_bump_fits : (limits : SetBounds) (fee_bump : FeeBump) → (fee_bump_format limits).fits fee_bump → (fee_bump_format whole).fits fee_bump
+unfolding fee_bump_format
+fee_bump_fits limits fee_bump h = (h.0, (h.1.0, (signed_fits limits fee_bump.inner h.1.1.0, h.1.1.1)))
+
+signed_fee_bump_fits : (limits : SetBounds) (signed : SignedFeeBump) → (signed_fee_bump_format limits).fits signed → (signed_fee_bump_format whole).fits signed
+unfolding signed_fee_bump_format
+signed_fee_bump_fits limits signed h = (fee_bump_fits limits signed.fee_bump h.0, h.1)
+
+pub envelope_fits_whole : (limits : SetBounds) (envelope : Envelope) → (envelope_format limits).fits envelope → (envelope_format whole).fits envelope
 unfolding envelope_format
-transaction_fits envelope h = transaction_fits_whole today envelope.tx h.0
+envelope_fits_whole limits (envelopes.Transaction signed) h = signed_fits limits signed h
+envelope_fits_whole limits (envelopes.FeeBump signed) h = signed_fee_bump_fits limits signed h
+
+-- the transaction that runs is within the limits of its envelope
+pub transaction_in_fits : (limits : SetBounds) (envelope : Envelope) → (envelope_format limits).fits envelope → (transaction_format limits).fits (transaction_in envelope)
+unfolding envelope_format signed_format signed_fee_bump_format fee_bump_format
+transaction_in_fits limits (envelopes.Transaction signed) h = h.0
+transaction_in_fits limits (envelopes.FeeBump signed) h = h.0.1.1.0.0

@@ -12,9 +12,9 @@ use Rattle.value_types.specs.Headed.{headed, headed_lawful}
 use Rattle.value_types.specs.Hash.{hash_format, hash_lawful}
 use Rattle.value_types.specs.declared.hash.Hash.{Hash}
 use Rattle.tx_xdr.specs.SetBounds.{takes_phase}
-use Rattle.tx_xdr.specs.Transaction.{envelope_format, envelope_lawful}
+use Rattle.tx_xdr.specs.Envelope.{envelope_format, envelope_lawful}
 use Rattle.tx_xdr.specs.declared.limits.SetBounds.{SetBounds}
-use Rattle.tx_xdr.specs.declared.transaction.Envelope.{Envelope}
+use Rattle.tx_xdr.specs.declared.envelope.Envelope.{Envelope}
 use Rattle.tx_xdr.specs.declared.set.Component.{Component}
 use Rattle.tx_xdr.specs.declared.set.Cluster.{Cluster}
 use Rattle.tx_xdr.specs.declared.set.Stage.{Stage}

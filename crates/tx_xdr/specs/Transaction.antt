@@ -1,29 +1,25 @@
--- Transactions and their envelopes (XDR file Stellar-transaction, `Transaction` and `TransactionEnvelope`).
+-- Transactions (XDR file Stellar-transaction, `Transaction`).
 use Rattle.std.specs.Prelude.{ℕ, ℤ, List}
-use Rattle.std.proofs.Common.{refl, arith}
+use Rattle.std.proofs.Common.{refl}
 use Rattle.xdr_spec.specs.Format.{Format, via, pair, list, number32, signed64}
 use Rattle.xdr_spec.specs.Laws.{IsFormat}
 use Rattle.xdr_spec.proofs.Pairs.{pair_lawful}
 use Rattle.xdr_spec.proofs.Remade.{via_lawful}
 use Rattle.xdr_spec.proofs.Derived.{list_lawful, number32_lawful, signed64_lawful}
-use Rattle.value_types.specs.Headed.{headed, headed_lawful}
 use Rattle.tx_parts.specs.MuxedAccount.{account_format, account_lawful}
 use Rattle.tx_parts.specs.Preconditions.{preconditions_format, preconditions_lawful}
 use Rattle.tx_parts.specs.Memo.{memo_format, memo_lawful}
-use Rattle.tx_parts.specs.Signature.{signature_format, signature_lawful}
 use Rattle.tx_parts.specs.declared.account.MuxedAccount.{MuxedAccount}
 use Rattle.tx_parts.specs.declared.preconditions.Preconditions.{Preconditions}
 use Rattle.tx_parts.specs.declared.memo.Memo.{Memo}
-use Rattle.tx_parts.specs.declared.signature.DecoratedSignature.{DecoratedSignature}
 use Rattle.tx_xdr.specs.Operation.{operation_format, operation_lawful}
 use Rattle.tx_xdr.specs.Ext.{ext_format, ext_lawful}
 use Rattle.tx_xdr.specs.declared.limits.SetBounds.{SetBounds}
 use Rattle.tx_xdr.specs.declared.transaction.Operation.{Operation}
 use Rattle.tx_xdr.specs.declared.transaction.TransactionExt.{TransactionExt}
 use Rattle.tx_xdr.specs.declared.transaction.Transaction.{Transaction}
-use Rattle.tx_xdr.specs.declared.transaction.Envelope.{Envelope}
 
--- ---- the transaction: its fields in order, with at most 100 operations (MAX_OPS_PER_TX)
+-- its fields in order, with at most 100 operations (MAX_OPS_PER_TX)
 
 abbrev pub TransactionFields : Type 0
 TransactionFields = MuxedAccount × (ℕ × (ℤ × (Preconditions × (Memo × (List Operation × TransactionExt)))))
@@ -43,19 +39,3 @@ unfolding transaction_format
 transaction_lawful limits = via_lawful transaction_of transaction_fields _ (λ f. refl) (λ tx. refl)
     (pair_lawful _ _ account_lawful (pair_lawful _ _ number32_lawful (pair_lawful _ _ signed64_lawful (pair_lawful _ _ preconditions_lawful
     (pair_lawful _ _ memo_lawful (pair_lawful _ _ (list_lawful 100 _ (operation_lawful limits)) ext_lawful))))))
-
--- ---- the envelope: the number 2 (ENVELOPE_TYPE_TX), the transaction, and at most 20 signatures
-
-abbrev pub envelope_of : Transaction × List DecoratedSignature → Envelope
-envelope_of f = record { tx = f.0; signatures = f.1 }
-
-abbrev pub envelope_fields : Envelope → Transaction × List DecoratedSignature
-envelope_fields envelope = (envelope.tx, envelope.signatures)
-
-unfoldable pub envelope_format : SetBounds → Format Envelope
-envelope_format limits = headed 2 (via envelope_of envelope_fields (pair (transaction_format limits) (list 20 signature_format)))
-
-pub envelope_lawful : (limits : SetBounds) → IsFormat (envelope_format limits)
-unfolding envelope_format
-envelope_lawful limits = headed_lawful 2 _ (omega arith) (via_lawful envelope_of envelope_fields _ (λ f. refl) (λ envelope. refl)
-    (pair_lawful _ _ (transaction_lawful limits) (list_lawful 20 _ signature_lawful)))

@@ -1,6 +1,9 @@
 //! Transactions and transaction sets with their codecs (the Stellar XDR files, under RFC 4506).
 #![tactic(auto)]
 
+mod cloning;
+mod envelope;
+mod envelope_codec;
 mod ext_codec;
 mod hashing;
 mod limits;
@@ -14,12 +17,13 @@ mod transaction;
 mod transaction_codec;
 mod within;
 
-pub use hashing::tx_hash;
+pub use envelope::{Envelope, EnvelopeType, FeeBump, SignedFeeBump, SignedTransaction};
+pub use hashing::{envelope_hash, tx_hash};
 pub use limits::SetBounds;
 pub use reading::{read_envelope, read_set, read_set_today};
 pub use set::{Cluster, Component, Phase, PhaseType, Stage, TxSet};
 pub use transaction::{
-    Envelope, Footprint, Operation, OperationBody, OperationType, SorobanData, Transaction,
-    TransactionExt, TransactionExtType,
+    Footprint, Operation, OperationBody, OperationType, SorobanData, Transaction, TransactionExt,
+    TransactionExtType,
 };
 pub use within::ReadWithin;

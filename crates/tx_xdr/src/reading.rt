@@ -4,14 +4,14 @@ ghost use Rattle.std.specs.Prelude.{IfOk, IfErr};
 ghost use Rattle.xdr_spec.specs.Refusal.{Spells};
 ghost use Rattle.xdr_core.specs.Reads.{IsValueUnlessMemory, IsRefusal};
 ghost use Rattle.tx_xdr.specs.SetBounds.{whole, today};
-ghost use Rattle.tx_xdr.specs.Transaction.{envelope_format};
+ghost use Rattle.tx_xdr.specs.Envelope.{envelope_format};
 ghost use Rattle.tx_xdr.specs.Set.{set_format};
 ghost use Rattle.tx_xdr.specs.declared.set.TxSet.{TxSet as Set};
-ghost use Rattle.tx_xdr.specs.declared.transaction.Envelope.{Envelope as Signed};
+ghost use Rattle.tx_xdr.specs.declared.envelope.Envelope.{Envelope as Signed};
 
+use crate::envelope::Envelope;
 use crate::limits::SetBounds;
 use crate::set::TxSet;
-use crate::transaction::Envelope;
 use crate::within::ReadWithin;
 use std::alloc::Global;
 use xdr_core::{Cursor, ReadXdr};

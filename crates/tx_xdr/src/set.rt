@@ -3,7 +3,7 @@
 ghost use Rattle.std.specs.Prelude.{◌≡◌};
 ghost use Rattle.tx_xdr.specs.Set.{phase_number, phase_type_of, phase_type, parallel_stages};
 
-use crate::transaction::Envelope;
+use crate::envelope::Envelope;
 use value_types::{Hash, Items};
 
 /// Transactions that run one after the other in a phase of components (`TxSetComponent`, of type 0).

@@ -4,9 +4,9 @@ ghost use Rattle.xdr_core.specs.Reads.{Reads};
 ghost use Rattle.tx_xdr.specs.SetBounds.{whole};
 ghost use Rattle.tx_xdr.specs.Set.{component_format, component_lawful, cluster_format, cluster_lawful, stage_format, stage_lawful, phase_type_format, phase_type_lawful, phase_arms, phase_format, phase_lawful, set_format, set_lawful};
 
+use crate::envelope::Envelope;
 use crate::limits::SetBounds;
 use crate::set::{Cluster, Component, Phase, PhaseType, Stage, TxSet};
-use crate::transaction::Envelope;
 use crate::within::{ReadWithin, read_list_within};
 use std::alloc::Global;
 use value_types::{Hash, Items};

@@ -7,7 +7,7 @@ ghost use Rattle.tx_xdr.specs.Ext as exts;
 use auth_types::AuthEntry;
 use invoke_types::HostFunction;
 use ledger_types::LedgerKey;
-use tx_parts::{DecoratedSignature, Memo, MuxedAccount, Preconditions};
+use tx_parts::{Memo, MuxedAccount, Preconditions};
 use value_types::Items;
 
 /// The types of operations (`OperationType`, without classic operations).
@@ -165,11 +165,4 @@ pub struct Transaction {
     pub memo: Memo,
     pub operations: Items<Operation, 100>,
     pub ext: TransactionExt,
-}
-
-/// A transaction with its signatures (envelope type 2).
-#[derive(Drop)]
-pub struct Envelope {
-    pub tx: Transaction,
-    pub signatures: Items<DecoratedSignature, 20>,
 }

@@ -1,16 +1,15 @@
-//! The spelling of transactions and their envelopes.
+//! The spelling of transactions.
 
 ghost use Rattle.tx_xdr.specs.SetBounds.{whole};
-ghost use Rattle.tx_xdr.specs.Transaction.{transaction_format, transaction_lawful, envelope_format, envelope_lawful};
+ghost use Rattle.tx_xdr.specs.Transaction.{transaction_format, transaction_lawful};
 
 use crate::limits::SetBounds;
-use crate::numbers::ENVELOPE_TYPE_TX;
-use crate::transaction::{Envelope, Operation, Transaction, TransactionExt};
+use crate::transaction::{Operation, Transaction, TransactionExt};
 use crate::within::{ReadWithin, read_list_within};
 use std::alloc::Global;
-use tx_parts::{DecoratedSignature, Memo, MuxedAccount, Preconditions};
+use tx_parts::{Memo, MuxedAccount, Preconditions};
 use value_types::Items;
-use value_xdr::{Xdr, read_head};
+use value_xdr::Xdr;
 use xdr_core::{Cursor, NoMemory, Out, ReadXdr, add_sizes};
 
 #[tactic(auto, unfolding(crate::specs::Transaction::transaction_format))]
@@ -72,43 +71,4 @@ impl Xdr for Transaction {
     }
 
     ghost lawful = { transaction_lawful whole };
-}
-
-#[tactic(auto, unfolding(crate::specs::Transaction::envelope_format))]
-impl ReadWithin for Envelope {
-    ghost format = { envelope_format };
-
-    fn read_parts_within(
-        alloc: Global,
-        input: &mut Cursor<'_>,
-        limits: SetBounds,
-    ) -> Result<Envelope, ReadXdr> {
-        read_head(input, ENVELOPE_TYPE_TX)?;
-        let tx = Transaction::read_within(alloc, input, limits)?;
-        let signatures = Items::<DecoratedSignature, 20>::read(alloc, input)?;
-        Ok(Envelope { tx, signatures })
-    }
-
-    ghost lawful = { envelope_lawful };
-}
-
-#[tactic(auto, unfolding(crate::specs::Transaction::envelope_format, xdr_core::specs::Sizes::capped))]
-impl Xdr for Envelope {
-    ghost format = { envelope_format whole };
-
-    fn read_parts(alloc: Global, input: &mut Cursor<'_>) -> Result<Envelope, ReadXdr> {
-        Envelope::read_within(alloc, input, SetBounds::whole())
-    }
-
-    fn write_parts(&self, out: &mut Out) -> Result<(), NoMemory> {
-        out.put_u32(ENVELOPE_TYPE_TX)?;
-        self.tx.write(out)?;
-        self.signatures.write(out)
-    }
-
-    fn size(&self) -> u64 {
-        add_sizes(self.tx.size(), self.signatures.size()).saturating_add(4)
-    }
-
-    ghost lawful = { envelope_lawful whole };
 }

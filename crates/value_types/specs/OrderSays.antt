@@ -1,17 +1,18 @@
 -- The order of values in the words of each type (own).
 use Rattle.std.specs.Prelude.{◌≡◌, ℕ, ◌<◌, ℤ, Bool, List, Option, Some, None}
 use Rattle.std.specs.Ordering.{nat_cmp, int_cmp, bool_cmp, ordering_then}
-use Rattle.std.specs.Cmp.Lexicographic.{slice_cmp}
+use Rattle.std.specs.Cmp.{IsTotalOrder, on_total, then_total, nat_cmp_total}
+use Rattle.std.specs.Cmp.Lexicographic.{slice_cmp, nat_list_cmp_total}
 use Rattle.std.specs.declared.cmp.Ordering.{Ordering}
 use Rattle.std.specs.declared.cmp.Ordering.TheVariants.{Less, Equal, Greater}
 use Rattle.value_types.specs.Datum.{Datum}
 use Rattle.value_types.specs.Kinds.{number}
 use Rattle.value_types.specs.Formats.{kind}
 use Rattle.value_types.specs.Error.{number as error_number, kind as error_kind, code}
+use Rattle.value_types.specs.Address.{number as address_number, kind as address_kind, key, muxed_id}
 use Rattle.value_types.specs.Order.{datum_cmp, pair_cmp, value_cmp}
 use Rattle.value_types.specs.declared.error.ScError.{ScError}
 use Rattle.value_types.specs.declared.address.ScAddress.{ScAddress}
-use Rattle.value_types.specs.declared.address.ScAddress.TheVariants.{Account, Contract}
 use Rattle.value_types.specs.declared.executable.Executable.{Executable}
 use Rattle.value_types.specs.declared.executable.Executable.TheVariants.{Wasm, StellarAsset}
 use Rattle.value_types.specs.declared.numbers.UInt128Parts.{UInt128Parts}
@@ -26,12 +27,16 @@ use Rattle.value_types.specs.declared.value.ScVal.TheVariants as values
 abbrev pub bytes_cmp : List ℕ → List ℕ → Ordering
 bytes_cmp = slice_cmp nat_cmp
 
--- addresses by kind, then by bytes
+-- addresses by kind, then by their 32 bytes, and multiplexed accounts then by id
 abbrev pub address_cmp : ScAddress → ScAddress → Ordering
-address_cmp (Account a) (Account b) = bytes_cmp a.0.0 b.0.0
-address_cmp (Account a) (Contract c) = Less
-address_cmp (Contract c) (Account a) = Greater
-address_cmp (Contract c) (Contract d) = bytes_cmp c.0 d.0
+address_cmp x y =
+    ordering_then (nat_cmp (address_number (address_kind x)) (address_number (address_kind y)))
+    (ordering_then (bytes_cmp (key x).0 (key y).0) (nat_cmp (muxed_id x) (muxed_id y)))
+
+pub address_total : IsTotalOrder address_cmp
+address_total =
+    then_total (on_total (λ (a : ScAddress). address_number (address_kind a)) nat_cmp_total)
+    (then_total (on_total (λ (a : ScAddress). (key a).0) nat_list_cmp_total) (on_total muxed_id nat_cmp_total))
 
 -- executables by kind, then by hash
 abbrev pub executable_cmp : Executable → Executable → Ordering

@@ -1,7 +1,7 @@
 //! Addresses.
 
 ghost use Rattle.std.specs.Prelude.{◌≡◌, ⊤};
-ghost use Rattle.value_types.specs.Address.{number, kind_of, kind};
+ghost use Rattle.value_types.specs.Address.{number, kind_of, kind, key, muxed_id};
 
 use crate::account_id::AccountId;
 use crate::hash::Hash;
@@ -12,6 +12,9 @@ use std::alloc::AllocError;
 pub enum ScAddressType {
     Account,
     Contract,
+    MuxedAccount,
+    ClaimableBalance,
+    LiquidityPool,
 }
 
 impl ScAddressType {
@@ -22,6 +25,9 @@ impl ScAddressType {
         match number {
             0 => Some(ScAddressType::Account),
             1 => Some(ScAddressType::Contract),
+            2 => Some(ScAddressType::MuxedAccount),
+            3 => Some(ScAddressType::ClaimableBalance),
+            4 => Some(ScAddressType::LiquidityPool),
             _ => None,
         }
     }
@@ -33,17 +39,26 @@ impl ScAddressType {
         match self {
             ScAddressType::Account => 0,
             ScAddressType::Contract => 1,
+            ScAddressType::MuxedAccount => 2,
+            ScAddressType::ClaimableBalance => 3,
+            ScAddressType::LiquidityPool => 4,
         }
     }
 }
 
-/// The address of an account or a contract (the XDR files' `SCAddress`).
-#[derive(Debug, PartialEq, Eq)]
+/// The address of an account, a contract, a claimable balance or a liquidity pool (the XDR files' `SCAddress`, CAP-0067).
+#[derive(Debug)]
 pub enum ScAddress {
     /// 0.
     Account(AccountId),
     /// 1: the contract's id.
     Contract(Hash),
+    /// 2: one of several accounts that share an ed25519 public key (the XDR files' `MuxedEd25519Account`).
+    MuxedAccount { id: u64, ed25519: Hash },
+    /// 3: the balance's id, of type 0.
+    ClaimableBalance(Hash),
+    /// 4: the pool's id.
+    LiquidityPool(Hash),
 }
 
 impl Clone for ScAddress {
@@ -66,6 +81,32 @@ impl ScAddress {
         match self {
             ScAddress::Account(_) => ScAddressType::Account,
             ScAddress::Contract(_) => ScAddressType::Contract,
+            ScAddress::MuxedAccount { .. } => ScAddressType::MuxedAccount,
+            ScAddress::ClaimableBalance(_) => ScAddressType::ClaimableBalance,
+            ScAddress::LiquidityPool(_) => ScAddressType::LiquidityPool,
+        }
+    }
+
+    /// The 32 bytes of the address: a public key or an id.
+    pub(crate) fn key(self) -> Hash
+        ensures { result ≡ key self }
+    {
+        match self {
+            ScAddress::Account(account) => account.0,
+            ScAddress::Contract(id)
+            | ScAddress::ClaimableBalance(id)
+            | ScAddress::LiquidityPool(id) => id,
+            ScAddress::MuxedAccount { ed25519, .. } => ed25519,
+        }
+    }
+
+    /// The id of a multiplexed account, or 0 for an address without one.
+    pub(crate) fn muxed_id(self) -> u64
+        ensures { result ≡ muxed_id self }
+    {
+        match self {
+            ScAddress::MuxedAccount { id, .. } => id,
+            _ => 0,
         }
     }
 }

@@ -4,10 +4,12 @@ ghost use Rattle.std.specs.Prelude.{◌≡◌};
 ghost use Rattle.xdr_core.specs.Reads.{Reads};
 ghost use Rattle.value_types.specs.Address.{type_format, type_lawful, address_format, address_lawful, arms};
 
+use crate::balance_id::{read_balance_id, size_of_balance_id, write_balance_id};
+use crate::head::named;
 use crate::xdr::Xdr;
 use std::alloc::Global;
 use value_types::{AccountId, Hash, ScAddress, ScAddressType};
-use xdr_core::{Cursor, NoMemory, Out, ReadXdr, Why, XdrErr, add_sizes};
+use xdr_core::{Cursor, NoMemory, Out, ReadXdr, add_sizes};
 
 #[tactic(auto, unfolding(value_types::specs::Address::type_format, xdr_core::specs::Sizes::capped))]
 impl Xdr for ScAddressType {
@@ -15,11 +17,7 @@ impl Xdr for ScAddressType {
 
     fn read_parts(_alloc: Global, input: &mut Cursor<'_>) -> Result<ScAddressType, ReadXdr> {
         let place = input.place();
-        let number = input.u32()?;
-        ScAddressType::from_number(number).ok_or(ReadXdr::Bad(XdrErr {
-            at: place,
-            why: Why::Tag,
-        }))
+        named(ScAddressType::from_number(input.u32()?), place)
     }
 
     fn write_parts(&self, out: &mut Out) -> Result<(), NoMemory> {
@@ -43,6 +41,15 @@ fn read_arm(
     match kind {
         ScAddressType::Account => Ok(ScAddress::Account(AccountId::read(alloc, input)?)),
         ScAddressType::Contract => Ok(ScAddress::Contract(Hash::read(alloc, input)?)),
+        ScAddressType::MuxedAccount => {
+            let id = u64::read(alloc, input)?;
+            let ed25519 = Hash::read(alloc, input)?;
+            Ok(ScAddress::MuxedAccount { id, ed25519 })
+        }
+        ScAddressType::ClaimableBalance => {
+            Ok(ScAddress::ClaimableBalance(read_balance_id(alloc, input)?))
+        }
+        ScAddressType::LiquidityPool => Ok(ScAddress::LiquidityPool(Hash::read(alloc, input)?)),
     }
 }
 
@@ -60,6 +67,12 @@ impl Xdr for ScAddress {
         match self {
             ScAddress::Account(account) => account.write(out),
             ScAddress::Contract(id) => id.write(out),
+            ScAddress::MuxedAccount { id, ed25519 } => {
+                id.write(out)?;
+                ed25519.write(out)
+            }
+            ScAddress::ClaimableBalance(id) => write_balance_id(id, out),
+            ScAddress::LiquidityPool(id) => id.write(out),
         }
     }
 
@@ -67,6 +80,9 @@ impl Xdr for ScAddress {
         let body = match self {
             ScAddress::Account(account) => account.size(),
             ScAddress::Contract(id) => id.size(),
+            ScAddress::MuxedAccount { id, ed25519 } => add_sizes(id.size(), ed25519.size()),
+            ScAddress::ClaimableBalance(id) => size_of_balance_id(id),
+            ScAddress::LiquidityPool(id) => id.size(),
         };
         add_sizes(self.kind().size(), body)
     }

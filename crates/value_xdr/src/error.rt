@@ -4,10 +4,11 @@ ghost use Rattle.std.specs.Prelude.{◌≡◌};
 ghost use Rattle.xdr_core.specs.Reads.{Reads};
 ghost use Rattle.value_types.specs.Error.{type_format, type_lawful, code_format, code_lawful, error_format, error_lawful, arms};
 
+use crate::head::named;
 use crate::xdr::Xdr;
 use std::alloc::Global;
 use value_types::{ScError, ScErrorCode, ScErrorType};
-use xdr_core::{Cursor, NoMemory, Out, ReadXdr, Why, XdrErr, add_sizes};
+use xdr_core::{Cursor, NoMemory, Out, ReadXdr, add_sizes};
 
 #[tactic(auto, unfolding(value_types::specs::Error::type_format, xdr_core::specs::Sizes::capped))]
 impl Xdr for ScErrorType {
@@ -15,11 +16,7 @@ impl Xdr for ScErrorType {
 
     fn read_parts(_alloc: Global, input: &mut Cursor<'_>) -> Result<ScErrorType, ReadXdr> {
         let place = input.place();
-        let number = input.u32()?;
-        ScErrorType::from_number(number).ok_or(ReadXdr::Bad(XdrErr {
-            at: place,
-            why: Why::Tag,
-        }))
+        named(ScErrorType::from_number(input.u32()?), place)
     }
 
     fn write_parts(&self, out: &mut Out) -> Result<(), NoMemory> {
@@ -39,11 +36,7 @@ impl Xdr for ScErrorCode {
 
     fn read_parts(_alloc: Global, input: &mut Cursor<'_>) -> Result<ScErrorCode, ReadXdr> {
         let place = input.place();
-        let number = input.u32()?;
-        ScErrorCode::from_number(number).ok_or(ReadXdr::Bad(XdrErr {
-            at: place,
-            why: Why::Tag,
-        }))
+        named(ScErrorCode::from_number(input.u32()?), place)
     }
 
     fn write_parts(&self, out: &mut Out) -> Result<(), NoMemory> {

@@ -4,10 +4,11 @@ ghost use Rattle.std.specs.Prelude.{◌≡◌};
 ghost use Rattle.xdr_core.specs.Reads.{Reads};
 ghost use Rattle.value_types.specs.Executable.{type_format, type_lawful, executable_format, executable_lawful, arms};
 
+use crate::head::named;
 use crate::xdr::Xdr;
 use std::alloc::Global;
 use value_types::{Executable, ExecutableType, Hash};
-use xdr_core::{Cursor, NoMemory, Out, ReadXdr, Why, XdrErr, add_sizes};
+use xdr_core::{Cursor, NoMemory, Out, ReadXdr, add_sizes};
 
 #[tactic(auto, unfolding(value_types::specs::Executable::type_format, xdr_core::specs::Sizes::capped))]
 impl Xdr for ExecutableType {
@@ -15,11 +16,7 @@ impl Xdr for ExecutableType {
 
     fn read_parts(_alloc: Global, input: &mut Cursor<'_>) -> Result<ExecutableType, ReadXdr> {
         let place = input.place();
-        let number = input.u32()?;
-        ExecutableType::from_number(number).ok_or(ReadXdr::Bad(XdrErr {
-            at: place,
-            why: Why::Tag,
-        }))
+        named(ExecutableType::from_number(input.u32()?), place)
     }
 
     fn write_parts(&self, out: &mut Out) -> Result<(), NoMemory> {

@@ -1,6 +1,9 @@
 //! The discriminant of a union of one arm.
 
-ghost use Rattle.xdr_spec.specs.Format.{nothing};
+ghost use Rattle.std.specs.Prelude.{◌≡◌, Some, None, IfOk, IfErr};
+ghost use Rattle.xdr_spec.specs.Format.{nothing, refusal};
+ghost use Rattle.xdr_core.specs.declared.error.ReadXdr.TheVariants.{Bad};
+ghost use Rattle.xdr_spec.specs.declared.Why.TheVariants.{Tag};
 ghost use Rattle.xdr_core.specs.Reads.{Reads};
 ghost use Rattle.value_types.specs.Headed.{headed};
 
@@ -18,4 +21,15 @@ pub fn read_head(input: &mut Cursor<'_>, number: u32) -> Result<(), ReadXdr>
         }));
     }
     Ok(())
+}
+
+/// The variant of an enumeration, if its number has one. Refuses a number without a variant as `Why::Tag`, at its byte offset.
+pub fn named<K>(variant: Option<K>, place: u64) -> Result<K, ReadXdr>
+    ensures ok { IfOk result (λ k. variant ≡ Some k) }
+    ensures err { IfErr result (λ e. (variant ≡ None) × (e ≡ Bad (refusal place Tag))) }
+{
+    variant.ok_or(ReadXdr::Bad(XdrErr {
+        at: place,
+        why: Why::Tag,
+    }))
 }

@@ -35,6 +35,6 @@ pub fn prefix_is_read<T: Xdr>()
         → T.format.read (input place (bytes ++ rest)) ≡ Ok (v, input (place + length bytes) rest) }
     ensures only { (place : ℕ) (v : T) (bytes : List ℕ) (i : Input) → IsBytes bytes → T.format.read (input place bytes) ≡ Ok (v, i)
         → (prefix : List ℕ) × Spells T.format v prefix × (bytes ≡ prefix ++ i.rest) × (i.place ≡ place + length prefix) }
-    ensures refused { (bytes : List ℕ) (e : XdrErr) → IsBytes bytes → T.format.read (input 0 bytes) ≡ Err e
-        → Refuses T.format bytes e.at e.why }
+    ensures refused { (place : ℕ) (bytes : List ℕ) (e : XdrErr) → IsBytes bytes → T.format.read (input place bytes) ≡ Err e
+        → (at : ℕ) × (e.at ≡ place + at) × Refuses T.format bytes at e.why }
 {}

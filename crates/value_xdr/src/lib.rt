@@ -3,6 +3,7 @@
 
 mod account_id;
 mod address;
+mod balance_id;
 mod blob;
 mod bytes;
 mod error;
@@ -20,8 +21,9 @@ mod scval;
 mod writing;
 mod xdr;
 
+pub use balance_id::{read_balance_id, size_of_balance_id, write_balance_id};
 pub use blob::{read_blob, size_of_blob, write_blob};
-pub use head::read_head;
+pub use head::{named, read_head};
 pub use laws::{one_refusal, one_spelling, prefix_is_read, spelled_or_refused};
 pub use rows::{read_list, read_row, size_of_list, write_list};
 pub use scval::{val_size, value_from_bytes, value_to_bytes};

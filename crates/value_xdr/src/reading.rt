@@ -85,8 +85,9 @@ fn read_map(alloc: Global, input: &mut Cursor<'_>, left: u32) -> Result<Option<E
     }
 }
 
+/// Reads an instance with at most `left` levels below it.
 #[cycle(read)]
-fn read_instance(alloc: Global, input: &mut Cursor<'_>, left: u32) -> Result<Instance, ReadXdr>
+pub fn read_instance(alloc: Global, input: &mut Cursor<'_>, left: u32) -> Result<Instance, ReadXdr>
     ensures { Reads (instance_format (members_format left)).read input.old input.new result }
 {
     let executable = Executable::read(alloc, input)?;

@@ -1,4 +1,4 @@
-//! The codec of values that stand alone.
+//! The codec of values that stand alone, and of the instances of such values.
 
 ghost use Rattle.std.specs.Prelude.{◌≡◌, length, IfOk, IfErr};
 ghost use Rattle.xdr_core.specs.Sizes.{capped};
@@ -6,13 +6,13 @@ ghost use Rattle.value_xdr.specs.ValueBytes.{value_bytes, IsValueBounded};
 ghost use Rattle.xdr_spec.specs.Refusal.{Spells};
 ghost use Rattle.xdr_core.specs.Reads.{IsValueUnlessMemory, IsRefusal};
 ghost use Rattle.value_types.specs.declared.value.ScVal.{ScVal as ScValData};
-ghost use Rattle.value_types.specs.Formats.{scval_format};
-ghost use Rattle.value_types.specs.Lawful.{scval_lawful};
+ghost use Rattle.value_types.specs.Formats.{scval_format, contract_instance_format};
+ghost use Rattle.value_types.proofs.Lawful.{scval_lawful, contract_instance_lawful};
 
 use crate::xdr::{Xdr, decode, encode};
 use crate::{reading, writing};
 use std::alloc::Global;
-use value_types::ScVal;
+use value_types::{Instance, ScVal};
 use xdr_core::{Cursor, NoMemory, Out, ReadXdr};
 
 /// The number of levels below a value that stands alone.
@@ -35,6 +35,25 @@ impl Xdr for ScVal {
     }
 
     ghost lawful = { scval_lawful };
+}
+
+#[tactic(auto, unfolding(value_types::specs::Formats::contract_instance_format))]
+impl Xdr for Instance {
+    ghost format = { contract_instance_format };
+
+    fn read_parts(alloc: Global, input: &mut Cursor<'_>) -> Result<Instance, ReadXdr> {
+        reading::read_instance(alloc, input, LEVELS_BELOW)
+    }
+
+    fn write_parts(&self, out: &mut Out) -> Result<(), NoMemory> {
+        writing::write_instance(self, out)
+    }
+
+    fn size(&self) -> u64 {
+        writing::size_of_instance(self)
+    }
+
+    ghost lawful = { contract_instance_lawful };
 }
 
 /// The value that all the bytes spell.

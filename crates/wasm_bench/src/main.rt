@@ -31,7 +31,7 @@ fn run<R: Runtime + AllocGlobal>(rt: &R) -> Option<(u64, u64)> {
     let mut words = std::env::args(rt).ok()?.skip(1);
     let name = Word::new(words.next()?);
     let export = words.next()?;
-    let mut files = RealFiles::new(rt.clone().ok()?);
+    let mut files = RealFiles::new(rt.clone().ok()?, alloc, name.as_str().len()).ok()?;
     let file = read_whole(alloc, &mut files, 0, &name).ok()?;
     let module = read_module(alloc, file.as_slice()).ok()?;
     let valid = check(alloc, module).ok()?;

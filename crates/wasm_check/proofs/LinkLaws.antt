@@ -1,9 +1,9 @@
--- The tests of imports are passed exactly where the imports are functions of the host.
-use Rattle.std.proofs.Common.{◌≡◌, ℕ, ◌+◌, ◌⊎◌, inl, inr, ⊎_elim, Bool, true, false, List, [], ◌∷◌, ◌++◌, ◌<◌, length, map, get_or, take, replicate, Option, Some, None, refl, sym, ap, ap₂, ◌∙◌, subst, suc, zero}
-use Rattle.std.specs.Prelude.{◌==◌, ◌&&◌, ◌||◌, slice_get}
-use Rattle.std.specs.List.{list_all, list_any, AllByRecursion}
+-- An import has a row exactly if it is one of the host's imports.
+use Rattle.std.proofs.Common.{◌≡◌, ℕ, ◌+◌, inl, inr, ⊎_elim, Bool, true, false, List, [], ◌∷◌, ◌++◌, ◌<◌, length, get_or, take, replicate, Option, Some, None, refl, sym, ap, ap₂, ◌∙◌, subst, suc, zero}
+use Rattle.std.specs.Prelude.{◌==◌, ◌&&◌, slice_get, is_some, option_map, not, if◌then◌else◌}
+use Rattle.std.specs.List.{list_all, AllByRecursion}
 use Rattle.std.specs.Str.{bytes_eq}
-use denote.Ref.{Bor}
+use Rattle.host_interface.specs.Rows.{Row}
 use Rattle.std.proofs.lemmas.List.{take_more}
 use Rattle.std.proofs.lemmas.Bool.{eqb-true, eq-eqb}
 use Rattle.std.proofs.lemmas.Slice.Eq.{bytes_eq-Decides}
@@ -13,32 +13,9 @@ use Rattle.wasm_spec.specs.declared.types.FuncType.{FuncType}
 use Rattle.wasm_spec.specs.declared.module.Import.{Import}
 use Rattle.wasm_spec.specs.declared.module.Module.{Module}
 use Rattle.wasm_check.specs.Check.{same_type}
-use Rattle.wasm_check.specs.Linking.{Host, HostImport, functions_of, SomeOf, IsHostFunction, ImportLinked, one_i64, type_matches, matches, host_has, typed_import, import_ok}
+use Rattle.wasm_check.specs.Linking.{SomeOf, IsHostImport, ImportLinked, one_i64, type_matches, matches, find_row, typed_row, import_row, import_ok}
 use Rattle.wasm_check.proofs.OutsideLaws.{Same, same_and, same_all, same_type_true, same_type_refl}
 use Rattle.wasm_check.proofs.Passed.{and_true, both_true, never}
-
-or_true : (a b : Bool) → (a || b) ≡ true → (a ≡ true) ⊎ (b ≡ true)
-or_true true b e = inl refl
-or_true false true e = inr refl
-or_true false false e = cc
-
-or_left : (a b : Bool) → a ≡ true → (a || b) ≡ true
-or_left true b e = refl
-or_left false b e = cc
-
-or_right : (a b : Bool) → b ≡ true → (a || b) ≡ true
-or_right true b e = refl
-or_right false true e = refl
-or_right false false e = cc
-
-same_some : {A : Type 0} {p : A → Bool} {P : A → Type 0} → ((x : A) → Same (p x) (P x)) → (xs : List A) → Same (list_any p xs) (SomeOf P xs)
-same_some {A} {p} {P} each [] = record { back = λ (e : false ≡ true). cc; on = λ h. absurd h }
-same_some {A} {p} {P} each (x ∷ xs) =
-    let r = same_some each xs in
-    record {
-      back = λ e. ⊎_elim (λ q. inl ((each x).back q)) (λ q. inr (r.back q)) (or_true (p x) (list_any p xs) e);
-      on = λ h. ⊎_elim (λ q. or_left (p x) (list_any p xs) ((each x).on q)) (λ q. or_right (p x) (list_any p xs) (r.on q)) h;
-    }
 
 same_bytes : (a b : List ℕ) → Same (bytes_eq a b) (a ≡ b)
 same_bytes a b = let d = bytes_eq-Decides a b in record { back = d.0; on = d.1 }
@@ -84,46 +61,72 @@ same_signature n t = record { back = back; on = on }
         both_true (length t.params == n) (list_all (λ p. same_type p I64) t.params && one_i64 t.results) (eq-eqb (length t.params) n (ap length h.0 ∙ count_replicate n))
         (both_true (list_all (λ p. same_type p I64) t.params) (one_i64 t.results) ((same_all same_is t.params).on (subst (AllByRecursion (λ p. p ≡ I64)) (sym h.0) (all_replicate n))) ((same_one t.results).on h.1))
 
-same_function : (i : Import) (t : FuncType) (f : HostImport) → Same (matches i t f) (IsHostFunction i t f)
-same_function i t f = flat (same_and (same_bytes i.module f.0) (same_and (same_bytes i.name f.1) (same_signature f.2 t)))
+same_row : (i : Import) (t : FuncType) (row : Row) → Same (matches i t row) (IsHostImport i t row)
+same_row i t row = flat (same_and (same_bytes i.module row.letter) (same_and (same_bytes i.name row.name) (same_signature (length row.arguments) t)))
   where
     flat : {b : Bool} {P Q R S : Type 0} → Same b (P × (Q × (R × S))) → Same b (P × Q × R × S)
     flat s = record { back = λ e. let h = s.back e in (h.0, h.1.0, h.1.1.0, h.1.1.1); on = λ h. s.on (h.0, (h.1, (h.2, h.3))) }
 
-same_host : (host : Host) (i : Import) (t : FuncType) → Same (host_has host i t) (SomeOf (IsHostFunction i t) host)
-same_host host i t = same_some (same_function i t) host
+-- the row that is found
 
-same_typed : (host : Host) (i : Import) (o : Option FuncType) → Same (typed_import host i o) ((t : FuncType) × (o ≡ Some t) × SomeOf (IsHostFunction i t) host)
-same_typed host i None = record { back = λ (e : false ≡ true). cc; on = λ h. let e = h.1 in never_some h.0 e }
+search_back : (i : Import) (t : FuncType) (row : Row) (rows : List Row) (b : Bool) → matches i t row ≡ b → (is_some (find_row rows i t) ≡ true → SomeOf (IsHostImport i t) rows)
+    → is_some (if b then Some row else find_row rows i t) ≡ true → SomeOf (IsHostImport i t) (row ∷ rows)
+search_back i t row rows true m later e = inl ((same_row i t row).back m)
+search_back i t row rows false m later e = inr (later e)
+
+search_on : (o : Option Row) (row : Row) (b : Bool) → is_some o ≡ true → is_some (if b then Some row else o) ≡ true
+search_on o row true e = refl
+search_on o row false e = e
+
+same_search : (i : Import) (t : FuncType) (rows : List Row) → Same (is_some (find_row rows i t)) (SomeOf (IsHostImport i t) rows)
+same_search i t [] = record { back = λ (e : false ≡ true). cc; on = λ h. absurd h }
+same_search i t (row ∷ rows) =
+    let later = same_search i t rows in
+    record {
+      back = λ e. search_back i t row rows (matches i t row) refl later.back e;
+      on = λ h. ⊎_elim (λ q. rw ((same_row i t row).on q) refl) (λ q. search_on (find_row rows i t) row (matches i t row) (later.on q)) h;
+    }
+
+found_at : (i : Import) (t : FuncType) (r : Row) (o : Option Row) (row : Row) (b : Bool) → matches i t r ≡ b → (o ≡ Some row → IsHostImport i t row) → (if b then Some r else o) ≡ Some row → IsHostImport i t row
+found_at i t r o row true m later e = let same : r ≡ row = cc in subst (IsHostImport i t) same ((same_row i t r).back m)
+found_at i t r o row false m later e = later e
+
+-- the row that is found is the import's
+pub found_is : (i : Import) (t : FuncType) (rows : List Row) (row : Row) → find_row rows i t ≡ Some row → IsHostImport i t row
+found_is i t [] row e = cc
+found_is i t (r ∷ rows) row e = found_at i t r (find_row rows i t) row (matches i t r) refl (found_is i t rows row) e
+
+same_typed : (rows : List Row) (i : Import) (o : Option FuncType) → Same (is_some (typed_row rows i o)) ((t : FuncType) × (o ≡ Some t) × SomeOf (IsHostImport i t) rows)
+same_typed rows i None = record { back = λ (e : false ≡ true). cc; on = λ h. let e = h.1 in never_some h.0 e }
   where
     never_some : (t : FuncType) → None ≡ Some t → false ≡ true
     never_some t e = cc
-same_typed host i (Some u) = record { back = λ e. (u, refl, (same_host host i u).back e); on = λ h. (same_host host i u).on (subst (λ t. SomeOf (IsHostFunction i t) host) (sym (some_is u h.0 h.1)) h.2) }
+same_typed rows i (Some u) = record { back = λ e. (u, refl, (same_search i u rows).back e); on = λ h. (same_search i u rows).on (subst (λ t. SomeOf (IsHostImport i t) rows) (sym (some_is u h.0 h.1)) h.2) }
   where
     some_is : (u t : FuncType) → Some u ≡ Some t → u ≡ t
     some_is u t e = cc
 
-pub same_import : (host : Host) (m : Module) (i : Import) → Same (import_ok host m i) (ImportLinked host m i)
-same_import host m i = same_typed host i (slice_get m.types i.type_index)
+pub same_import : (rows : List Row) (m : Module) (i : Import) → Same (import_ok rows m i) (ImportLinked rows m i)
+same_import rows m i = same_typed rows i (slice_get m.types i.type_index)
 
--- of the code's functions
-any_map : {A B : Type 0} (g : A → B) (p : B → Bool) (xs : List A) → list_any p (map g xs) ≡ list_any (λ x. p (g x)) xs
-any_map g p [] = refl
-any_map g p (x ∷ xs) = ap (λ b. p (g x) || b) (any_map g p xs)
+-- the test of an import, from the row that the code found
+mapped_is_some : {A B : Type 0} (f : A → B) (o : Option A) → is_some (option_map f o) ≡ is_some o
+mapped_is_some f None = refl
+mapped_is_some f (Some x) = refl
 
-pub host_has_of : (fs : List (Bor (List ℕ) × Bor (List ℕ) × ℕ)) (i : Import) (t : FuncType) → host_has (functions_of fs) i t ≡ list_any (λ f. matches i t (f.0.now, f.1.now, f.2)) fs
-host_has_of fs i t = any_map (λ f. (f.0.now, f.1.now, f.2)) (matches i t) fs
+pub tested : {A : Type 0} (f : A → Row) (rows : List Row) (m : Module) (i : Import) (o : Option A) (none : Bool) → option_map f o ≡ import_row rows m i → is_some o ≡ not none → import_ok rows m i ≡ not none
+tested f rows m i o none e t = sym (ap is_some e) ∙ mapped_is_some f o ∙ t
 
 -- the tests so far, and one more
 
-pub linked_more : (host : Host) (m : Module) (k : ℕ) (i : Import) → k < length m.imports → i ≡ get_or m.imports k i → import_ok host m i ≡ true → AllByRecursion (ImportLinked host m) (take k m.imports) → AllByRecursion (ImportLinked host m) (take (k + 1) m.imports)
-linked_more host m k i lt e ok h =
+pub linked_more : (rows : List Row) (m : Module) (k : ℕ) (i : Import) → k < length m.imports → i ≡ get_or m.imports k i → import_ok rows m i ≡ true → AllByRecursion (ImportLinked rows m) (take k m.imports) → AllByRecursion (ImportLinked rows m) (take (k + 1) m.imports)
+linked_more rows m k i lt e ok h =
     let t : take (k + 1) m.imports ≡ take k m.imports ++ i ∷ [] = take_more m.imports k i lt ∙ ap (λ x. take k m.imports ++ x ∷ []) (sym e) in
-    subst (AllByRecursion (ImportLinked host m)) (sym t) (all_push (ImportLinked host m) (take k m.imports) i h ((same_import host m i).back ok))
+    subst (AllByRecursion (ImportLinked rows m)) (sym t) (all_push (ImportLinked rows m) (take k m.imports) i h ((same_import rows m i).back ok))
   where
     all_push : {A : Type 0} (P : A → Type 0) (xs : List A) (x : A) → AllByRecursion P xs → P x → AllByRecursion P (xs ++ x ∷ [])
     all_push P [] x h p = (p, tt)
     all_push P (y ∷ ys) x h p = (h.0, all_push P ys x h.1 p)
 
-pub not_linked : (host : Host) (m : Module) (i : Import) → import_ok host m i ≡ false → ImportLinked host m i → ⊥
-not_linked host m i e h = never (import_ok host m i) e ((same_import host m i).on h)
+pub not_linked : (rows : List Row) (m : Module) (i : Import) → import_ok rows m i ≡ false → ImportLinked rows m i → ⊥
+not_linked rows m i e h = never (import_ok rows m i) e ((same_import rows m i).on h)

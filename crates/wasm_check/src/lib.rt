@@ -4,7 +4,6 @@
 mod code;
 mod context;
 mod error;
-mod host;
 mod linking;
 mod module;
 mod names;
@@ -13,7 +12,6 @@ mod outside;
 mod signature;
 
 pub use error::{CheckErr, Unlinked};
-pub use host::{HOST_FUNCTIONS, HostImport};
-pub use linking::link;
+pub use linking::{host_row, link};
 pub use module::{ValidModule, check};
 pub use names::same_name;

@@ -1,16 +1,17 @@
 //! Linking of a module with the host interface.
 
-ghost use Rattle.std.specs.Prelude.{◌≡◌, ◌<◌, ◌^◌, length, OnOk, IfErr};
-ghost use Rattle.std.specs.List.{list_all, list_any};
+ghost use Rattle.std.specs.Prelude.{◌≡◌, ◌<◌, ◌^◌, length, option_map, OnOk, IfErr};
+ghost use Rattle.std.specs.List.{list_all};
 ghost use Rattle.wasm_spec.specs.declared.types.ValueType.TheVariants.{I64};
+ghost use Rattle.host_interface.specs.Rows.{host_rows, row_of, rows_of};
 ghost use Rattle.wasm_check.specs.Check.{same_type as same};
-ghost use Rattle.wasm_check.specs.Linking.{Linked, IsFirstUnlinked, one_i64, type_matches, matches, functions_of, host_functions, import_ok};
+ghost use Rattle.wasm_check.specs.Linking.{Linked, IsFirstUnlinked, one_i64, type_matches, matches, find_row, import_row};
 
 use crate::error::Unlinked;
-use crate::host::{HOST_FUNCTIONS, HostImport};
 use crate::module::ValidModule;
 use crate::names::same_name;
 use crate::operands::same_type;
+use host_interface::{HOST_ROWS, TableRow};
 use wasm_code::type_at;
 use wasm_spec::{FuncType, Import, Module, ValueType};
 
@@ -41,41 +42,45 @@ fn type_matches(arity: usize, func_type: &FuncType) -> bool
     params.len() == arity && all_i64(params) && one_i64(func_type.results.as_slice())
 }
 
-/// Returns whether an import of this type is the host import.
-fn matches(import: &Import, func_type: &FuncType, function: &HostImport) -> bool
-    ensures { result ≡ matches «import».now func_type.now (function.now.0.now, function.now.1.now, function.now.2) }
+/// Returns whether an import of this type is the host import of the row.
+fn matches(import: &Import, func_type: &FuncType, row: &TableRow) -> bool
+    ensures { result ≡ matches «import».now func_type.now (row_of row.now) }
 {
-    same_name(import.module.as_slice(), function.0.as_bytes())
-        && same_name(import.name.as_slice(), function.1.as_bytes())
-        && type_matches(function.2, func_type)
+    same_name(import.module.as_slice(), row.letter.as_bytes())
+        && same_name(import.name.as_slice(), row.name.as_bytes())
+        && type_matches(row.arguments.len(), func_type)
 }
 
-/// Returns whether an import of this type is one of the host imports.
-fn host_has(host: &[HostImport], import: &Import, func_type: &FuncType) -> bool
-    ensures { result ≡ list_any (λ f. matches «import».now func_type.now (f.0.now, f.1.now, f.2)) host.now }
+/// Returns the first row whose host import an import of this type is.
+fn find_row(table: &[TableRow], import: &Import, func_type: &FuncType) -> Option<TableRow>
+    ensures { option_map row_of result ≡ find_row (rows_of table.now) «import».now func_type.now }
 {
-    host.iter()
-        .any(|function| matches(import, func_type, function))
+    for row in table {
+        if matches(import, func_type, row) {
+            return Some(*row);
+        }
+    }
+    None
 }
 
-/// Returns whether an import is one of the host imports, with its type.
-fn import_ok(host: &[HostImport], module: &Module, import: &Import) -> bool
-    ensures { result ≡ import_ok (functions_of host.now) module.now «import».now }
+/// Returns the row of an import of the module, if the table has the import with its type.
+fn import_row(table: &[TableRow], module: &Module, import: &Import) -> Option<TableRow>
+    ensures { option_map row_of result ≡ import_row (rows_of table.now) module.now «import».now }
 {
     match type_at(module, import.type_index) {
-        Some(func_type) => host_has(host, import, func_type),
-        None => false,
+        Some(func_type) => find_row(table, import, func_type),
+        None => None,
     }
 }
 
-/// Checks that each import of a module is one of the host imports, with its type.
-fn link_with(host: &[HostImport], module: &Module) -> Result<(), Unlinked>
+/// Checks that the table has each import of a module with its type.
+fn link_with(table: &[TableRow], module: &Module) -> Result<(), Unlinked>
     requires { length module.now.imports < 2 ^ 32 }
-    ensures linked { OnOk result (Linked (functions_of host.now) module.now) }
-    ensures unlinked { IfErr result (λ e. IsFirstUnlinked (functions_of host.now) module.now e.import) }
+    ensures linked { OnOk result (Linked (rows_of table.now) module.now) }
+    ensures unlinked { IfErr result (λ e. IsFirstUnlinked (rows_of table.now) module.now e.import) }
 {
     for (index, import) in module.imports.as_slice().iter().enumerate() {
-        if !import_ok(host, module, import) {
+        if import_row(table, module, import).is_none() {
             return Err(Unlinked {
                 import: index as u32,
             });
@@ -86,8 +91,15 @@ fn link_with(host: &[HostImport], module: &Module) -> Result<(), Unlinked>
 
 /// Checks that the host interface has each import of the module with its type. Allocates no memory.
 pub fn link(module: &ValidModule) -> Result<(), Unlinked>
-    ensures linked { OnOk result (Linked host_functions module.now) }
-    ensures unlinked { IfErr result (λ e. IsFirstUnlinked host_functions module.now e.import) }
+    ensures linked { OnOk result (Linked host_rows module.now) }
+    ensures unlinked { IfErr result (λ e. IsFirstUnlinked host_rows module.now e.import) }
 {
-    link_with(&HOST_FUNCTIONS, module.module())
+    link_with(&HOST_ROWS, module.module())
+}
+
+/// Returns the row of the host interface for an import of the module, if the interface has the import with its type.
+pub fn host_row(module: &Module, import: &Import) -> Option<TableRow>
+    ensures { option_map row_of result ≡ import_row host_rows module.now «import».now }
+{
+    import_row(&HOST_ROWS, module, import)
 }

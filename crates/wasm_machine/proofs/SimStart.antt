@@ -84,7 +84,7 @@ module _ (source : Module) (flat : FlatCode) (last : ℕ) (ends : slice_get flat
   first_behaves B m t (Spent meter) h g = h
   first_behaves B m t Stuck h g = g
   first_behaves B m t (Ask f args memory meter on) h g =
-      (h.0, h.1, h.2, λ v bytes b. first_behaves B (resumed h.0 v bytes b h.1) t (on v bytes b) (h.3 v bytes b) (g v bytes b))
+      (h.0, h.1, h.2, λ v bytes b. first_behaves B (resumed h.0 v bytes b h.1) t (on v bytes b) (h.3 v bytes b) (g.1 v bytes b))
 
 most_is : MOST_CALLS ≡ 512
 unfolding MOST_CALLS

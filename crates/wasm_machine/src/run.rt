@@ -36,7 +36,7 @@ pub fn run(
     requires { (r : Run) × Behaves source.now code.now (machine_of machine.old budget.old) r }
     ensures says { IfOk result (λ p. (r : Run) → Behaves source.now code.now (machine_of machine.old budget.old) r
         → Says source.now code.now r p (machine_of machine.new budget.new)) }
-    ensures spends { IfOk result (λ _. IsLater budget.old budget.new) }
+    ensures spends { IsLater budget.old budget.new }
     ensures less { IfOk result (λ p. IsLess code.now p (machine_of machine.old budget.old) (machine_of machine.new budget.new)) }
 {
     loop {

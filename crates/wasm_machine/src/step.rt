@@ -6,6 +6,7 @@ ghost use Rattle.wasm_spec.specs.Effects.{effect_of};
 ghost use Rattle.wasm_machine.specs.Machine.{Fails, affects, executes, passes, is_free, jumps_by, pays, moves, move};
 ghost use Rattle.wasm_code.specs.declared.step.Step.TheVariants as flat;
 ghost use Rattle.wasm_machine.specs.MachineState.{IsMove, machine_of, CanMove, Moves};
+ghost use Rattle.wasm_machine.specs.Spending.{IsLater};
 
 use crate::calls::{call, call_import, call_indirect};
 use crate::jumps::{jump, leave};
@@ -26,10 +27,13 @@ fn is_free(step: Step) -> bool
 }
 
 /// Executes `memory.grow`. A growth past the memory's largest size fails without a charge.
+#[tactic(auto, using(crate::proofs::Spends::same, crate::proofs::Spends::charged_later))]
 fn grow(machine: &mut MachineState, budget: &mut Budget) -> Result<Outcome, AllocError>
     requires pc { machine.old.pc < 2 ^ 63 }
     requires moves { affects (effect_of op.MemoryGrow machine.old.operands machine.old.locals.items machine.old.store) (machine_of machine.old budget.old) ≢ Fails }
-    ensures { IfOk result (λ o. IsMove (affects (effect_of op.MemoryGrow machine.old.operands machine.old.locals.items machine.old.store) (machine_of machine.old budget.old)) o (machine_of machine.new budget.new)) }
+    ensures moves { IfOk result (λ o. IsMove (affects (effect_of op.MemoryGrow machine.old.operands machine.old.locals.items machine.old.store) (machine_of machine.old budget.old)) o (machine_of machine.new budget.new)) }
+    ensures unpaid { IfOk result (λ o. o ≡ Outcome.RunsOut → machine.new.store ≡ machine.old.store) }
+    ensures spends { IsLater budget.old budget.new }
 {
     let more = machine.operands.pop32();
     let pages = machine.store.pages();
@@ -70,6 +74,7 @@ fn go_on(machine: &mut MachineState, budget: &Budget, plain: Plain) -> Result<Ou
 }
 
 /// Executes a plain instruction.
+#[tactic(auto, using(crate::proofs::Spends::same))]
 fn affect(
     machine: &mut MachineState,
     budget: &mut Budget,
@@ -77,7 +82,8 @@ fn affect(
 ) -> Result<Outcome, AllocError>
     requires pc { machine.old.pc < 2 ^ 63 }
     requires moves { affects (effect_of plain machine.old.operands machine.old.locals.items machine.old.store) (machine_of machine.old budget.old) ≢ Fails }
-    ensures { IfOk result (λ o. IsMove (affects (effect_of plain machine.old.operands machine.old.locals.items machine.old.store) (machine_of machine.old budget.old)) o (machine_of machine.new budget.new)) }
+    ensures moves { IfOk result (λ o. IsMove (affects (effect_of plain machine.old.operands machine.old.locals.items machine.old.store) (machine_of machine.old budget.old)) o (machine_of machine.new budget.new)) }
+    ensures spends { IsLater budget.old budget.new }
 {
     match plain {
         Plain::MemoryGrow => grow(machine, budget),
@@ -186,6 +192,7 @@ fn jump_by_table(source: &Module, code: &FlatCode, machine: &mut MachineState, c
 }
 
 /// Executes a step that has been charged.
+#[tactic(auto, using(crate::proofs::Spends::same))]
 fn execute(
     source: &Module,
     code: &FlatCode,
@@ -195,7 +202,8 @@ fn execute(
 ) -> Result<Outcome, AllocError>
     requires pc { machine.old.pc < 2 ^ 63 }
     requires moves { executes source.now code.now step (machine_of machine.old budget.old) ≢ Fails }
-    ensures { IfOk result (λ o. IsMove (executes source.now code.now step (machine_of machine.old budget.old)) o (machine_of machine.new budget.new)) }
+    ensures moves { IfOk result (λ o. IsMove (executes source.now code.now step (machine_of machine.old budget.old)) o (machine_of machine.new budget.new)) }
+    ensures spends { IsLater budget.old budget.new }
 {
     match step {
         Step::Plain(plain) => affect(machine, budget, plain),
@@ -238,7 +246,8 @@ fn pay_and_execute(
 ) -> Result<Outcome, AllocError>
     requires pc { machine.old.pc < 2 ^ 63 }
     requires moves { pays (machine_of machine.old budget.old) (executes source.now code.now step) ≢ Fails }
-    ensures { IfOk result (λ o. IsMove (pays (machine_of machine.old budget.old) (executes source.now code.now step)) o (machine_of machine.new budget.new)) }
+    ensures moves { IfOk result (λ o. IsMove (pays (machine_of machine.old budget.old) (executes source.now code.now step)) o (machine_of machine.new budget.new)) }
+    ensures spends { IsLater budget.old budget.new }
 {
     if !pay(&mut machine.left, budget) {
         return Ok(Outcome::RunsOut);
@@ -247,6 +256,7 @@ fn pay_and_execute(
 }
 
 /// Executes the next step, which is `step`.
+#[tactic(auto, using(crate::proofs::Spends::same))]
 fn take(
     source: &Module,
     code: &FlatCode,
@@ -256,7 +266,8 @@ fn take(
 ) -> Result<Outcome, AllocError>
     requires pc { machine.old.pc < 2 ^ 63 }
     requires moves { moves source.now code.now (Some step) (machine_of machine.old budget.old) ≢ Fails }
-    ensures { IfOk result (λ o. IsMove (moves source.now code.now (Some step) (machine_of machine.old budget.old)) o (machine_of machine.new budget.new)) }
+    ensures moves { IfOk result (λ o. IsMove (moves source.now code.now (Some step) (machine_of machine.old budget.old)) o (machine_of machine.new budget.new)) }
+    ensures spends { IsLater budget.old budget.new }
 {
     if is_free(step) {
         pass(source, machine, budget, step)
@@ -273,7 +284,8 @@ pub fn step(
     budget: &mut Budget,
 ) -> Result<Outcome, AllocError>
     requires { move source.now code.now (machine_of machine.old budget.old) ≢ Fails }
-    ensures { IfOk result (λ o. IsMove (move source.now code.now (machine_of machine.old budget.old)) o (machine_of machine.new budget.new)) }
+    ensures moves { IfOk result (λ o. IsMove (move source.now code.now (machine_of machine.old budget.old)) o (machine_of machine.new budget.new)) }
+    ensures spends { IsLater budget.old budget.new }
 {
     let steps = code.steps.as_slice();
     let next = steps[machine.pc];

@@ -1,6 +1,6 @@
 //! Integers of both types as numbers of 64 bits (core sections 4.3.1 and 4.3.4).
 
-ghost use Rattle.std.specs.Prelude.{◌≡◌, ◌<◌, ◌≤◌, ◌^◌};
+ghost use Rattle.std.specs.Prelude.{◌≡◌, ◌<◌, ◌^◌};
 ghost use Rattle.wasm_spec.specs.Integers.{signed, width, wrap};
 
 use wasm_spec::ValueType;

@@ -10,10 +10,10 @@ use Rattle.wasm_machine.proofs.LeftLaws.{begins_enough}
 use Rattle.wasm_machine.proofs.Counts.{Twins, Alike, call_alike}
 use Rattle.wasm_run.specs.Laws.{IsLaterReply, NeverLowers, SameWithMore}
 
-module _ {W : Type 0} (host : Host W) (never : NeverLowers host) where
-  reply_same : (b : Meter) (x : Reply W) (go og : ℕ → List ℕ → Meter → W → End W) → IsLaterReply b x → ((v : ℕ) (bytes : List ℕ) (c : Meter) (w : W) → IsLater b c → og v bytes c w ≡ go v bytes c w) → after_reply x og ≡ after_reply x go
+module _ {W Q : Type 0} (host : Host W Q) (never : NeverLowers host) where
+  reply_same : (b : Meter) (x : Reply W Q) (go og : ℕ → List ℕ → Meter → W → End W Q) → IsLaterReply b x → ((v : ℕ) (bytes : List ℕ) (c : Meter) (w : W) → IsLater b c → og v bytes c w ≡ go v bytes c w) → after_reply x og ≡ after_reply x go
   reply_same b (Answers w v bytes c) go og later h = h v bytes c w later
-  reply_same b (Quits w) go og later h = refl
+  reply_same b (Quits q) go og later h = refl
 
   interp_alike : (j k : ℕ) (r q : Run) (w : W) → Alike j k r q → interp host q w ≡ interp host r w
   interp_alike j k (Normal ops s) q w h = ap (λ (x : Run). interp host x w) h.1
@@ -28,8 +28,8 @@ module _ {W : Type 0} (host : Host W) (never : NeverLowers host) where
       (λ v bytes c u later. interp_alike j k (on v bytes c) (h.0 v bytes c) u (h.2 v bytes c later))
 
 -- A larger count does not change the outcome of a call.
-pub same_with_more : {W : Type 0} → SameWithMore W
-same_with_more {W} host m f args store b w n never small one le =
+pub same_with_more : {W Q : Type 0} → SameWithMore W Q
+same_with_more {W} {Q} host m f args store b w n never small one le =
     let s = beginning store b in
     let tw : Twins s n = record { enough = begins_enough store b small; other = omega arith; costs = one } in
     interp_alike host never s.left n (meaning m f args store b) (call_of m MOST_CALLS f (reverse (map value.I64 args)) (record s { left = n })) w (call_alike m MOST_CALLS f (reverse (map value.I64 args)) s n tw)

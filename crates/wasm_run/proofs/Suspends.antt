@@ -13,7 +13,7 @@ use Rattle.wasm_spec.specs.Code.{BlockType}
 use Rattle.wasm_spec.specs.Typing.{local_types, Typed}
 use Rattle.wasm_spec.specs.Stores.{zero_of, Store}
 use Rattle.wasm_spec.specs.Runs.{Run, Normal, Branch, Return, Trap, Spent, Stuck, Ask}
-use Rattle.wasm_spec.specs.Meaning.{start_locals, is_import, meaning}
+use Rattle.wasm_spec.specs.Meaning.{NamesImport, start_locals, is_import, meaning}
 use Rattle.wasm_spec.specs.Instances.{Ready, start_of}
 use Rattle.wasm_spec.proofs.Sound.{HasTypes, CallGood}
 use Rattle.wasm_spec.proofs.SoundStart.{begins, meaning_good}
@@ -39,14 +39,14 @@ one_word (value.I32 n ∷ []) h = let e = h.0 in cc
 one_word (value.I64 n ∷ []) h = (n, refl)
 one_word (v ∷ w ∷ ops) h = absurd h.1
 
-gives_word : (m : Module) (locals : List Value) (r : Run) → CallGood m locals (I64 ∷ []) r → GivesWord r
+gives_word : (m : Module) (locals : List Value) (r : Run) → CallGood m locals (I64 ∷ []) r → GivesWord m r
 gives_word m locals (Normal ops s) h = one_word ops h.0
 gives_word m locals (Branch k ops s) h = h
 gives_word m locals (Return ops s) h = h
 gives_word m locals (Trap kind meter) h = tt
 gives_word m locals (Spent meter) h = tt
 gives_word m locals Stuck h = h
-gives_word m locals (Ask f args memory meter on) h = λ v bytes b. gives_word m locals (on v bytes b) (h v bytes b)
+gives_word m locals (Ask f args memory meter on) h = (h.0, λ v bytes b. gives_word m locals (on v bytes b) (h.1 v bytes b))
 
 -- a start
 
@@ -127,7 +127,7 @@ able_at i p e h = subst (λ q. Able q i) e h
 
 -- what an event tells
 
-pub word_is : (source : Module) (flat : FlatCode) (r : Run) (o : Option Value) (m : Machine) → GivesWord r → Says source flat r (paused.Done o) m → (n : ℕ) × (o ≡ Some (value.I64 n))
+pub word_is : (source : Module) (flat : FlatCode) (r : Run) (o : Option Value) (m : Machine) → GivesWord source r → Says source flat r (paused.Done o) m → (n : ℕ) × (o ≡ Some (value.I64 n))
 word_is source flat (Normal ops s) o m g h = (g.0, h.0 ∙ ap (λ (x : List Value). slice_get x 0) g.1)
 word_is source flat (Branch k ops s) o m g h = absurd h
 word_is source flat (Return ops s) o m g h = absurd h
@@ -136,7 +136,7 @@ word_is source flat (Spent meter) o m g h = absurd h
 word_is source flat Stuck o m g h = absurd h
 word_is source flat (Ask f args memory meter on) o m g h = absurd h
 
-pub tells_done : (source : Module) (flat : FlatCode) (r : Run) (o : Option Value) (n : ℕ) (b : Meter) (m : Machine) (i : Suspended) → GivesWord r → Says source flat r (paused.Done o) m → o ≡ Some (value.I64 n) → b ≡ m.state.meter → Tells r (event.Done n) b i
+pub tells_done : (source : Module) (flat : FlatCode) (r : Run) (o : Option Value) (n : ℕ) (b : Meter) (m : Machine) (i : Suspended) → GivesWord source r → Says source flat r (paused.Done o) m → o ≡ Some (value.I64 n) → b ≡ m.state.meter → Tells r (event.Done n) b i
 tells_done source flat (Normal ops s) o n b m i g h e q =
     let same : Some (value.I64 g.0) ≡ Some (value.I64 n) = sym (h.0 ∙ ap (λ (x : List Value). slice_get x 0) g.1) ∙ e in
     let k : g.0 ≡ n = cc in
@@ -167,20 +167,30 @@ tells_spent source flat Stuck b m i h q = h
 tells_spent source flat (Ask f args memory meter on) b m i h q = h
 
 -- the run that asked goes on with the answer, where a value is on top of the operands
-pub goes_on : (i : Suspended) (r : Run) (f : ℕ) (words : Vec ℕ Global) (t : BlockType) (c : Meter) → GivesWord r → Says i.source i.flat r (paused.HostCall f words t) (behind i c) → (on : (ℕ → List ℕ → Meter → Run)) × GoesOnWith t i on
+pub goes_on : (i : Suspended) (r : Run) (f : ℕ) (words : Vec ℕ Global) (t : BlockType) (c : Meter) → GivesWord i.source r → Says i.source i.flat r (paused.HostCall f words t) (behind i c) → (on : (ℕ → List ℕ → Meter → Run)) × GoesOnWith t i on
 goes_on i (Normal ops s) f words t c g h = absurd h
 goes_on i (Branch k ops s) f words t c g h = absurd h
 goes_on i (Return ops s) f words t c g h = absurd h
 goes_on i (Trap kind meter) f words t c g h = absurd h
 goes_on i (Spent meter) f words t c g h = absurd h
 goes_on i Stuck f words t c g h = absurd h
-goes_on i (Ask k args memory meter on) f words t c g h = (on, λ v bytes b. (h.4 v bytes b, g v bytes b))
+goes_on i (Ask k args memory meter on) f words t c g h = (on, λ v bytes b. (h.4 v bytes b, g.1 v bytes b))
 
-pub tells_ask : (i : Suspended) (r : Run) (f : ℕ) (words : Vec ℕ Global) (given : List ℕ) (t : BlockType) (b : Meter) → i.phase ≡ phase.Waiting t → given ≡ words.items → GivesWord r → Says i.source i.flat r (paused.HostCall f words t) (behind i b) → Tells r (event.HostCall f given) b i
+pub tells_ask : (i : Suspended) (r : Run) (f : ℕ) (words : Vec ℕ Global) (given : List ℕ) (t : BlockType) (b : Meter) → i.phase ≡ phase.Waiting t → given ≡ words.items → GivesWord i.source r → Says i.source i.flat r (paused.HostCall f words t) (behind i b) → Tells r (event.HostCall f given) b i
 tells_ask i (Normal ops s) f words given t b p q g h = h
 tells_ask i (Branch k ops s) f words given t b p q g h = h
 tells_ask i (Return ops s) f words given t b p q g h = h
 tells_ask i (Trap kind meter) f words given t b p q g h = h
 tells_ask i (Spent meter) f words given t b p q g h = h
 tells_ask i Stuck f words given t b p q g h = h
-tells_ask i (Ask k args memory meter on) f words given t b p q g h = (h.0, q ∙ h.1, h.2, h.3, (t, p, λ v bytes c. (h.4 v bytes c, g v bytes c)))
+tells_ask i (Ask k args memory meter on) f words given t b p q g h = (h.0, q ∙ h.1, h.2, h.3, (t, p, λ v bytes c. (h.4 v bytes c, g.1 v bytes c)))
+
+-- the event that a run asks with names the import that the run names
+pub names_ask : (i : Suspended) (r : Run) (f : ℕ) (words : Vec ℕ Global) (given : List ℕ) (t : BlockType) (c : Meter) → given ≡ words.items → GivesWord i.source r → Says i.source i.flat r (paused.HostCall f words t) (behind i c) → NamesImport i.source f given
+names_ask i (Normal ops s) f words given t c q g h = absurd h
+names_ask i (Branch k ops s) f words given t c q g h = absurd h
+names_ask i (Return ops s) f words given t c q g h = absurd h
+names_ask i (Trap kind meter) f words given t c q g h = absurd h
+names_ask i (Spent meter) f words given t c q g h = absurd h
+names_ask i Stuck f words given t c q g h = absurd h
+names_ask i (Ask k args memory meter on) f words given t c q g h = subst (λ (x : List ℕ). NamesImport i.source f x) (sym (q ∙ h.1)) (subst (λ (x : ℕ). NamesImport i.source x args) (sym h.0) g.0)

@@ -7,6 +7,7 @@ use Rattle.wasm_spec.specs.declared.module.Module.{Module}
 use Rattle.wasm_spec.specs.Code.{BlockType}
 use Rattle.wasm_spec.specs.Stores.{Store}
 use Rattle.wasm_spec.specs.Runs.{Run, Normal, Branch, Return, Trap, Spent, Stuck, Ask}
+use Rattle.wasm_spec.specs.Meaning.{NamesImport}
 use Rattle.wasm_spec.specs.Instances.{Missing, WrongArity, Segment, Ready, start_of}
 use Rattle.wasm_code.specs.declared.step.FlatCode.{FlatCode}
 use Rattle.wasm_machine.specs.declared.machine.MachineState.{MachineState}
@@ -42,19 +43,19 @@ standing i b = record { pc = i.pc; operands = i.operands; state = record { local
 abbrev pub behind : Suspended → Meter → Machine
 behind i b = standing (record i { operands = drop 1 i.operands }) b
 
--- a run that ends normally returns one i64
-abbrev pub GivesWord : Run → Type 0
-GivesWord (Normal ops s) = (n : ℕ) × (ops ≡ value.I64 n ∷ [])
-GivesWord (Branch k ops s) = ⊥
-GivesWord (Return ops s) = ⊥
-GivesWord (Trap kind meter) = Unit {0}
-GivesWord (Spent meter) = Unit {0}
-GivesWord Stuck = ⊥
-GivesWord (Ask f args memory meter on) = (v : ℕ) (bytes : List ℕ) (b : Meter) → GivesWord (on v bytes b)
+-- a run of the module that returns one i64 where it ends normally, and calls imports with as many arguments as they have parameters
+abbrev pub GivesWord : Module → Run → Type 0
+GivesWord m (Normal ops s) = (n : ℕ) × (ops ≡ value.I64 n ∷ [])
+GivesWord m (Branch k ops s) = ⊥
+GivesWord m (Return ops s) = ⊥
+GivesWord m (Trap kind meter) = Unit {0}
+GivesWord m (Spent meter) = Unit {0}
+GivesWord m Stuck = ⊥
+GivesWord m (Ask f args memory meter on) = NamesImport m f args × ((v : ℕ) (bytes : List ℕ) (b : Meter) → GivesWord m (on v bytes b))
 
 -- from m the machine behaves as the run, which returns one i64
 abbrev pub Goes : Module → FlatCode → Machine → Run → Type 0
-Goes source flat m run = Behaves source flat m run × GivesWord run
+Goes source flat m run = Behaves source flat m run × GivesWord source run
 
 -- the instance is ready, and with any budget b it behaves as the run `go b`
 abbrev pub Does : Suspended → (Meter → Run) → Type 0
@@ -81,6 +82,13 @@ Tells (Ask f args memory meter on) _ b i = ⊥
 Tells (Branch k ops s) _ b i = ⊥
 Tells (Return ops s) _ b i = ⊥
 Tells Stuck _ b i = ⊥
+
+-- the event names an import of the module, with as many words as it has parameters
+abbrev pub EventNames : Module → Event → Type 0
+EventNames m (event.HostCall f words) = NamesImport m f words
+EventNames m (event.Done n) = Unit {0}
+EventNames m (event.Trap k) = Unit {0}
+EventNames m event.Spent = Unit {0}
 
 -- the phase of the instance after an event
 abbrev pub StandsAfter : Event → Suspended → Type 0

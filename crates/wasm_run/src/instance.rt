@@ -1,13 +1,13 @@
 //! Calls of exports, which pause at each call of an import.
 
-ghost use Rattle.std.specs.Prelude.{◌≡◌, ◌<◌, ◌++◌, ℕ, List, drop, length, replicate, slice_get, Option, Some, Ok, Err, IfOk, OnOk};
+ghost use Rattle.std.specs.Prelude.{◌≡◌, ◌<◌, ◌++◌, ℕ, List, drop, length, replicate, slice_get, Option, Some, Ok, Err, IfOk, OnOk, OnErr};
 ghost use Rattle.budget_meter.specs.Meter.{Meter};
 ghost use Rattle.wasm_spec.specs.declared.values.Value.TheVariants as value;
 ghost use Rattle.wasm_spec.specs.Stores.{answered};
 ghost use Rattle.wasm_spec.specs.Runs.{Run};
 ghost use Rattle.wasm_spec.specs.Meaning.{meaning};
 ghost use Rattle.wasm_spec.specs.Code.{BlockType};
-ghost use Rattle.wasm_run.specs.Suspended.{suspended, Does, Awaits, Tells, StandsAfter, IsNearer, IsNew, work};
+ghost use Rattle.wasm_run.specs.Suspended.{suspended, Does, Awaits, Tells, EventNames, StandsAfter, IsNearer, IsNew, work};
 ghost use Rattle.wasm_machine.specs.Spending.{IsLater};
 ghost use Rattle.std.specs.Borrow.{sem};
 ghost use Rattle.wasm_run.specs.Lending.{LendsMemory};
@@ -127,6 +127,7 @@ impl<'a> Instance<'a> {
         ensures does { (f : ℕ) → self.old.phase ≡ CallPhase.Fresh f (length args.now)
             → Does self.new (meaning self.old.source f args.now self.old.store) }
         ensures store { self.new.store ≡ self.old.store }
+        ensures source { self.new.source ≡ self.old.source }
     {
         let CallPhase::Fresh(function, _) = self.phase else {
             unreachable!()
@@ -146,8 +147,11 @@ impl<'a> Instance<'a> {
         requires { self.old.phase ≡ CallPhase.Ready }
         ensures tells { IfOk result (λ event. (go : Meter → Run) → Does self.old go → Tells (go budget.old) event budget.new self.new) }
         ensures stands { IfOk result (λ event. StandsAfter event self.new) }
-        ensures spends { IfOk result (λ _. IsLater budget.old budget.new) }
+        ensures names { IfOk result (EventNames self.old.source) }
+        ensures spends { IsLater budget.old budget.new }
+        ensures over { OnErr result (self.new.phase ≡ CallPhase.Over) }
         ensures nearer { IfOk result (λ event. IsNearer event self.old self.new) }
+        ensures source { self.new.source ≡ self.old.source }
     {
         self.phase = CallPhase::Over;
         match go_on(self.source, self.code, &mut self.running, budget)? {
@@ -170,6 +174,7 @@ impl<'a> Instance<'a> {
         ensures goes_on { (on : (ℕ → List ℕ → Meter → Run)) → Awaits self.old on → Does self.new (on answer self.old.store.memory.bytes) }
         ensures work { work self.new ≡ work self.old }
         ensures store { self.new.store ≡ self.old.store }
+        ensures source { self.new.source ≡ self.old.source }
     {
         let CallPhase::Waiting(result_type) = self.phase else {
             unreachable!()

@@ -1,15 +1,15 @@
 //! Laws of runs. Each law is the contract of a function with an empty body.
 
-ghost use Rattle.wasm_run.specs.Laws.{EventsFold, NeverBreaks, EachSpends, EnoughAtFirst, EnoughAfterEach, EnoughWhenLater, CountNeverEnds, SameWithMore};
+ghost use Rattle.wasm_run.specs.Laws.{EventsFold, NeverBreaks, EachSpends, EnoughAtFirst, EnoughAfterEach, EnoughWhenLater, CountNeverEnds, SameWithMore, SumsGrow};
 
 /// The outcome of a call with a host follows from the call's events.
-pub fn events_fold<W>()
-    ensures { EventsFold W }
+pub fn events_fold<W, Q>()
+    ensures { EventsFold W Q }
 {}
 
 /// A call of an export of a valid module is never broken, with any host.
-pub fn never_breaks<W>()
-    ensures { NeverBreaks W }
+pub fn never_breaks<W, Q>()
+    ensures { NeverBreaks W Q }
 {}
 
 /// Each executed instruction raises the spent instructions.
@@ -26,6 +26,11 @@ pub fn count_never_ends()
 {}
 
 /// With a host that never lowers the sums, a larger count of instructions does not change a call's outcome.
-pub fn same_with_more<W>()
-    ensures { SameWithMore W }
+pub fn same_with_more<W, Q>()
+    ensures { SameWithMore W Q }
+{}
+
+/// With a host that never lowers the sums, no call lowers them. So sums only grow through nested calls.
+pub fn sums_grow<W, Q>()
+    ensures { SumsGrow W Q }
 {}

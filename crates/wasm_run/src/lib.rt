@@ -13,6 +13,8 @@ mod trap;
 
 pub use error::StartErr;
 pub use instance::{CallPhase, Event, Instance};
-pub use laws::{count_never_ends, each_spends, events_fold, never_breaks, same_with_more};
+pub use laws::{
+    count_never_ends, each_spends, events_fold, never_breaks, same_with_more, sums_grow,
+};
 pub use prepare::{Beginning, begin};
 pub use trap::trap_error;

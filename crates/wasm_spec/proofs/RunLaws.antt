@@ -29,18 +29,18 @@ executed_spends s go h = count_spends s.left s go h
 -- runs among the functions of a host
 
 -- a call of a valid module is never broken, whatever the host
-abbrev pub IsWhole : {W : Type 0} → End W → Type 0
+abbrev pub IsWhole : {W Q : Type 0} → End W Q → Type 0
 IsWhole (Returned vs meter w) = Unit {0}
 IsWhole (Trapped kind meter w) = Unit {0}
 IsWhole (Exhausted meter w) = Unit {0}
-IsWhole (Quit w) = Unit {0}
+IsWhole (Quit q) = Unit {0}
 IsWhole Broken = ⊥
 
-after_reply_whole : {W : Type 0} (r : Reply W) (go : ℕ → List ℕ → Meter → W → End W) → ((v : ℕ) (bytes : List ℕ) (b : Meter) (w : W) → IsWhole (go v bytes b w)) → IsWhole (after_reply r go)
+after_reply_whole : {W Q : Type 0} (r : Reply W Q) (go : ℕ → List ℕ → Meter → W → End W Q) → ((v : ℕ) (bytes : List ℕ) (b : Meter) (w : W) → IsWhole (go v bytes b w)) → IsWhole (after_reply r go)
 after_reply_whole (Answers w v bytes b) go h = h v bytes b w
-after_reply_whole (Quits w) go h = tt
+after_reply_whole (Quits q) go h = tt
 
-pub interp_whole : {W : Type 0} (host : Host W) (m : Module) (locals : List Value) (us : List ValueType) (r : Run) (w : W) → CallGood m locals us r → IsWhole (interp host r w)
+pub interp_whole : {W Q : Type 0} (host : Host W Q) (m : Module) (locals : List Value) (us : List ValueType) (r : Run) (w : W) → CallGood m locals us r → IsWhole (interp host r w)
 interp_whole host m locals us (Normal ops s) w h = tt
 interp_whole host m locals us (Branch k ops s) w h = absurd h
 interp_whole host m locals us (Return ops s) w h = absurd h
@@ -48,36 +48,36 @@ interp_whole host m locals us (Trap kind meter) w h = tt
 interp_whole host m locals us (Spent meter) w h = tt
 interp_whole host m locals us Stuck w h = h
 interp_whole host m locals us (Ask f args memory meter on) w h =
-    after_reply_whole (host f args memory meter w) (λ v bytes b u. interp host (on v bytes b) u) (λ v bytes b u. interp_whole host m locals us (on v bytes b) u (h v bytes b))
+    after_reply_whole (host f args memory meter w) (λ v bytes b u. interp host (on v bytes b) u) (λ v bytes b u. interp_whole host m locals us (on v bytes b) u (h.1 v bytes b))
 
 -- Two hosts that answer related worlds with the same and leave them related make the same of a run.
 
--- replies that are the same but for the worlds: those of answers by R, those of the ends by Q
-abbrev pub SameReply : {W V : Type 0} → (W → V → Type 0) → (W → V → Type 0) → Reply W → Reply V → Type 0
-SameReply R Q (Answers w v bytes b) (Answers x v' bytes' b') = R w x × (v ≡ v') × (bytes ≡ bytes') × (b ≡ b')
-SameReply R Q (Answers w v bytes b) (Quits x) = ⊥
-SameReply R Q (Quits w) (Answers x v' bytes' b') = ⊥
-SameReply R Q (Quits w) (Quits x) = Q w x
+-- replies that are the same but for the worlds, which R relates, and the reasons of quits, which S relates
+abbrev pub SameReply : {W V Q P : Type 0} → (W → V → Type 0) → (Q → P → Type 0) → Reply W Q → Reply V P → Type 0
+SameReply R S (Answers w v bytes b) (Answers x v' bytes' b') = R w x × (v ≡ v') × (bytes ≡ bytes') × (b ≡ b')
+SameReply R S (Answers w v bytes b) (Quits x) = ⊥
+SameReply R S (Quits w) (Answers x v' bytes' b') = ⊥
+SameReply R S (Quits w) (Quits x) = S w x
 
-abbrev pub SameEnd : {W V : Type 0} → (W → V → Type 0) → (W → V → Type 0) → End W → End V → Type 0
-SameEnd R Q (Returned vs m w) (Returned us n x) = (vs ≡ us) × (m ≡ n) × R w x
-SameEnd R Q (Trapped j m w) (Trapped k n x) = (j ≡ k) × (m ≡ n) × R w x
-SameEnd R Q (Exhausted m w) (Exhausted n x) = (m ≡ n) × R w x
-SameEnd R Q (Quit w) (Quit x) = Q w x
-SameEnd R Q Broken Broken = Unit {0}
-SameEnd R Q _ _ = ⊥
+abbrev pub SameEnd : {W V Q P : Type 0} → (W → V → Type 0) → (Q → P → Type 0) → End W Q → End V P → Type 0
+SameEnd R S (Returned vs m w) (Returned us n x) = (vs ≡ us) × (m ≡ n) × R w x
+SameEnd R S (Trapped j m w) (Trapped k n x) = (j ≡ k) × (m ≡ n) × R w x
+SameEnd R S (Exhausted m w) (Exhausted n x) = (m ≡ n) × R w x
+SameEnd R S (Quit w) (Quit x) = S w x
+SameEnd R S Broken Broken = Unit {0}
+SameEnd R S _ _ = ⊥
 
-module _ {W V : Type 0} (R Q : W → V → Type 0) where
-  same_after : (r : Reply W) (q : Reply V) (go : ℕ → List ℕ → Meter → W → End W) (on : ℕ → List ℕ → Meter → V → End V) → SameReply R Q r q → ((v : ℕ) (bytes : List ℕ) (b : Meter) (w : W) (x : V) → R w x → SameEnd R Q (go v bytes b w) (on v bytes b x)) → SameEnd R Q (after_reply r go) (after_reply q on)
+module _ {W V Q P : Type 0} (R : W → V → Type 0) (S : Q → P → Type 0) where
+  same_after : (r : Reply W Q) (q : Reply V P) (go : ℕ → List ℕ → Meter → W → End W Q) (on : ℕ → List ℕ → Meter → V → End V P) → SameReply R S r q → ((v : ℕ) (bytes : List ℕ) (b : Meter) (w : W) (x : V) → R w x → SameEnd R S (go v bytes b w) (on v bytes b x)) → SameEnd R S (after_reply r go) (after_reply q on)
   same_after (Answers w v bytes b) (Answers x v' bytes' b') go on h next =
-      let P : ℕ → List ℕ → Meter → Type 0 = λ i j k. SameEnd R Q (go v bytes b w) (on i j k x) in
-      subst (λ i. P i bytes' b') h.1 (subst (λ j. P v j b') h.2 (subst (λ k. P v bytes k) h.3 (next v bytes b w x h.0)))
+      let T : ℕ → List ℕ → Meter → Type 0 = λ i j k. SameEnd R S (go v bytes b w) (on i j k x) in
+      subst (λ i. T i bytes' b') h.1 (subst (λ j. T v j b') h.2 (subst (λ k. T v bytes k) h.3 (next v bytes b w x h.0)))
   same_after (Answers w v bytes b) (Quits x) go on h next = absurd h
   same_after (Quits w) (Answers x v' bytes' b') go on h next = absurd h
   same_after (Quits w) (Quits x) go on h next = h
 
-  pub interp_same : (host : Host W) (other : Host V) → ((f : ℕ) (args memory : List ℕ) (m : Meter) (w : W) (x : V) → R w x → SameReply R Q (host f args memory m w) (other f args memory m x))
-      → (r : Run) (w : W) (x : V) → R w x → SameEnd R Q (interp host r w) (interp other r x)
+  pub interp_same : (host : Host W Q) (other : Host V P) → ((f : ℕ) (args memory : List ℕ) (m : Meter) (w : W) (x : V) → R w x → SameReply R S (host f args memory m w) (other f args memory m x))
+      → (r : Run) (w : W) (x : V) → R w x → SameEnd R S (interp host r w) (interp other r x)
   interp_same host other same (Normal ops s) w x h = (refl, refl, h)
   interp_same host other same (Branch k ops s) w x h = tt
   interp_same host other same (Return ops s) w x h = tt

@@ -32,7 +32,7 @@ use Rattle.wasm_spec.specs.Memory.{loaded, stored}
 use Rattle.wasm_spec.specs.Stores.{type_of, value_of, result_values, typed_as, pop, Store, pages}
 use Rattle.wasm_spec.specs.Effects.{Effect, Leaves, Grows, Faults, Lacks, with_some, gives, numeric_effect, drop_effect, chosen, local_set, local_tee, global_set, loads, stores, grows, effect_of}
 use Rattle.wasm_spec.specs.Runs.{State, Run, Normal, Branch, Return, Trap, Spent, Stuck, Ask, charged_if, charged, counted, executed, has_room, effect_run, then_do, carried, whole, onto, leave, again, turns}
-use Rattle.wasm_spec.specs.Meaning.{same_type, same_types, same_function_type, Calls, at_zero, label_for, matching_call, typed_call, element_call, indirect_call, control_run, exec}
+use Rattle.wasm_spec.specs.Meaning.{NamesImport, same_type, same_types, same_function_type, Calls, at_zero, label_for, matching_call, typed_call, element_call, indirect_call, control_run, exec}
 
 -- what is typed
 
@@ -66,7 +66,7 @@ Good c us (Return ops s) = (below : List ValueType) × HasTypes ops (option_to_l
 Good c us (Trap kind meter) = Unit {0}
 Good c us (Spent meter) = Unit {0}
 Good c us Stuck = ⊥
-Good c us (Ask f args memory meter on) = (v : ℕ) (bytes : List ℕ) (b : Meter) → Good c us (on v bytes b)
+Good c us (Ask f args memory meter on) = NamesImport c.module_ f args × ((v : ℕ) (bytes : List ℕ) (b : Meter) → Good c us (on v bytes b))
 
 -- a call's run: it never branches out of the function, and it keeps the caller's locals
 abbrev pub CallGood : Module → List Value → List ValueType → Run → Type 0
@@ -76,7 +76,7 @@ CallGood m locals us (Return ops s) = ⊥
 CallGood m locals us (Trap kind meter) = Unit {0}
 CallGood m locals us (Spent meter) = Unit {0}
 CallGood m locals us Stuck = ⊥
-CallGood m locals us (Ask f args memory meter on) = (v : ℕ) (bytes : List ℕ) (b : Meter) → CallGood m locals us (on v bytes b)
+CallGood m locals us (Ask f args memory meter on) = NamesImport m f args × ((v : ℕ) (bytes : List ℕ) (b : Meter) → CallGood m locals us (on v bytes b))
 
 abbrev pub CallsGood : Module → Calls → Type 0
 CallsGood m go = (f : ℕ) (t : FuncType) (below : List ValueType) (ops : List Value) (s : State) → function_type m f ≡ Some t → HasTypes ops (reverse t.params ++ below) → StoreTyped m s.store
@@ -326,7 +326,7 @@ then_good c us ws (Return ops s) go h next = h
 then_good c us ws (Trap kind meter) go h next = tt
 then_good c us ws (Spent meter) go h next = tt
 then_good c us ws Stuck go h next = absurd h
-then_good c us ws (Ask f args memory meter on) go h next = λ v bytes b. then_good c us ws (on v bytes b) go (h v bytes b) next
+then_good c us ws (Ask f args memory meter on) go h next = (h.0, λ v bytes b. then_good c us ws (on v bytes b) go (h.1 v bytes b) next)
 
 pub whole_good : (c : Context) (r : BlockType) (ops under : List Value) (ts : List ValueType) (s : State) → HasTypes ops (option_to_list r) → HasTypes under ts → StateTyped c s → Good c (option_to_list r ++ ts) (onto under s (whole r ops))
 whole_good c None [] under ts s h u l = (u, l)
@@ -352,7 +352,7 @@ leave_good c r under ts (Return ops s) h u = h
 leave_good c r under ts (Trap kind meter) h u = tt
 leave_good c r under ts (Spent meter) h u = tt
 leave_good c r under ts Stuck h u = h
-leave_good c r under ts (Ask f args memory meter on) h u = λ v bytes b. leave_good c r under ts (on v bytes b) (h v bytes b) u
+leave_good c r under ts (Ask f args memory meter on) h u = (h.0, λ v bytes b. leave_good c r under ts (on v bytes b) (h.1 v bytes b) u)
 
 again_good : (c : Context) (r : BlockType) (under : List Value) (ts : List ValueType) (run : Run) (go : State → Run) → Good (inside None c) (option_to_list r) run → HasTypes under ts → ((s : State) → StateTyped c s → Good c (option_to_list r ++ ts) (leave r under (go s))) → Good c (option_to_list r ++ ts) (leave r under (again go run))
 again_good c r under ts (Normal ops s) go h u next = whole_good c r ops under ts s h.0 u h.1
@@ -362,7 +362,7 @@ again_good c r under ts (Return ops s) go h u next = h
 again_good c r under ts (Trap kind meter) go h u next = tt
 again_good c r under ts (Spent meter) go h u next = tt
 again_good c r under ts Stuck go h u next = h
-again_good c r under ts (Ask f args memory meter on) go h u next = λ v bytes b. again_good c r under ts (on v bytes b) go (h v bytes b) u next
+again_good c r under ts (Ask f args memory meter on) go h u next = (h.0, λ v bytes b. again_good c r under ts (on v bytes b) go (h.1 v bytes b) u next)
 
 turns_good : (n : ℕ) (c : Context) (r : BlockType) (under : List Value) (ts : List ValueType) (body : State → Run) → HasTypes under ts → ((s : State) → StateTyped c s → Good (inside None c) (option_to_list r) (body s)) → (s : State) → StateTyped c s → Good c (option_to_list r ++ ts) (leave r under (turns n body s))
 turns_good zero c r under ts body u h s l = tt
@@ -375,7 +375,7 @@ from_call c us locals (Return ops s) l h = absurd h
 from_call c us locals (Trap kind meter) l h = tt
 from_call c us locals (Spent meter) l h = tt
 from_call c us locals Stuck l h = h
-from_call c us locals (Ask f args memory meter on) l h = λ v bytes b. from_call c us locals (on v bytes b) l (h v bytes b)
+from_call c us locals (Ask f args memory meter on) l h = (h.0, λ v bytes b. from_call c us locals (on v bytes b) l (h.1 v bytes b))
 
 either_good : (c : Context) (us : List ValueType) (n : ℕ) (a b : Run) → Good c us a → Good c us b → Good c us (at_zero n a b)
 either_good c us zero a b ha hb = ha

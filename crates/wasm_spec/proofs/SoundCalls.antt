@@ -17,7 +17,7 @@ use Rattle.wasm_spec.specs.Typing.{◌>>=◌, Context, CodeTyped, function_indic
 use Rattle.wasm_spec.specs.Integers.{width, wrap}
 use Rattle.wasm_spec.specs.Stores.{number_of, zero_of, answered, with_bytes}
 use Rattle.wasm_spec.specs.Runs.{State, Run, Normal, Branch, Return, Trap, Spent, Stuck, Ask, whole, carried, onto}
-use Rattle.wasm_spec.specs.Meaning.{Calls, exec, arguments, with_arguments, back_in, finish, start_locals, enter, too_deep, ask, own_call, is_import, any_call, call_of}
+use Rattle.wasm_spec.specs.Meaning.{NamesImport, Calls, exec, arguments, with_arguments, back_in, finish, start_locals, enter, too_deep, ask, own_call, is_import, any_call, call_of}
 use Rattle.wasm_spec.proofs.Sound.{HasTypes, StoreTyped, Good, CallGood, CallsGood, FunctionsKnown, HasTypes-append, type-value_of, bind_is, whole_good, carried_good, own_label, exec_good}
 
 -- operands of a call
@@ -67,7 +67,7 @@ finish_good c r under below caller (Return ops s) el er h u =
 finish_good c r under below caller (Trap kind meter) el er h u = tt
 finish_good c r under below caller (Spent meter) el er h u = tt
 finish_good c r under below caller Stuck el er h u = h
-finish_good c r under below caller (Ask f args memory meter on) el er h u = λ v bytes b. finish_good c r under below caller (on v bytes b) el er (h v bytes b) u
+finish_good c r under below caller (Ask f args memory meter on) el er h u = (h.0, λ v bytes b. finish_good c r under below caller (on v bytes b) el er (h.1 v bytes b) u)
 
 zeros_good : (ts : List ValueType) → HasTypes (map zero_of ts) ts
 zeros_good [] = tt
@@ -76,6 +76,26 @@ zeros_good (t ∷ ts) = (type-value_of t 0, zeros_good ts)
 answered_good : (r : BlockType) (v : ℕ) (rest : List Value) (below : List ValueType) → HasTypes rest below → HasTypes (answered r v ++ rest) (option_to_list r ++ below)
 answered_good None v rest below h = h
 answered_good (Some t) v rest below h = (type-value_of t (wrap (width t) v), h)
+
+-- the call of an import
+
+types_count : (vs : List Value) (ts : List ValueType) → HasTypes vs ts → length vs ≡ length ts
+types_count [] [] h = refl
+types_count [] (t ∷ ts) h = absurd h
+types_count (v ∷ vs) [] h = absurd h
+types_count (v ∷ vs) (t ∷ ts) h = ap suc (types_count vs ts h.1)
+
+import_below : (is : List Import) (f : ℕ) → is_some (slice_get is f) ≡ true → f < length is
+import_below [] f e = cc
+import_below (i ∷ is) zero e = omega arith
+import_below (i ∷ is) (suc f) e = omega (arith, import_below is f e)
+
+count_numbers : (vs : List Value) → length (map number_of vs) ≡ length vs
+count_numbers [] = refl
+count_numbers (v ∷ vs) = ap suc (count_numbers vs)
+
+names_import : (m : Module) (f : ℕ) (t : FuncType) (args : List Value) → is_import m f ≡ true → function_type m f ≡ Some t → HasTypes args t.params → NamesImport m f (map number_of args)
+names_import m f t args is e h = (import_below m.imports f is, (t, e, count_numbers args ∙ types_count args t.params h))
 
 -- which function is called
 
@@ -146,7 +166,7 @@ module _ (m : Module) (typed : Typed m) where
       let q : t ≡ u = cc in
       subst (λ (x : FuncType). CallGood m s.locals (option_to_list (result_of t) ++ below) (ask x f ops s)) q
       (taken_good m t below (option_to_list (result_of t) ++ below) ops s.locals (λ args rest. Ask f (map number_of args) s.store.memory.bytes s.meter (λ v bytes b. Normal (answered (result_of t) v ++ rest) (record s { store = with_bytes bytes s.store; meter = b }))) h
-      (λ args rest ha hr v bytes b. (answered_good (result_of t) v rest below hr, refl, st)))
+      (λ args rest ha hr. (names_import m f t args is e ha, λ v bytes b. (answered_good (result_of t) v rest below hr, refl, st))))
   any_good go f false (Some u) t below ops s is e oe h st next =
       let q : t ≡ u = cc in
       let own = own_function m f t is e in

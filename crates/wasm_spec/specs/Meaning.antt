@@ -1,5 +1,5 @@
 -- The execution of code and of calls (core section 4.4).
-use Rattle.std.specs.Prelude.{ℕ, zero, suc, ◌-◌, ◌^◌, ◌&&◌, List, [], ◌∷◌, ◌++◌, length, map, reverse, Bool, true, false, Option, Some, None, is_some, slice_get}
+use Rattle.std.specs.Prelude.{◌≡◌, ◌<◌, ℕ, zero, suc, ◌-◌, ◌^◌, ◌&&◌, List, [], ◌∷◌, ◌++◌, length, map, reverse, Bool, true, false, Option, Some, None, is_some, slice_get}
 use Rattle.budget_meter.specs.Meter.{Meter}
 use Rattle.wasm_spec.specs.declared.types.ValueType.{ValueType}
 use Rattle.wasm_spec.specs.declared.types.ValueType.TheVariants.{I32, I64}
@@ -139,6 +139,10 @@ own_call (Some f) go t ops s = go f t ops s
 
 abbrev pub is_import : Module → ℕ → Bool
 is_import m f = is_some (slice_get m.imports f)
+
+-- an import of the module, with as many arguments as it has parameters
+abbrev pub NamesImport : Module → ℕ → List ℕ → Type 0
+NamesImport m f args = (f < length m.imports) × ((t : FuncType) × (function_type m f ≡ Some t) × (length args ≡ length t.params))
 
 -- the call of a function of the type: an import, or a function that the module defines
 abbrev pub any_call : Module → (Function → FuncType → List Value → State → Run) → Bool → Option FuncType → Calls

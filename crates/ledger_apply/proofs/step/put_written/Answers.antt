@@ -2,7 +2,8 @@ use Rattle.std.proofs.Common.{List, refl, sym, subst, arith}
 use Rattle.ledger_types.specs.Key.{key_format}
 use Rattle.ledger_types.specs.declared.key.LedgerKey.{LedgerKey}
 use Rattle.ledger_apply.proofs.On.{take_all}
-use Rattle.ledger_apply.proofs.Spelling.{AreSpelled, declared_spelled}
+use Rattle.tx_xdr.specs.SetBounds.{today}
+use Rattle.tx_apply.proofs.Declared.{AreSpelled, declared_spelled}
 use Rattle.ledger_apply.proofs.Written.{PutFor, put_for_none, put_for_more, before_is}
 use Rattle.ledger_apply.proofs.step.put_written.Goals as goal
 
@@ -11,7 +12,7 @@ loop-key-init c = put_for_none c.args.running.ledger.entries c.args.running.pend
 
 pub put_in-requires : goal.put_in-requires
 put_in-requires c =
-    let keys : AreSpelled c.read_write_of-keys.result.now = subst AreSpelled (sym c.read_write_of-keys.ensures) (declared_spelled c.args.tx.now c.requires.fits).1 in
+    let keys : AreSpelled c.read_write_of-keys.result.now = subst AreSpelled (sym c.read_write_of-keys.ensures) (declared_spelled today c.args.tx.now c.requires.fits).1 in
     subst (λ (k : LedgerKey). key_format.fits k) (sym c.key-item.is) (keys c.loop-key.key-index c.key-item.result c.loop-key-test.true)
 
 pub loop-key-preserved : goal.loop-key-preserved

@@ -4,16 +4,11 @@ use Rattle.std.proofs.lemmas.Result.{err_from_is_err_and}
 use Rattle.std.proofs.lemmas.Iterator.Adapters.{YieldsList-from_vec}
 use Rattle.std.proofs.lemmas.Iterator.Consumers.{YieldsList-turn, YieldsList-end}
 use Rattle.std.specs.FinMap.{entries}
-use Rattle.ledger_file.proofs.Steps.{judged_none, judged_more, few_more, all_made, first_by, order, entries-empty}
+use Rattle.ledger_file.proofs.Steps.{judged_none, judged_more, all_made, first_by, order, entries-empty}
 use Rattle.ledger_file.proofs.records.map_of_records.Goals as goal
 
 pub loop-item-init : goal.loop-item-init
 loop-item-init c = rw (c.new-entries.ensures, entries-empty order) (judged_none c.args.records.items)
-
-pub push_record-requires-clause-few : goal.push_record-requires-clause-few
-push_record-requires-clause-few c =
-    let t = YieldsList-turn (YieldsList-from_vec c.args.records.items (cc) (cc)) c.loop-item.yielded c.loop-item.item-iterator c.loop-item.yielded_by _ c.next.new.self c.in-Some.item c.in-Some.is c.next.ensures.steps in
-    few_more c.args.records.items (length c.loop-item.yielded) c.loop-item.entries c.loop-item.invariant t.0 c.requires.few
 
 pub loop-item-preserved : goal.loop-item-preserved
 loop-item-preserved c =

@@ -7,4 +7,4 @@ use Rattle.ledger_file.proofs.writing.write_record.Goals as goal
 
 pub write-requires-2 : goal.write-requires-2
 unfolding ttl_format hash_format number32
-write-requires-2 c = rw c.args.slot.now.hashed ((length-sha256 c.args.slot.now.key, IsBytes-sha256 c.args.slot.now.key), c.requires.numbered)
+write-requires-2 c = rw c.args.stored.now.hashed ((length-sha256 _, IsBytes-sha256 _), c.requires.numbered)

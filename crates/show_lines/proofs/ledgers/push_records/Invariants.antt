@@ -1,8 +1,7 @@
-use Rattle.std.proofs.Common.{◌≡◌, ◌++◌, take}
-use Rattle.std.specs.List.{flat_map}
-use Rattle.entry_map.specs.Slots.{pairs_of}
+use Rattle.std.specs.FinMap.{entries}
+use Rattle.entry_map.proofs.Walk.{Walked}
 use Rattle.show_lines.specs.LedgerLines.{record_line}
 use Rattle.show_lines.proofs.ledgers.push_records.Given as goal
 
-abbrev pub invariant-loop-slot : goal.invariant-loop-slot
-invariant-loop-slot l = l.lines.items ≡ l.fn.lines.items ++ flat_map record_line (pairs_of (take l.slot-index l.slots))
+abbrev pub invariant-loop-key : goal.invariant-loop-key
+invariant-loop-key l = Walked record_line l.fn.lines.items l.lines.items l._key-iterator (entries l.entries)

@@ -1,7 +1,7 @@
 use Rattle.std.proofs.Common.{arith, refl}
 use Rattle.std.proofs.lemmas.Result.{err_from_is_err_and}
 use Rattle.tx_xdr.specs.SetBounds.{whole}
-use Rattle.tx_xdr.specs.Transaction.{envelope_format, envelope_lawful}
+use Rattle.tx_xdr.specs.Envelope.{envelope_format, envelope_lawful}
 use Rattle.xdr_spec.proofs.Decoding.{spells_decoded}
 use Rattle.soroban_top.specs.Shown.{any_envelope_in}
 use Rattle.soroban_top.proofs.Decoding.{unread_due}

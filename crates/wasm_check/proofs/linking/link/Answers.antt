@@ -1,7 +1,8 @@
 use Rattle.std.proofs.Common.{◌^◌, ◌<◌, length, subst, sym, arith}
 use Rattle.std.specs.Prelude.{OnOk, IfErr}
 use Rattle.wasm_spec.specs.declared.module.Module.{Module}
-use Rattle.wasm_check.specs.Linking.{Linked, IsFirstUnlinked, host_functions}
+use Rattle.host_interface.specs.Rows.{host_rows}
+use Rattle.wasm_check.specs.Linking.{Linked, IsFirstUnlinked}
 use Rattle.wasm_check.proofs.OutsideLaws.{indices_length}
 use Rattle.wasm_check.proofs.linking.link.Goals as goal
 
@@ -12,7 +13,7 @@ link_with-requires c =
     subst (λ (m : Module). length m.imports < 2 ^ 32) (sym c.module.ensures.module) few
 
 pub returns-clause-linked : goal.returns-clause-linked
-returns-clause-linked c = subst (λ (m : Module). OnOk c.link_with.result (Linked host_functions m)) c.module.ensures.module c.link_with.ensures.linked
+returns-clause-linked c = subst (λ (m : Module). OnOk c.link_with.result (Linked host_rows m)) c.module.ensures.module c.link_with.ensures.linked
 
 pub returns-clause-unlinked : goal.returns-clause-unlinked
-returns-clause-unlinked c = subst (λ (m : Module). IfErr c.link_with.result (λ e. IsFirstUnlinked host_functions m e.import)) c.module.ensures.module c.link_with.ensures.unlinked
+returns-clause-unlinked c = subst (λ (m : Module). IfErr c.link_with.result (λ e. IsFirstUnlinked host_rows m e.import)) c.module.ensures.module c.link_with.ensures.unlinked

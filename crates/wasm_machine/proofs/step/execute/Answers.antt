@@ -35,15 +35,15 @@ call_by_table-requires-clause-moves c =
     let m = machine_of c.args.machine.now c.args.budget.now in
     (c.args.budget.now, subst (λ i. executes c.args.source.now c.args.code.now i m ≡ Fails → ⊥) c.in-CallIndirect.is c.requires.moves)
 
-pub returns-in-Call : goal.returns-in-Call
-returns-in-Call c =
+pub returns-in-Call-clause-moves : goal.returns-in-Call-clause-moves
+returns-in-Call-clause-moves c =
     let m = machine_of c.args.machine.now c.args.budget.now in
     let new = machine_of c.call.new.machine c.args.budget.now in
     subst (λ i. IfOk c.call.result (λ o. IsMove (executes c.args.source.now c.args.code.now i m) o new)) (sym c.in-Call.is)
     (if_ok c.call.result _ _ c.call.ensures (λ o h. h c.args.budget.now))
 
-pub returns-in-CallIndirect : goal.returns-in-CallIndirect
-returns-in-CallIndirect c =
+pub returns-in-CallIndirect-clause-moves : goal.returns-in-CallIndirect-clause-moves
+returns-in-CallIndirect-clause-moves c =
     let m = machine_of c.args.machine.now c.args.budget.now in
     let new = machine_of c.call_by_table.new.machine c.args.budget.now in
     subst (λ i. IfOk c.call_by_table.result (λ o. IsMove (executes c.args.source.now c.args.code.now i m) o new)) (sym c.in-CallIndirect.is)

@@ -1,37 +1,41 @@
-use Rattle.std.proofs.Common.{◌≡◌, ◌∙◌, ap, sym, Some, None, Option, ℕ, max}
-use Rattle.std.specs.FinMap.{get, find, insert}
-use Rattle.ledger_spec.specs.declared.Kept.{Kept}
-use Rattle.ledger_spec.specs.LedgerMap.{LedgerMap, key_bytes}
-use Rattle.ledger_spec.specs.LedgerMap as ledger
-use Rattle.ledger_spec.specs.Changes.{raised}
-use Rattle.entry_map.specs.Slots.{IsIndexOf, pairs_of, map_of}
-use Rattle.entry_map.proofs.Searching.{order}
-use Rattle.entry_map.proofs.Mapping.{found_in, found_at, raised_slots, raised_map}
+use Rattle.std.proofs.Common.{◌≡◌, ◌∙◌, Some, None, max, ap, sym}
+use Rattle.std.specs.Map.{lookup}
+use Rattle.std.specs.BTreeMap.{is_at}
+use Rattle.ledger_types.specs.KeyOrder.{key_cmp}
+use Rattle.ledger_spec.specs.LedgerMap.{LedgerMap}
+use Rattle.ledger_spec.specs.Changes.{raise}
+use Rattle.entry_map.specs.Entries.{Boxed}
+use Rattle.entry_map.specs.declared.stored.StoredEntry.{StoredEntry}
+use Rattle.entry_map.proofs.Mapping.{raised_entries, raised_map, raised_nowhere}
 use Rattle.entry_map.proofs.map.EntryMap.raise.Goals as goal
+use Rattle.entry_map.proofs.map.EntryMap.raise.Goals.{in-Some, in_default}
 
 pub invariant_of-self : goal.invariant_of-self
-invariant_of-self c =
-    let slots = c.self.inside.slots.items in
-    let index : IsIndexOf slots c.in-Some.index (key_bytes c.args.key.now) = rw c.deref.ensures.value at c.in-Some.ensures.found in
-    raised_slots slots c.in-Some.index (key_bytes c.args.key.now) c.index_mut.result.now c.later-kept.result _ c.self.invariant index c.index_mut.ensures.value c.later-kept.type_inv
+invariant_of-self c = elim c.match-get_mut.branch [
+  | in-Some w ↦
+      let es = c.self.inside.map.entries in
+      let looked : lookup (is_at (key_cmp c.args.key.now)) es ≡ Some w.in-Some.stored.now = sym w.in-Some.ensures.value in
+      rw w.self-inside-is
+      (raised_entries c.args.key.now es (λ (v : Boxed). (c.get_mut.follows.lender v).entries) (λ (v : Boxed). (c.get_mut.follows.holds v).0) c.self.invariant w.in-Some.stored.now looked
+      w.deref_mut.result.now w.deref_mut.ensures.value w.later.result _ w.later.type_inv)
+  | in_default w ↦ rw (w.self-inside-is, c.get_mut.follows.holds-at-none) c.self.invariant
+]
 
-pub returns-in-Some : goal.returns-in-Some
-returns-in-Some c =
-    let slots = c.self.inside.slots.items in
-    let key = key_bytes c.args.key.now in
-    let read = c.index_mut.result.now in
-    let index : IsIndexOf slots c.in-Some.index key = rw c.deref.ensures.value at c.in-Some.ensures.found in
-    let there : ledger.find c.args.self.now c.args.key.now ≡ Some read.kept =
-    ap (λ (m : LedgerMap). get m key) (sym c.self.view_is) ∙ found_at slots c.in-Some.index key read c.self.invariant.sorted index c.index_mut.ensures.value in
-    sym (ap (λ (o : Option Kept). raised o c.args.self.now c.args.key.now c.args.live_until) there
-    ∙ ap (λ (m : LedgerMap). insert m key (record { entry = read.kept.entry; live_until = max read.kept.live_until c.args.live_until })) (sym c.self.view_is)
-    ∙ ap (λ (n : ℕ). insert (map_of slots) key (record { entry = read.kept.entry; live_until = n })) (sym c.later-kept.ensures)
-    ∙ raised_map slots c.in-Some.index key read c.later-kept.result _ c.self.invariant.sorted index c.index_mut.ensures.value)
-
-pub returns-in_default : goal.returns-in_default
-returns-in_default c =
-    let slots = c.self.inside.slots.items in
-    let none : find order (key_bytes c.args.key.now) (pairs_of slots) ≡ None = rw c.deref.ensures.value at c.in_default.ensures.absent in
-    let there : ledger.find c.args.self.now c.args.key.now ≡ None =
-    ap (λ (m : LedgerMap). get m (key_bytes c.args.key.now)) (sym c.self.view_is) ∙ found_in slots (key_bytes c.args.key.now) c.self.invariant.sorted ∙ none in
-    sym (ap (λ (o : Option Kept). raised o c.args.self.now c.args.key.now c.args.live_until) there)
+pub returns : goal.returns
+returns c = elim c.match-get_mut.branch [
+  | in-Some w ↦
+      let es = c.self.inside.map.entries in
+      let looked : lookup (is_at (key_cmp c.args.key.now)) es ≡ Some w.in-Some.stored.now = sym w.in-Some.ensures.value in
+      let longer : w.later.result ≡ max w.deref_mut.result.now.kept.live_until c.args.live_until =
+      w.later.ensures ∙ ap (λ (v : StoredEntry). max v.kept.live_until c.args.live_until) (w.deref.ensures ∙ sym w.deref_mut.ensures.value) in
+      rw w.self-inside-is
+      (raised_map c.args.key.now es (λ (v : Boxed). (c.get_mut.follows.lender v).entries) (λ (v : Boxed). (c.get_mut.follows.holds v).0) c.self.invariant w.in-Some.stored.now looked
+      w.deref_mut.result.now w.deref_mut.ensures.value w.later.result _ c.args.live_until c.requires longer
+      ∙ ap (λ (m : LedgerMap). raise m c.args.key.now c.args.live_until) c.self.view_is)
+  | in_default w ↦
+      let es = c.self.inside.map.entries in
+      let looked : lookup (is_at (key_cmp c.args.key.now)) es ≡ None = sym w.in_default.ensures.value in
+      rw (w.self-inside-is, c.get_mut.follows.holds-at-none)
+      (raised_nowhere c.args.key.now es c.args.live_until c.self.invariant.sorted c.requires looked
+      ∙ ap (λ (m : LedgerMap). raise m c.args.key.now c.args.live_until) c.self.view_is)
+]

@@ -1,12 +1,13 @@
 use Rattle.std.proofs.Common.{List, length, drop, refl, sym, ap, ◌∙◌, subst, arith}
 use Rattle.wasm_spec.specs.declared.values.Value.{Value}
+use Rattle.wasm_spec.specs.Meaning.{NamesImport}
 use Rattle.wasm_machine.specs.declared.run.Paused.{Paused}
 use Rattle.wasm_machine.specs.declared.run.Paused.TheVariants as paused
 use Rattle.wasm_machine.specs.MachineState.{machine_of}
 use Rattle.wasm_machine.specs.Says.{Says}
 use Rattle.wasm_run.specs.declared.instance.CallPhase.TheVariants as phase
 use Rattle.wasm_run.specs.Suspended.{Suspended, suspended, standing, Does}
-use Rattle.wasm_run.proofs.Suspends.{able_at, word_is, goes_on, tells_done, tells_trap, tells_spent, tells_ask}
+use Rattle.wasm_run.proofs.Suspends.{able_at, word_is, goes_on, tells_done, tells_trap, tells_spent, tells_ask, names_ask}
 use Rattle.wasm_run.proofs.instance.Instance.step_to.Goals as goal
 
 pub run-requires : goal.run-requires
@@ -79,3 +80,18 @@ returns-in_ok-push-in-HostCall-clause-tells c = λ go does.
     let j = record (suspended i.source i.flat (phase.Waiting t) c.run.new.machine) { operands = c.push.new.self } in
     let says' = subst (λ (x : List Value). Says i.source i.flat (go b) asks (standing (record j { operands = x }) after)) (sym (ap (λ (x : List Value). drop 1 x) c.in_ok-push-in-HostCall.ensures.ok)) says in
     tells_ask j (go b) c.in-HostCall.import c.in-HostCall.words c.from_vec-args.result t after refl c.from_vec-args.ensures goes.1 says'
+
+pub returns-in_ok-push-in-HostCall-clause-names : goal.returns-in_ok-push-in-HostCall-clause-names
+returns-in_ok-push-in-HostCall-clause-names c =
+    let i = suspended c.self.inside.source.now c.self.inside.code.now c.self.inside.phase c.self.inside.running in
+    let able = able_at i phase.Ready (ap (λ (s : Suspended). s.phase) c.self.view_is ∙ c.requires) c.self.invariant in
+    let b = c.args.budget.now in
+    let after = c.run.new.budget in
+    let t = c.in-HostCall.result_type in
+    let asks = paused.HostCall c.in-HostCall.import c.in-HostCall.words t in
+    let m = machine_of c.run.new.machine after in
+    let says = subst (λ (p : Paused). Says i.source i.flat (able.0 b) p m) c.in-HostCall.is (c.in_ok-result_value.ensures.says (able.0 b) (able.1 b).0) in
+    let j = record (suspended i.source i.flat (phase.Waiting t) c.run.new.machine) { operands = c.push.new.self } in
+    let says' = subst (λ (x : List Value). Says i.source i.flat (able.0 b) asks (standing (record j { operands = x }) after)) (sym (ap (λ (x : List Value). drop 1 x) c.in_ok-push-in-HostCall.ensures.ok)) says in
+    let names = names_ask j (able.0 b) c.in-HostCall.import c.in-HostCall.words c.from_vec-args.result t after c.from_vec-args.ensures (able.1 b).1 says' in
+    subst (λ (s : Suspended). NamesImport s.source c.in-HostCall.import c.from_vec-args.result) c.self.view_is names

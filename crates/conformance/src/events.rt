@@ -1,0 +1,97 @@
+//! The events of a call, and its budget.
+
+ghost use Rattle.std.specs.Prelude.{◌≡◌};
+
+use budget_meter::{Budget, KindTerms, Limits, LinearCost, Terms, Used};
+use case_text::CaseErr;
+use std::fmt::Write;
+use wasm_run::Event;
+use wasm_spec::TrapKind;
+
+/// What is shown of an event.
+#[derive(Clone, Copy, PartialEq, Eq)]
+pub enum Shown {
+    Alone,
+    /// With what the budget has spent.
+    WithSums,
+}
+
+/// Appends the line of an event.
+pub fn push_event(
+    line: &mut String,
+    event: &Event,
+    used: Used,
+    shown: Shown,
+) -> Result<(), CaseErr> {
+    match event {
+        Event::Done(number) => write!(line, "done {number:x}")?,
+        Event::Trap(kind) => {
+            let name = trap_name(*kind);
+            write!(line, "trap {name}")?;
+        }
+        Event::Spent => line.push_str("spent")?,
+        Event::HostCall { import, args } => {
+            write!(line, "asks {import}")?;
+            push_words(line, args.as_slice())?;
+        }
+    }
+    if shown == Shown::WithSums {
+        let (instructions, memory) = (used.instructions, used.memory);
+        write!(line, ", instructions {instructions} memory {memory}")?;
+    }
+    line.push('\n')?;
+    Ok(())
+}
+
+fn push_words(line: &mut String, words: &[u64]) -> Result<(), CaseErr> {
+    for word in words {
+        write!(line, " {word:x}")?;
+    }
+    Ok(())
+}
+
+fn trap_name(kind: TrapKind) -> &'static str {
+    match kind {
+        TrapKind::Unreachable => "unreachable",
+        TrapKind::OutOfBounds => "bounds",
+        TrapKind::Arithmetic => "arithmetic",
+        TrapKind::IndirectType => "type",
+        TrapKind::EmptyElement => "empty",
+        TrapKind::CallDepth => "depth",
+    }
+}
+
+fn terms(constant: u32, linear: u32, memory_constant: u32, memory_linear: u32) -> KindTerms
+    ensures { result.instructions.constant ≡ constant }
+{
+    KindTerms {
+        instructions: LinearCost { constant, linear },
+        memory: LinearCost {
+            constant: memory_constant,
+            linear: memory_linear,
+        },
+    }
+}
+
+/// A budget of so many instructions. An instruction costs one, and a page of memory its bytes and 16.
+pub fn budget_of(instructions: u64) -> Budget {
+    let other = terms(10, 128, 0, 0);
+    let all = Terms {
+        wasm_insn_exec: terms(1, 0, 0, 0),
+        mem_alloc: terms(0, 0, 16, 128),
+        mem_cpy: other,
+        mem_cmp: other,
+        dispatch_host_function: other,
+        visit_object: other,
+        val_ser: other,
+        val_deser: other,
+        compute_sha256_hash: other,
+        vm_instantiation: other,
+        invoke_vm_function: other,
+    };
+    let limits = Limits {
+        instructions,
+        memory: 41_943_040,
+    };
+    Budget::new(limits, all)
+}

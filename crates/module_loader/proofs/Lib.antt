@@ -1,0 +1,4 @@
+pub mod Exact
+pub mod Failing
+mod Functions
+mod Imports

@@ -1,0 +1,9 @@
+//! Values that contracts hold by handles.
+#![tactic(auto)]
+
+mod objects;
+mod small;
+mod words;
+
+pub use objects::{Objects, ShowErr, Shown};
+pub use words::{Bad, Ref, TakeErr};

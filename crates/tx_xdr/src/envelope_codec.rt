@@ -1,0 +1,223 @@
+//! The spelling of envelopes.
+
+ghost use Rattle.xdr_core.specs.Reads.{Reads};
+ghost use Rattle.tx_xdr.specs.SetBounds.{whole};
+ghost use Rattle.tx_xdr.specs.Envelope.{signed_format, signed_lawful, fee_bump_format, fee_bump_lawful, signed_fee_bump_format, signed_fee_bump_lawful, type_format, type_lawful, arms, envelope_format, envelope_lawful};
+
+use crate::envelope::{Envelope, EnvelopeType, FeeBump, SignedFeeBump, SignedTransaction};
+use crate::limits::SetBounds;
+use crate::numbers::{ENVELOPE_TYPE_TX, NO_EXT};
+use crate::transaction::Transaction;
+use crate::within::ReadWithin;
+use std::alloc::Global;
+use tx_parts::{DecoratedSignature, MuxedAccount};
+use value_types::Items;
+use value_xdr::{Xdr, named, read_head};
+use xdr_core::{Cursor, NoMemory, Out, ReadXdr, add_sizes};
+
+#[tactic(auto, unfolding(crate::specs::Envelope::signed_format))]
+impl ReadWithin for SignedTransaction {
+    ghost format = { signed_format };
+
+    fn read_parts_within(
+        alloc: Global,
+        input: &mut Cursor<'_>,
+        limits: SetBounds,
+    ) -> Result<SignedTransaction, ReadXdr> {
+        let tx = Transaction::read_within(alloc, input, limits)?;
+        let signatures = Items::<DecoratedSignature, 20>::read(alloc, input)?;
+        Ok(SignedTransaction { tx, signatures })
+    }
+
+    ghost lawful = { signed_lawful };
+}
+
+#[tactic(auto, unfolding(crate::specs::Envelope::signed_format, xdr_core::specs::Sizes::capped))]
+impl Xdr for SignedTransaction {
+    ghost format = { signed_format whole };
+
+    fn read_parts(alloc: Global, input: &mut Cursor<'_>) -> Result<SignedTransaction, ReadXdr> {
+        SignedTransaction::read_within(alloc, input, SetBounds::whole())
+    }
+
+    fn write_parts(&self, out: &mut Out) -> Result<(), NoMemory> {
+        self.tx.write(out)?;
+        self.signatures.write(out)
+    }
+
+    fn size(&self) -> u64 {
+        add_sizes(self.tx.size(), self.signatures.size())
+    }
+
+    ghost lawful = { signed_lawful whole };
+}
+
+#[tactic(auto, unfolding(crate::specs::Envelope::fee_bump_format))]
+impl ReadWithin for FeeBump {
+    ghost format = { fee_bump_format };
+
+    fn read_parts_within(
+        alloc: Global,
+        input: &mut Cursor<'_>,
+        limits: SetBounds,
+    ) -> Result<FeeBump, ReadXdr> {
+        let fee_source = MuxedAccount::read(alloc, input)?;
+        let fee = i64::read(alloc, input)?;
+        read_head(input, ENVELOPE_TYPE_TX)?;
+        let inner = SignedTransaction::read_within(alloc, input, limits)?;
+        read_head(input, NO_EXT)?;
+        Ok(FeeBump {
+            fee_source,
+            fee,
+            inner,
+        })
+    }
+
+    ghost lawful = { fee_bump_lawful };
+}
+
+#[tactic(auto, unfolding(crate::specs::Envelope::fee_bump_format))]
+impl Xdr for FeeBump {
+    ghost format = { fee_bump_format whole };
+
+    fn read_parts(alloc: Global, input: &mut Cursor<'_>) -> Result<FeeBump, ReadXdr> {
+        FeeBump::read_within(alloc, input, SetBounds::whole())
+    }
+
+    fn write_parts(&self, out: &mut Out) -> Result<(), NoMemory> {
+        self.fee_source.write(out)?;
+        self.fee.write(out)?;
+        out.put_u32(ENVELOPE_TYPE_TX)?;
+        self.inner.write(out)?;
+        out.put_u32(NO_EXT)
+    }
+
+    #[tactic(auto, unfolding(crate::specs::Envelope::fee_bump_format, xdr_spec::specs::Format::signed64, xdr_core::specs::Sizes::capped))]
+    fn size(&self) -> u64 {
+        // The fee of 8 bytes, the inner envelope's type and the extension point of 4 each.
+        add_sizes(self.fee_source.size(), self.inner.size()).saturating_add(16)
+    }
+
+    ghost lawful = { fee_bump_lawful whole };
+}
+
+#[tactic(auto, unfolding(crate::specs::Envelope::signed_fee_bump_format))]
+impl ReadWithin for SignedFeeBump {
+    ghost format = { signed_fee_bump_format };
+
+    fn read_parts_within(
+        alloc: Global,
+        input: &mut Cursor<'_>,
+        limits: SetBounds,
+    ) -> Result<SignedFeeBump, ReadXdr> {
+        let fee_bump = FeeBump::read_within(alloc, input, limits)?;
+        let signatures = Items::<DecoratedSignature, 20>::read(alloc, input)?;
+        Ok(SignedFeeBump {
+            fee_bump,
+            signatures,
+        })
+    }
+
+    ghost lawful = { signed_fee_bump_lawful };
+}
+
+#[tactic(auto, unfolding(crate::specs::Envelope::signed_fee_bump_format, xdr_core::specs::Sizes::capped))]
+impl Xdr for SignedFeeBump {
+    ghost format = { signed_fee_bump_format whole };
+
+    fn read_parts(alloc: Global, input: &mut Cursor<'_>) -> Result<SignedFeeBump, ReadXdr> {
+        SignedFeeBump::read_within(alloc, input, SetBounds::whole())
+    }
+
+    fn write_parts(&self, out: &mut Out) -> Result<(), NoMemory> {
+        self.fee_bump.write(out)?;
+        self.signatures.write(out)
+    }
+
+    fn size(&self) -> u64 {
+        add_sizes(self.fee_bump.size(), self.signatures.size())
+    }
+
+    ghost lawful = { signed_fee_bump_lawful whole };
+}
+
+#[tactic(auto, unfolding(crate::specs::Envelope::type_format, xdr_core::specs::Sizes::capped))]
+impl Xdr for EnvelopeType {
+    ghost format = { type_format };
+
+    fn read_parts(_alloc: Global, input: &mut Cursor<'_>) -> Result<EnvelopeType, ReadXdr> {
+        let place = input.place();
+        named(EnvelopeType::from_number(input.u32()?), place)
+    }
+
+    fn write_parts(&self, out: &mut Out) -> Result<(), NoMemory> {
+        out.put_u32(self.number())
+    }
+
+    fn size(&self) -> u64 {
+        4
+    }
+
+    ghost lawful = { type_lawful };
+}
+
+fn read_arm(
+    alloc: Global,
+    input: &mut Cursor<'_>,
+    kind: EnvelopeType,
+    limits: SetBounds,
+) -> Result<Envelope, ReadXdr>
+    ensures { Reads (arms limits kind).read input.old input.new result }
+{
+    match kind {
+        EnvelopeType::Transaction => Ok(Envelope::Transaction(SignedTransaction::read_within(
+            alloc, input, limits,
+        )?)),
+        EnvelopeType::FeeBump => {
+            Ok(Envelope::FeeBump(SignedFeeBump::read_within(alloc, input, limits)?))
+        }
+    }
+}
+
+#[tactic(auto, unfolding(crate::specs::Envelope::envelope_format, crate::specs::Envelope::type_format))]
+impl ReadWithin for Envelope {
+    ghost format = { envelope_format };
+
+    fn read_parts_within(
+        alloc: Global,
+        input: &mut Cursor<'_>,
+        limits: SetBounds,
+    ) -> Result<Envelope, ReadXdr> {
+        let kind = EnvelopeType::read(alloc, input)?;
+        read_arm(alloc, input, kind, limits)
+    }
+
+    ghost lawful = { envelope_lawful };
+}
+
+#[tactic(auto, unfolding(crate::specs::Envelope::envelope_format, crate::specs::Envelope::type_format, xdr_core::specs::Sizes::capped))]
+impl Xdr for Envelope {
+    ghost format = { envelope_format whole };
+
+    fn read_parts(alloc: Global, input: &mut Cursor<'_>) -> Result<Envelope, ReadXdr> {
+        Envelope::read_within(alloc, input, SetBounds::whole())
+    }
+
+    fn write_parts(&self, out: &mut Out) -> Result<(), NoMemory> {
+        self.kind().write(out)?;
+        match self {
+            Envelope::Transaction(signed) => signed.write(out),
+            Envelope::FeeBump(signed) => signed.write(out),
+        }
+    }
+
+    fn size(&self) -> u64 {
+        let body = match self {
+            Envelope::Transaction(signed) => signed.size(),
+            Envelope::FeeBump(signed) => signed.size(),
+        };
+        add_sizes(self.kind().size(), body)
+    }
+
+    ghost lawful = { envelope_lawful whole };
+}
