@@ -1,0 +1,11 @@
+pub mod Points
+pub mod Frames
+pub mod Parts
+pub mod Owned
+pub mod Orders
+pub mod Cuts
+pub mod Pending
+pub mod Wholes
+pub mod Sets
+pub mod Conflicts
+pub mod Shown

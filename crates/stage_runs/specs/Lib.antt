@@ -1,0 +1,10 @@
+pub mod Maps
+pub mod Transactions
+pub mod Runs
+pub mod Conflicts
+pub mod Parts
+pub mod Orders
+pub mod Sets
+pub mod Pending
+pub mod Whole
+pub mod Laws
