@@ -1,7 +1,7 @@
 #!/usr/bin/env python3
-"""Runs integer loops through wasm_bench and through wabt's wasm-interp, and prints instructions a second of processor time of both.
+"""Runs integer loops through part_bench and through wabt's wasm-interp, and prints instructions a second of processor time of both.
 
-usage: bench/loops.py WASM_BENCH (the built program of crates/wasm_bench; it needs wat2wasm and wasm-interp of wabt)
+usage: bench/loops.py PART_BENCH (the built program of crates/part_bench; it needs wat2wasm and wasm-interp of wabt)
 """
 
 import os
@@ -62,7 +62,7 @@ def main():
             with open(text, "w") as file:
                 file.write(alone(name))
             subprocess.run(["wat2wasm", text, "-o", module], check=True)
-            here, said = timed(program, module, name)
+            here, said = timed(program, "export", module, name)
             found, count = map(int, re.fullmatch(r"result (\d+), (\d+) instructions\n", said).groups())
             there, other = timed("wasm-interp", module, "--run-all-exports")
             assert other.strip().endswith(f"i64:{found}"), (name, said, other)

@@ -1,4 +1,4 @@
--- Who authorises: the number of a type, and then what that type wants (XDR file Stellar-transaction, `SorobanCredentialsType`,
+-- Who authorises: the number of a type, and then its fields (XDR file Stellar-transaction, `SorobanCredentialsType`,
 -- `SorobanAddressCredentials` and `SorobanCredentials`).
 use Rattle.std.specs.Prelude.{◌≡◌, ◌<◌, ◌^◌, List, [], ◌∷◌, ℕ, ℤ, Option, Some, None}
 use Rattle.std.proofs.Common.{refl, ap, arith}

@@ -11,8 +11,6 @@ mod mem_files;
 mod mem_say;
 mod real;
 mod say;
-#[cfg(test)]
-mod tests;
 mod turns;
 mod whole;
 mod word;

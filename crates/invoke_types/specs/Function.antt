@@ -1,4 +1,4 @@
--- What an authorisation lets happen: the number of a type, and then what that type wants (XDR file Stellar-transaction,
+-- What an authorisation lets happen: the number of a type, and then its fields (XDR file Stellar-transaction,
 -- `SorobanAuthorizedFunctionType` and `SorobanAuthorizedFunction`).
 use Rattle.std.specs.Prelude.{◌≡◌, ◌<◌, ◌^◌, List, [], ◌∷◌, ℕ, Option, Some, None}
 use Rattle.std.proofs.Common.{refl, arith}

@@ -1,4 +1,4 @@
--- What a transaction has the host do: the number of a type, and then what that type wants (XDR file Stellar-transaction,
+-- What a transaction has the host do: the number of a type, and then its fields (XDR file Stellar-transaction,
 -- `HostFunctionType` and `HostFunction`).
 use Rattle.std.specs.Prelude.{◌≡◌, ◌<◌, ◌^◌, List, [], ◌∷◌, ℕ, Option, Some, None}
 use Rattle.std.proofs.Common.{refl, arith}

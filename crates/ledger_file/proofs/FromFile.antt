@@ -14,8 +14,8 @@ use Rattle.xdr_spec.specs.Decoded.{decoded}
 use Rattle.xdr_spec.proofs.Decoding.{decoded_spells}
 use Rattle.ledger_types.specs.Record.{record_format}
 use Rattle.ledger_types.specs.File.{file_format, file_lawful}
-use Rattle.ledger_types.specs.declared.version.FileVersion.{FileVersion}
-use Rattle.ledger_types.specs.declared.version.FileVersion.TheVariants.{V1, V2}
+use Rattle.file_version.specs.declared.version.FileVersion.{FileVersion}
+use Rattle.file_version.specs.declared.version.FileVersion.TheVariants.{V1, V2}
 use Rattle.ledger_types.specs.declared.header.Header.{Header}
 use Rattle.ledger_types.specs.declared.file.LedgerFile.{LedgerFile}
 use Rattle.ledger_types.specs.declared.record.LedgerRecord.{LedgerRecord}

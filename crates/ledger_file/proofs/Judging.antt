@@ -7,12 +7,12 @@ use Rattle.xdr_spec.specs.Refusal.{Spells, Refuses}
 use Rattle.xdr_spec.specs.Decoded.{decoded}
 use Rattle.xdr_spec.proofs.Decoding.{spells_decoded, decoded_spells, decoded_refuses}
 use Rattle.xdr_spec.proofs.Refused.{one_refusal, not_both}
-use Rattle.ledger_types.specs.FileVersion.{protocol_format}
+use Rattle.file_version.specs.FileVersion.{protocol_format}
 use Rattle.ledger_types.specs.Header.{header_in, header_format}
 use Rattle.ledger_types.specs.Record.{record_format}
 use Rattle.ledger_types.specs.File.{file_format, file_lawful, rest_format}
-use Rattle.ledger_types.specs.declared.version.FileVersion.{FileVersion}
-use Rattle.ledger_types.specs.declared.version.FileVersion.TheVariants.{V1, V2}
+use Rattle.file_version.specs.declared.version.FileVersion.{FileVersion}
+use Rattle.file_version.specs.declared.version.FileVersion.TheVariants.{V1, V2}
 use Rattle.ledger_types.specs.declared.record.LedgerRecord.{LedgerRecord}
 use Rattle.ledger_types.specs.declared.header.Header.{Header}
 use Rattle.ledger_types.specs.declared.file.LedgerFile.{LedgerFile}

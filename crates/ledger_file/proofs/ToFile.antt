@@ -13,12 +13,12 @@ use Rattle.sha2.proofs.Facts256.{length-sha256}
 use Rattle.xdr_spec.specs.Format.{number32, list}
 use Rattle.xdr_spec.proofs.Decoding.{spells_decoded}
 use Rattle.value_types.specs.Hash.{hash_format}
-use Rattle.ledger_types.specs.FileVersion.{protocol_format}
+use Rattle.file_version.specs.FileVersion.{protocol_format}
 use Rattle.ledger_types.specs.Header.{header_in, header_format}
 use Rattle.ledger_types.specs.Record.{ttl_format, record_format}
 use Rattle.ledger_types.specs.File.{file_format, file_lawful, rest_format}
-use Rattle.ledger_types.specs.declared.version.FileVersion.{FileVersion}
-use Rattle.ledger_types.specs.declared.version.FileVersion.TheVariants.{V1, V2}
+use Rattle.file_version.specs.declared.version.FileVersion.{FileVersion}
+use Rattle.file_version.specs.declared.version.FileVersion.TheVariants.{V1, V2}
 use Rattle.ledger_types.specs.declared.header.Header.{Header}
 use Rattle.ledger_types.specs.declared.entry.LedgerEntryData.{LedgerEntryData}
 use Rattle.ledger_types.specs.declared.entry.LedgerEntryData.TheVariants.{ContractData, ContractCode}

@@ -2,7 +2,7 @@
 use Rattle.std.specs.Prelude.{◌≡◌, ℕ, Bool, List, IsTrue, ◌⊎◌}
 use Rattle.ledger_types.specs.Header.{header_format}
 use Rattle.ledger_types.specs.declared.header.Header.{Header}
-use Rattle.ledger_types.specs.declared.version.FileVersion.TheVariants.{V1, V2}
+use Rattle.file_version.specs.declared.version.FileVersion.TheVariants.{V1, V2}
 use Rattle.ledger_spec.specs.LedgerMap.{LedgerMap, IsLedgerMap}
 use Rattle.ledger_spec.specs.LedgerFile.{has_protocol, are_settings, has_next, bytes_in}
 

@@ -2,7 +2,7 @@
 
 ghost use Rattle.std.specs.Prelude.{◌≡◌};
 
-use contract_storage::{Found, Ground};
+use entry_lookup::{Found, Ground};
 use entry_map::EntryMap;
 use ledger_types::{Header, LedgerKey};
 

@@ -16,7 +16,7 @@ use crate::error::LedgerErr;
 use crate::rules::record_fault;
 use entry_map::{EntryMap, StoredEntry};
 use ledger_spec::{Kept, LedgerRefusal};
-use ledger_types::{LedgerKey, LedgerRecord, cmp_keys, key_hash, key_of};
+use ledger_types::{BoxedRecord, LedgerKey, LedgerRecord, cmp_keys, key_hash, key_of};
 use std::alloc::Global;
 use xdr_core::NoMemory;
 
@@ -100,7 +100,7 @@ fn stored(alloc: Global, item: LedgerRecord) -> Result<Box<StoredEntry>, NoMemor
 }
 
 /// Tests and adds the record that follows those of the map.
-fn push_record(alloc: Global, entries: &mut EntryMap, item: LedgerRecord) -> Result<(), LedgerErr>
+fn add_record(alloc: Global, entries: &mut EntryMap, item: LedgerRecord) -> Result<(), LedgerErr>
     requires { record_format.fits item }
     ensures good { OnOk result (fault_of (last_key (entries_of entries.old)) item ≡ None) }
     ensures ok { OnOk result (entries_of entries.new ≡ entries_of entries.old ++ pair_of item ∷ []) }
@@ -113,8 +113,18 @@ fn push_record(alloc: Global, entries: &mut EntryMap, item: LedgerRecord) -> Res
     Ok(())
 }
 
+/// Does the same for a record on the heap.
+fn push_record(alloc: Global, entries: &mut EntryMap, item: BoxedRecord) -> Result<(), LedgerErr>
+    requires { record_format.fits item }
+    ensures good { OnOk result (fault_of (last_key (entries_of entries.old)) item ≡ None) }
+    ensures ok { OnOk result (entries_of entries.new ≡ entries_of entries.old ++ pair_of item ∷ []) }
+    ensures err { IfErr result (IsFaultUnlessMemory (len entries.old) (fault_of (last_key (entries_of entries.old)) item)) }
+{
+    add_record(alloc, entries, item.into_record())
+}
+
 /// Makes the map of a file's records, or returns the first record's fault.
-pub fn map_of_records(alloc: Global, records: Vec<LedgerRecord>) -> Result<EntryMap, LedgerErr>
+pub fn map_of_records(alloc: Global, records: Vec<BoxedRecord>) -> Result<EntryMap, LedgerErr>
     requires { AllByRecursion record_format.fits records.items }
     ensures good { OnOk result (first_fault 0 None records.items ≡ None) }
     ensures ok { IfOk result (λ entries. entries ≡ map_of records.items) }

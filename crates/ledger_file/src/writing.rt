@@ -11,7 +11,8 @@ ghost use Rattle.ledger_file.specs.Records.{record_bytes, IsKept};
 
 use crate::ledger::Ledger;
 use entry_map::{EntryMap, StoredEntry};
-use ledger_types::{FileVersion, TtlEntry};
+use file_version::FileVersion;
+use ledger_types::TtlEntry;
 use std::alloc::Global;
 use value_types::Blob;
 use value_xdr::Xdr;

@@ -5,11 +5,11 @@ use Rattle.xdr_spec.specs.Laws.{IsFormat}
 use Rattle.xdr_spec.proofs.Pairs.{pair_lawful, nothing_lawful}
 use Rattle.xdr_spec.proofs.Remade.{via_lawful}
 use Rattle.xdr_spec.proofs.Derived.{list_lawful, union_lawful, find_kind-back}
-use Rattle.ledger_types.specs.FileVersion.{number, all, version_of, small, there}
+use Rattle.file_version.specs.FileVersion.{number, all, version_of, small, there}
 use Rattle.ledger_types.specs.Header.{header_in, header_in_lawful}
 use Rattle.ledger_types.specs.Record.{record_format, record_lawful}
-use Rattle.ledger_types.specs.declared.version.FileVersion.{FileVersion}
-use Rattle.ledger_types.specs.declared.version.FileVersion.TheVariants.{V2}
+use Rattle.file_version.specs.declared.version.FileVersion.{FileVersion}
+use Rattle.file_version.specs.declared.version.FileVersion.TheVariants.{V2}
 use Rattle.ledger_types.specs.declared.header.Header.{Header}
 use Rattle.ledger_types.specs.declared.record.LedgerRecord.{LedgerRecord}
 use Rattle.ledger_types.specs.declared.file.LedgerFile.{LedgerFile}

@@ -8,10 +8,10 @@ use Rattle.xdr_spec.proofs.Derived.{number32_lawful, number64_lawful}
 use Rattle.value_types.specs.Hash.{hash_format, hash_lawful}
 use Rattle.value_types.specs.declared.hash.Hash.{Hash}
 use Rattle.budget_meter.specs.declared.terms.Terms.{Terms}
-use Rattle.ledger_types.specs.FileVersion.{protocol_format, protocol_lawful}
+use Rattle.file_version.specs.FileVersion.{protocol_format, protocol_lawful}
 use Rattle.ledger_types.specs.Terms.{terms_format, terms_lawful}
-use Rattle.ledger_types.specs.declared.version.FileVersion.{FileVersion}
-use Rattle.ledger_types.specs.declared.version.FileVersion.TheVariants.{V2}
+use Rattle.file_version.specs.declared.version.FileVersion.{FileVersion}
+use Rattle.file_version.specs.declared.version.FileVersion.TheVariants.{V2}
 use Rattle.ledger_types.specs.declared.header.Settings.{Settings}
 use Rattle.ledger_types.specs.declared.header.Header.{Header}
 

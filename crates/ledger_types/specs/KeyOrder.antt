@@ -1,4 +1,4 @@
--- The order of ledger keys (own): the order of their XDR bytes. Keys without XDR bytes, whose lengths are beyond their
+-- The order of ledger keys (own): the order of their XDR bytes. Keys without XDR bytes, whose lengths or depths are beyond their
 -- bounds, are ordered by the stand-ins of `Rattle.spelled_order.specs.Ranked`.
 use Rattle.std.specs.Prelude.{ℕ, List, [], ◌++◌}
 use Rattle.std.specs.Ordering.{nat_cmp, on}

@@ -8,7 +8,6 @@ pub mod ContractEntries
 pub mod Entry
 pub mod Record
 pub mod Terms
-pub mod FileVersion
 pub mod Header
 pub mod File
 pub mod Verdicts

@@ -1,4 +1,4 @@
--- The asset of a trust line: the number of a type, and then what that type wants (XDR file Stellar-ledger-entries,
+-- The asset of a trust line: the number of a type, and then its fields (XDR file Stellar-ledger-entries,
 -- `AssetType` and `TrustLineAsset`).
 use Rattle.std.specs.Prelude.{◌≡◌, ◌<◌, ◌^◌, List, [], ◌∷◌, ℕ, Option, Some, None}
 use Rattle.std.proofs.Common.{refl, ap, arith}

@@ -4,8 +4,8 @@ ghost use Rattle.xdr_core.specs.Reads.{Reads};
 ghost use Rattle.ledger_types.specs.File.{rest_format, file_format, file_lawful};
 
 use crate::header::{Header, header_size, read_header, write_header};
-use crate::record::LedgerRecord;
-use crate::version::FileVersion;
+use crate::record::BoxedRecord;
+use file_version::FileVersion;
 use std::alloc::Global;
 use value_types::Items;
 use value_xdr::Xdr;
@@ -16,7 +16,7 @@ use xdr_core::{Cursor, NoMemory, Out, ReadXdr, add_sizes};
 pub struct LedgerFile {
     pub version: FileVersion,
     pub header: Header,
-    pub records: Items<LedgerRecord, 4294967295>,
+    pub records: Items<BoxedRecord, 4294967295>,
 }
 
 /// Reads what follows the number of this version.
@@ -29,7 +29,7 @@ fn read_rest(
     ensures { Reads (rest_format version).read input.old input.new result }
 {
     let header = read_header(alloc, input, version)?;
-    let records = Items::<LedgerRecord, 4294967295>::read(alloc, input)?;
+    let records = Items::<BoxedRecord, 4294967295>::read(alloc, input)?;
     Ok(LedgerFile {
         version,
         header,
@@ -37,7 +37,7 @@ fn read_rest(
     })
 }
 
-#[tactic(auto, unfolding(crate::specs::File::file_format, crate::specs::File::rest_format, crate::specs::FileVersion::version_format, xdr_core::specs::Sizes::capped))]
+#[tactic(auto, unfolding(crate::specs::File::file_format, crate::specs::File::rest_format, file_version::specs::FileVersion::version_format, xdr_core::specs::Sizes::capped))]
 impl Xdr for LedgerFile {
     ghost format = { file_format };
 

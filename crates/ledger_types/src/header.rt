@@ -7,8 +7,8 @@ ghost use Rattle.xdr_core.specs.Writes.{StartsWith};
 ghost use Rattle.ledger_types.specs.Header.{settings_format, settings_lawful, header_in, header_format, header_lawful};
 
 use crate::terms::{TERMS_SIZE, read_terms, write_terms};
-use crate::version::{FileVersion, protocol_size, read_protocol, write_protocol};
 use budget_meter::Terms;
+use file_version::{FileVersion, protocol_size, read_protocol, write_protocol};
 use std::alloc::{AllocError, Global};
 use value_types::Hash;
 use value_xdr::Xdr;

@@ -8,6 +8,8 @@ ghost use Rattle.std.specs.Cmp.Lexicographic.{slice_cmp};
 ghost use Rattle.std.proofs.Common.{refl};
 ghost use Rattle.value_xdr.specs.Bytes.{word};
 ghost use Rattle.spelled_order.specs.Against.{Against};
+ghost use Rattle.spelled_order.specs.Ranked.{ranked_value};
+ghost use Rattle.ledger_types.specs.Durability.{durability_format};
 ghost use Rattle.ledger_types.specs.TrustLineAsset.{number as asset_number, kind as asset_kind};
 ghost use Rattle.ledger_types.specs.EntryType.{number};
 ghost use Rattle.ledger_types.specs.Key.{key_format, kind};
@@ -18,6 +20,7 @@ use crate::durability::Durability;
 use crate::key::LedgerKey;
 use spelled_order::{Ranked, cmp_text, cmp_value, cmp_word};
 use std::cmp::Ordering;
+use value_types::ScVal;
 
 impl Ranked for Durability {
     fn rank(&self, other: &Durability) -> Ordering {
@@ -82,6 +85,22 @@ impl Ranked for TrustLineAsset {
     }
 }
 
+/// Compares what follows the contract in two keys of contract data. The durabilities are not read if the values differ.
+#[tactic(auto, using(spelled_order::proofs::Deciding::both, spelled_order::proofs::Deciding::first))]
+fn cmp_data_rests(
+    key: &ScVal,
+    durability: &Durability,
+    other_key: &ScVal,
+    other_durability: &Durability,
+) -> Ordering
+    ensures { Against (ranked_value key.now ++ durability_format.spell durability.now) (ranked_value other_key.now ++ durability_format.spell other_durability.now) result }
+{
+    match cmp_value(key, other_key) {
+        Ordering::Equal => durability.rank(other_durability),
+        unequal => unequal,
+    }
+}
+
 /// Compares the bodies of two keys of one type. The other branches are never taken.
 #[tactic(auto, using(spelled_order::proofs::Deciding::both, spelled_order::proofs::Deciding::word_first))]
 fn cmp_rests(one: &LedgerKey, other: &LedgerKey) -> Ordering
@@ -131,9 +150,10 @@ fn cmp_rests(one: &LedgerKey, other: &LedgerKey) -> Ordering
                 contract: c,
                 key: k,
                 durability: d,
-            } => contract
-                .rank(c)
-                .then(cmp_value(key, k).then(durability.rank(d))),
+            } => match contract.rank(c) {
+                Ordering::Equal => cmp_data_rests(key, durability, k, d),
+                unequal => unequal,
+            },
             _ => Ordering::Equal,
         },
         LedgerKey::ContractCode(hash) => match other {

@@ -15,7 +15,6 @@ mod keys;
 mod record;
 mod terms;
 mod verdicts;
-mod version;
 
 pub use asset::{AssetCode4, AssetCode12, AssetType, TrustLineAsset};
 pub use contract_entries::{ContractCodeEntry, ContractDataEntry};
@@ -27,6 +26,5 @@ pub use header::{Header, Settings};
 pub use key::LedgerKey;
 pub use key_order::cmp_keys;
 pub use keys::{key_hash, key_of, write_key_of};
-pub use record::{LedgerRecord, TtlEntry};
+pub use record::{BoxedRecord, LedgerRecord, TtlEntry};
 pub use verdicts::{Verdict, Verdicts};
-pub use version::FileVersion;

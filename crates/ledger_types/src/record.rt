@@ -5,6 +5,7 @@ ghost use Rattle.ledger_types.specs.Record.{ttl_format, ttl_lawful, record_forma
 
 use crate::entry::LedgerEntry;
 use std::alloc::{AllocError, Global};
+use std::marker::Model;
 use value_types::Hash;
 use value_xdr::Xdr;
 use xdr_core::{Cursor, NoMemory, Out, ReadXdr, add_sizes};
@@ -93,6 +94,60 @@ impl Xdr for LedgerRecord {
 
     fn size(&self) -> u64 {
         add_sizes(self.entry.size(), self.ttl.size())
+    }
+
+    ghost lawful = { record_lawful };
+}
+
+/// A record on the heap. Contracts see the record.
+#[derive(Drop)]
+pub struct BoxedRecord {
+    record: Box<LedgerRecord>,
+}
+
+impl Model for BoxedRecord {
+    ghost use Rattle.ledger_types.specs.declared.record.LedgerRecord.{LedgerRecord};
+    ghost use Rattle.ledger_types.specs.contracts.record.LedgerRecord as record_row;
+
+    ghost Value = { LedgerRecord };
+
+    ghost coded = { record_row.the_row.coded };
+
+    ghost view = { λ b. b.record.value };
+}
+
+impl BoxedRecord {
+    /// Moves the record out of the heap. It takes no memory.
+    pub fn into_record(self) -> LedgerRecord
+        ensures { result ≡ self }
+    {
+        let BoxedRecord { record } = self;
+        Box::into_inner(record)
+    }
+
+    /// Returns the record.
+    pub fn record(&self) -> &LedgerRecord
+        ensures { result.now ≡ self.now }
+    {
+        &self.record
+    }
+}
+
+impl Xdr for BoxedRecord {
+    ghost format = { record_format };
+
+    fn read_parts(alloc: Global, input: &mut Cursor<'_>) -> Result<BoxedRecord, ReadXdr> {
+        let record = LedgerRecord::read(alloc, input)?;
+        let record = Box::new(alloc, record)?;
+        Ok(BoxedRecord { record })
+    }
+
+    fn write_parts(&self, out: &mut Out) -> Result<(), NoMemory> {
+        self.record.write_parts(out)
+    }
+
+    fn size(&self) -> u64 {
+        self.record.size()
     }
 
     ghost lawful = { record_lawful };

@@ -12,7 +12,7 @@ ghost use Rattle.tx_apply.specs.Done.{done_of};
 
 use crate::transaction::run_transaction;
 use apply_spec::Extension;
-use contract_storage::Ground;
+use entry_lookup::Ground;
 use ledger_types::Header;
 use std::alloc::Global;
 use tx_results::{

@@ -7,7 +7,7 @@ ghost use Rattle.apply_spec.specs.Enforced.{has_life as has_life_in, may_extend 
 ghost use Rattle.ledger_spec.specs.Seen.{seen};
 
 use apply_spec::Extension;
-use contract_storage::Ground;
+use entry_lookup::Ground;
 use ledger_types::{LedgerKey, Settings};
 use std::alloc::Global;
 use xdr_core::NoMemory;

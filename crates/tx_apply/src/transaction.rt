@@ -13,7 +13,7 @@ use crate::checks::refusal_of;
 use crate::extend::{extensions, may_extend};
 use crate::footprint::{read_only_of, read_write_of};
 use apply_spec::Extension;
-use contract_storage::Ground;
+use entry_lookup::Ground;
 use ledger_types::Header;
 use std::alloc::Global;
 use tx_results::{ExtendResult, InnerResult, OperationResult, TransactionOutcome};

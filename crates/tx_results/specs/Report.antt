@@ -1,4 +1,4 @@
--- The report of a set (own): the results, and for each transaction what its call of a contract gave: a boolean that is 1
+-- The report of a set (own): the results, and for each transaction what its INVOKE_HOST_FUNCTION returned: a boolean that is 1
 -- exactly where the list has a success preimage, and then that.
 use Rattle.std.specs.Prelude.{◌≡◌, ℕ, Bool, true, false, List, ◌++◌, Option, map}
 use Rattle.std.specs.List.{flat_map, list_any}

@@ -24,7 +24,7 @@ pub fn write_results(alloc: Global, results: &ResultSet) -> Result<Blob, NoMemor
     Ok(Blob::from_vec(out.into_vec()))
 }
 
-/// The report (own): the results, and for each transaction its success preimage if it called a contract with success.
+/// Writes the report (own): the results, and for each transaction its success preimage if its INVOKE_HOST_FUNCTION succeeded.
 pub fn write_report(
     alloc: Global,
     results: &ResultSet,

@@ -34,7 +34,7 @@ IsValueUnlessMemory v (Ok w) = w ≡ v
 IsValueUnlessMemory v (Err (Bad e)) = ⊥
 IsValueUnlessMemory v (Err NoMemory) = Unit {0}
 
--- the error names the place and the reason of the refusal, unless memory ran out
+-- the error has the offset and the reason of the refusal, unless memory ran out
 abbrev pub IsRefusal : {V : Type 0} → Format V → List ℕ → ReadXdr → Type 0
 IsRefusal F bytes (Bad e) = Refuses F bytes e.at e.why
 IsRefusal F bytes NoMemory = Unit {0}
