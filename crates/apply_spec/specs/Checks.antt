@@ -1,7 +1,6 @@
--- The keys that a transaction declares, and its checks before it runs (own, after CAP-0021, CAP-0046-05 and CAP-0063).
+-- The checks of a transaction before it runs (own, after CAP-0021, CAP-0046-05 and CAP-0063).
 use Rattle.std.specs.Prelude.{ℕ, ◌+◌, ◌==◌, Bool, true, false, not, ◌||◌, ◌&&◌, List, [], ◌∷◌, ◌++◌, length, Option, Some, None, nat_lt, nat_le, if◌then◌else◌}
-use Rattle.std.specs.List.{list_any, list_all}
-use Rattle.std.specs.Str.{bytes_eq}
+use Rattle.std.specs.List.{list_all}
 use Rattle.ledger_types.specs.declared.key.LedgerKey.{LedgerKey}
 use Rattle.ledger_types.specs.declared.key.LedgerKey.TheVariants.{Account, Trustline, Offer, Data, ClaimableBalance, LiquidityPool, ContractData, ContractCode, Ttl}
 use Rattle.ledger_types.specs.declared.header.Header.{Header}
@@ -15,18 +14,14 @@ use Rattle.tx_xdr.specs.declared.transaction.TransactionExt.{TransactionExt}
 use Rattle.tx_xdr.specs.declared.transaction.TransactionExt.TheVariants as exts
 use Rattle.tx_results.specs.declared.results.TransactionOutcome.{TransactionOutcome}
 use Rattle.tx_results.specs.declared.results.TransactionOutcome.TheVariants.{TooEarly, TooLate, MissingOperation, Malformed, SorobanInvalid}
-use Rattle.ledger_spec.specs.LedgerMap.{key_bytes}
+use Rattle.stage_runs.specs.Transactions.{footprint_in}
+use Rattle.stage_runs.specs.Whole.{has_twice}
 
 -- the ledger that is being made
 abbrev pub next_seq : Header → ℕ
 next_seq header = header.seq + 1
 
 -- ---- footprints
-
--- the footprint; a transaction with ext 0 declares nothing
-abbrev pub footprint_in : TransactionExt → Footprint
-footprint_in exts.None = record { read_only = []; read_write = [] }
-footprint_in (exts.Soroban soroban) = soroban.footprint
 
 -- the transaction has Soroban data, which is ext 1
 abbrev pub is_soroban : TransactionExt → Bool
@@ -36,23 +31,6 @@ is_soroban (exts.Soroban soroban) = true
 -- the footprint of a transaction
 abbrev pub footprint_of : Transaction → Footprint
 footprint_of tx = footprint_in tx.ext
-
--- two keys are equal if their XDR bytes are
-abbrev pub is_key : LedgerKey → LedgerKey → Bool
-is_key a b = bytes_eq (key_bytes a) (key_bytes b)
-
--- the list has this key
-abbrev pub has_key : List LedgerKey → LedgerKey → Bool
-has_key keys key = list_any (is_key key) keys
-
--- the transaction declares the key read-write
-abbrev pub declares_write : Transaction → LedgerKey → Bool
-declares_write tx key = has_key (footprint_of tx).read_write key
-
--- a key occurs twice in the list
-abbrev pub has_twice : List LedgerKey → Bool
-has_twice [] = false
-has_twice (key ∷ keys) = has_key keys key || has_twice keys
 
 -- only accounts, trust lines, contract data and contract code may be declared
 abbrev pub may_be_declared : LedgerKey → Bool

@@ -1,14 +1,14 @@
--- The outcome and the effect of one transaction or fee bump over a map of all entries (own, after CAP-0015, CAP-0046-05 and
--- CAP-0046-12).
-use Rattle.std.specs.Prelude.{ℕ, pos, ◌+◌, Bool, true, false, ◌&&◌, List, [], ◌∷◌, Option, Some, None, length, nat_lt, ◌==◌, if◌then◌else◌}
-use Rattle.std.specs.List.{list_all, filter_map}
+-- The results of transactions and fee bumps, their runs over a map of all entries, and what these runs may leave there (own,
+-- after CAP-0015, CAP-0046-05 and CAP-0046-12).
+use Rattle.std.specs.Prelude.{ℕ, pos, ◌+◌, Bool, true, false, ◌&&◌, List, [], ◌∷◌, Option, None, length, nat_lt, ◌==◌, if◌then◌else◌}
+use Rattle.std.specs.List.{list_all, fold}
+use Rattle.std.specs.Option.{option_map}
 use Rattle.value_types.specs.declared.hash.Hash.{Hash}
 use Rattle.ledger_types.specs.declared.key.LedgerKey.{LedgerKey}
 use Rattle.ledger_types.specs.declared.key.LedgerKey.TheVariants.{Account, Trustline, Offer, Data, ClaimableBalance, LiquidityPool, ContractData, ContractCode, Ttl}
 use Rattle.ledger_types.specs.declared.header.Header.{Header}
 use Rattle.ledger_types.specs.declared.header.Settings.{Settings}
-use Rattle.tx_xdr.specs.SetBounds.{today, takes_operation}
-use Rattle.tx_xdr.specs.Operation.{kind}
+use Rattle.ledger_types.specs.declared.verdicts.Verdicts.{Verdicts}
 use Rattle.tx_xdr.specs.declared.transaction.Footprint.{Footprint}
 use Rattle.tx_xdr.specs.declared.transaction.Operation.{Operation}
 use Rattle.tx_xdr.specs.declared.transaction.OperationBody.{OperationBody}
@@ -17,28 +17,75 @@ use Rattle.tx_xdr.specs.declared.transaction.Transaction.{Transaction}
 use Rattle.tx_xdr.specs.declared.envelope.Envelope.{Envelope}
 use Rattle.tx_xdr.specs.declared.envelope.Envelope.TheVariants as envelopes
 use Rattle.tx_xdr.specs.Envelope.{transaction_in}
-use Rattle.tx_xdr.specs.Hashes.{transaction_hash}
+use Rattle.tx_xdr.specs.Hashes.{transaction_hash, envelope_hash}
 use Rattle.tx_results.specs.declared.codes.ExtendResult.TheVariants as extends
 use Rattle.tx_results.specs.declared.operation.InnerResult.TheVariants.{Extend}
+use Rattle.tx_results.specs.declared.operation.OperationResult.{OperationResult}
 use Rattle.tx_results.specs.declared.operation.OperationResult.TheVariants.{Inner, NotSupported}
 use Rattle.tx_results.specs.declared.results.TransactionOutcome.{TransactionOutcome}
 use Rattle.tx_results.specs.declared.results.TransactionOutcome.TheVariants.{Success, Failed, TooEarly, TooLate, MissingOperation, Malformed, SorobanInvalid}
 use Rattle.tx_results.specs.declared.results.InnerTransactionResultPair.{InnerTransactionResultPair}
+use Rattle.tx_results.specs.declared.results.TransactionResultPair.{TransactionResultPair}
 use Rattle.tx_results.specs.declared.results.EnvelopeOutcome.{EnvelopeOutcome}
 use Rattle.tx_results.specs.declared.results.EnvelopeOutcome.TheVariants as outcomes
 use Rattle.ledger_spec.specs.LedgerMap.{LedgerMap}
+use Rattle.ledger_spec.specs.Changes.{raise}
 use Rattle.ledger_spec.specs.Seen.{Seen, live, absent, archived, seen}
-use Rattle.apply_spec.specs.declared.Extension.{Extension}
+use Rattle.stage_runs.specs.Transactions.{Step}
+use Rattle.stage_runs.specs.Whole as runs
 use Rattle.apply_spec.specs.Checks.{footprint_of, next_seq, refusal_of}
 
--- the outcome of a transaction, and the extensions, which are pending until they are put in
-pub record EnforcedTransaction : Type 0 where
-  pub outcome : TransactionOutcome
-  pub extensions : List Extension
+-- ---- results
 
--- an outcome without extensions
-abbrev pub without_effect : TransactionOutcome → EnforcedTransaction
-without_effect outcome = record { outcome = outcome; extensions = [] }
+-- the result code of a transaction is txSUCCESS
+abbrev pub is_success : TransactionOutcome → Bool
+is_success (Success results) = true
+is_success (Failed results) = false
+is_success TooEarly = false
+is_success TooLate = false
+is_success MissingOperation = false
+is_success Malformed = false
+is_success SorobanInvalid = false
+
+-- the hash of a fee bump's inner transaction, with its outcome; it pays no fee itself
+abbrev pub inner_pair : Hash → Transaction → TransactionOutcome → InnerTransactionResultPair
+inner_pair network tx outcome = record {
+  hash = transaction_hash network tx;
+  result = record { fee_charged = pos 0; outcome = outcome };
+}
+
+-- the result code of a fee bump says whether that of its inner transaction is txSUCCESS
+abbrev pub fee_bump_outcome : TransactionOutcome → InnerTransactionResultPair → EnvelopeOutcome
+fee_bump_outcome outcome inner =
+    if is_success outcome then outcomes.FeeBumpInnerSuccess inner else outcomes.FeeBumpInnerFailed inner
+
+-- the outcome of an envelope by that of its transaction
+abbrev pub envelope_outcome : Hash → Envelope → TransactionOutcome → EnvelopeOutcome
+envelope_outcome network (envelopes.Transaction signed) outcome = outcomes.Transaction outcome
+envelope_outcome network (envelopes.FeeBump signed) outcome =
+    fee_bump_outcome outcome (inner_pair network signed.fee_bump.inner.tx outcome)
+
+-- the envelope's hash with its outcome; no fee is charged
+abbrev pub result_pair : Hash → Envelope → TransactionOutcome → TransactionResultPair
+result_pair network envelope outcome = record {
+  hash = envelope_hash network envelope;
+  result = record { fee_charged = pos 0; outcome = envelope_outcome network envelope outcome };
+}
+
+-- the result of an envelope whose transaction fails its checks
+abbrev pub refusal : Header → Envelope → Option TransactionResultPair
+refusal header envelope = option_map (result_pair header.network_id envelope) (refusal_of header (transaction_in envelope))
+
+-- ---- the run of an operation over the whole map
+
+-- the outcome of a transaction, and the map then
+pub record Performed : Type 0 where
+  pub outcome : TransactionOutcome
+  pub entries : LedgerMap
+
+-- an operation that failed, and left the map as it was
+abbrev pub failed : LedgerMap → OperationResult → Performed
+failed entries only = record { outcome = Failed (only ∷ []); entries = entries }
 
 -- ---- EXTEND_FOOTPRINT_TTL
 
@@ -59,91 +106,58 @@ abbrev pub may_extend : Settings → Footprint → ℕ → Bool
 may_extend settings footprint extend_to =
     (length footprint.read_write == 0) && list_all has_life footprint.read_only && nat_lt extend_to settings.max_entry_ttl
 
--- a live entry that expires before this ledger is to live until it
-abbrev pub extension_seen : Seen → LedgerKey → ℕ → Option Extension
-extension_seen (live kept) key until =
-    if nat_lt kept.live_until until then Some (record { key = key; live_until = until }) else None
-extension_seen absent key until = None
-extension_seen archived key until = None
+-- an entry that is live, as an access sees it, lives until this ledger at least
+abbrev pub lengthened_seen : Seen → LedgerMap → LedgerKey → ℕ → LedgerMap
+lengthened_seen (live kept) entries key until = raise entries key until
+lengthened_seen absent entries key until = entries
+lengthened_seen archived entries key until = entries
 
--- the extensions of these keys, in their order
-abbrev pub extensions_of : ℕ → LedgerMap → List LedgerKey → ℕ → List Extension
-extensions_of n entries keys until = filter_map (λ key. extension_seen (seen n entries key) key until) keys
+-- an entry that is live in ledger n lives until this ledger at least
+abbrev pub lengthened : ℕ → ℕ → LedgerMap → LedgerKey → LedgerMap
+lengthened n until entries key = lengthened_seen (seen n entries key) entries key until
+
+-- the entries at these keys that are live in ledger n live until this ledger at least
+abbrev pub all_lengthened : ℕ → ℕ → LedgerMap → List LedgerKey → LedgerMap
+all_lengthened n until entries keys = fold (lengthened n until) entries keys
 
 -- EXTEND_FOOTPRINT_TTL
-abbrev pub extended : Header → LedgerMap → Footprint → ℕ → EnforcedTransaction
+abbrev pub extended : Header → LedgerMap → Footprint → ℕ → Performed
 extended header entries footprint extend_to =
     if may_extend header.settings footprint extend_to then record {
       outcome = Success (Inner (Extend extends.Success) ∷ []);
-      extensions = extensions_of (next_seq header) entries footprint.read_only (next_seq header + extend_to);
+      entries = all_lengthened (next_seq header) (next_seq header + extend_to) entries footprint.read_only;
     }
-    else without_effect (Failed (Inner (Extend extends.Malformed) ∷ []))
+    else failed entries (Inner (Extend extends.Malformed))
 
--- ---- any transaction
+-- ---- the run of a transaction, and its effect
 
--- the transaction has only operations that sets may have today
-abbrev pub runs_today : Transaction → Bool
-runs_today tx = list_all (λ operation. takes_operation today (kind operation.body)) tx.operations
-
--- The only operation. Sets with host functions do not run today, so no run reaches the row of InvokeHostFunction.
-abbrev pub performed : Header → LedgerMap → Transaction → OperationBody → EnforcedTransaction
+-- The only operation. Calls of host functions are not supported yet.
+abbrev pub performed : Header → LedgerMap → Transaction → OperationBody → Performed
 performed header entries tx (ExtendFootprintTtl extend_to) = extended header entries (footprint_of tx) extend_to
-performed header entries tx RestoreFootprint = without_effect (Failed (NotSupported ∷ []))
-performed header entries tx (InvokeHostFunction host_function auth) = without_effect (Failed (NotSupported ∷ []))
+performed header entries tx RestoreFootprint = failed entries NotSupported
+performed header entries tx (InvokeHostFunction host_function auth) = failed entries NotSupported
 
 -- the first operation; the checks reject a transaction without one
-abbrev pub first_performed : Header → LedgerMap → Transaction → List Operation → EnforcedTransaction
-first_performed header entries tx [] = without_effect MissingOperation
+abbrev pub first_performed : Header → LedgerMap → Transaction → List Operation → Performed
+first_performed header entries tx [] = record { outcome = MissingOperation; entries = entries }
 first_performed header entries tx (operation ∷ rest) = performed header entries tx operation.body
 
--- a transaction that fails a check has no effect
-abbrev pub unless_refused : Option TransactionOutcome → EnforcedTransaction → EnforcedTransaction
-unless_refused (Some outcome) done = without_effect outcome
-unless_refused None done = done
-
--- the checks come first, then the operation
-abbrev pub enforced_transaction : Header → LedgerMap → Transaction → EnforcedTransaction
-enforced_transaction header entries tx = unless_refused (refusal_of header tx) (first_performed header entries tx tx.operations)
-
--- ---- any envelope
-
--- the outcome of an envelope, and the extensions
-pub record Enforced : Type 0 where
-  pub outcome : EnvelopeOutcome
-  pub extensions : List Extension
-
--- the hash of a fee bump's inner transaction, with its outcome; it pays no fee itself
-abbrev pub inner_pair : Hash → Transaction → TransactionOutcome → InnerTransactionResultPair
-inner_pair network tx outcome = record {
-  hash = transaction_hash network tx;
-  result = record { fee_charged = pos 0; outcome = outcome };
+-- the run of an envelope, by that of its transaction: no operation returns a value or is metered yet
+abbrev pub judged : Header → Envelope → Performed → runs.JudgedRun
+judged header envelope done = record {
+  succeeded = is_success done.outcome;
+  result = result_pair header.network_id envelope done.outcome;
+  success = None;
+  entries = done.entries;
+  used = runs.nothing_used;
 }
 
--- the result code of a transaction is txSUCCESS
-abbrev pub is_success : TransactionOutcome → Bool
-is_success (Success results) = true
-is_success (Failed results) = false
-is_success TooEarly = false
-is_success TooLate = false
-is_success MissingOperation = false
-is_success Malformed = false
-is_success SorobanInvalid = false
+-- The run of an envelope over the whole map. A fee bump's inner transaction runs as if alone. Fees are not judged. No
+-- operation asks for a verdict yet.
+abbrev pub whole : Header → Verdicts → runs.JudgedStep
+whole header verdicts entries envelope =
+    judged header envelope (first_performed header entries (transaction_in envelope) (transaction_in envelope).operations)
 
--- the result code of a fee bump says whether that of its inner transaction is txSUCCESS
-abbrev pub fee_bump_outcome : TransactionOutcome → InnerTransactionResultPair → EnvelopeOutcome
-fee_bump_outcome outcome inner =
-    if is_success outcome then outcomes.FeeBumpInnerSuccess inner else outcomes.FeeBumpInnerFailed inner
-
--- the outcome of an envelope by that of its transaction
-abbrev pub envelope_outcome : Hash → Envelope → TransactionOutcome → EnvelopeOutcome
-envelope_outcome network (envelopes.Transaction signed) outcome = outcomes.Transaction outcome
-envelope_outcome network (envelopes.FeeBump signed) outcome =
-    fee_bump_outcome outcome (inner_pair network signed.fee_bump.inner.tx outcome)
-
--- the same effect, with the outcome of the envelope
-abbrev pub enforced_as : Header → Envelope → EnforcedTransaction → Enforced
-enforced_as header envelope done = record { outcome = envelope_outcome header.network_id envelope done.outcome; extensions = done.extensions }
-
--- A fee bump's inner transaction runs as if alone. Fees are not judged.
-abbrev pub enforced : Header → LedgerMap → Envelope → Enforced
-enforced header entries envelope = enforced_as header envelope (enforced_transaction header entries (transaction_in envelope))
+-- The effect of an envelope: of one that fails its checks its result alone, else what its run may leave at its declared keys.
+abbrev pub enforced : Header → Verdicts → Step
+enforced header verdicts = runs.enforced (whole header verdicts) (refusal header)

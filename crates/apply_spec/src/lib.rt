@@ -1,12 +1,14 @@
-//! What a transaction set does to a ledger: definitions over one map of all entries, which the transactions change one
-//! after the other.
+//! What a transaction does to a map of all entries, and what a transaction set does to a ledger: definitions and their laws.
 #![tactic(auto)]
 
-use ledger_types::LedgerKey;
+ghost use Rattle.apply_spec.specs.Laws.{FramedLaw, ExtensionLaw};
 
-/// An extension of an entry's life to at least this ledger.
-#[derive(Drop)]
-pub struct Extension {
-    pub key: LedgerKey,
-    pub live_until: u32,
-}
+/// The effect of a transaction depends on its declared keys alone, and is at those keys alone.
+pub fn step_is_framed()
+    ensures { FramedLaw }
+{}
+
+/// EXTEND_FOOTPRINT_TTL extends the live entries at read-only keys that expire before the requested ledger.
+pub fn extension_is_exact()
+    ensures { ExtensionLaw }
+{}

@@ -3,9 +3,13 @@
 use crate::words::word;
 use case_text::CaseErr;
 use edge_io::Word;
+use sha2::{Digest, Sha256};
 use soroban_top::Status;
 use std::alloc::Global;
 use std::fmt::Write;
+
+/// The length of a stored file up to which its bytes are shown.
+const LONGEST_SHOWN: usize = 4096;
 
 /// The line of the status, which goes on with the first line that was said, and the other lines.
 pub fn outcome(alloc: Global, status: &Status, said: &[u8]) -> Result<String, CaseErr> {
@@ -61,6 +65,11 @@ pub fn push_stored(
     }
     let name = name.as_str();
     match after {
+        Some(bytes) if bytes.len() > LONGEST_SHOWN => {
+            let length = bytes.len();
+            let hash = hex::encode(alloc, &Sha256::digest(bytes))?;
+            writeln!(text, "stores {name} {length} bytes, SHA-256 {hash}")?;
+        }
         Some(bytes) => {
             let digits = hex::encode(alloc, bytes)?;
             writeln!(text, "stores {name} {digits}")?;

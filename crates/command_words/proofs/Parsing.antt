@@ -1,17 +1,17 @@
 -- From what clap says to the words' meaning.
-use Rattle.std.proofs.Common.{◌≡◌, ◌⊎◌, List, [], ◌∷◌, true, false, Err, map, refl, sym, ap, ap₂, ◌∙◌, inl, inr}
-use Rattle.clap.specs.Faults.{fault_of, is_simple_and_free}
+use Rattle.std.proofs.Common.{◌≡◌, ◌⊎◌, ◌&&◌, Bool, List, [], ◌∷◌, true, false, Err, map, refl, sym, ap, ap₂, ◌∙◌, inl, inr}
+use Rattle.clap.specs.Faults.{fault_of, is_free_app, is_simple_and_free}
 use Rattle.clap.specs.Kinds.{Kinds, HasKind, IsAmong}
 use Rattle.clap.specs.declared.error.Error.{Error}
 use Rattle.clap.specs.declared.parser.matches.ArgMatches.{ArgMatches}
-use Rattle.clap.specs.Simple.{App, HasMatchesOf, is_simple, subcommand_of, subcommand_rows_of}
+use Rattle.clap.specs.Simple.{App, HasMatchesOf, built, is_simple, subcommand_of, subcommand_rows_of}
 use Rattle.clap.specs.declared.error.kind.ErrorKind.{ErrorKind}
 use Rattle.clap.specs.declared.error.kind.ErrorKind.TheVariants.{OutOfMemory}
 use Rattle.clap.proofs.OnLiterals.{clap_on_literals}
 use Rattle.command_words.specs.Answers.{IsRefusal, ReadsWords}
 use Rattle.command_words.specs.declared.error.WordsErr.{WordsErr}
 use Rattle.command_words.specs.declared.error.WordsErr.TheVariants.{Usage, NoMemory}
-use Rattle.command_words.specs.Commands.{apply_app, migrate_app, show_app, soroban_app, vet_app}
+use Rattle.command_words.specs.Commands.{apply_app, gen_app, migrate_app, show_app, soroban_app, vet_app}
 use Rattle.command_words.specs.Words.{are_right, asked_of, asked_from}
 use Rattle.clap.specs.Matches.{first_value}
 use Rattle.clap.specs.Walk.{Text, first_of, rows_of}
@@ -29,12 +29,15 @@ first_of_rows f id = sym (first_value-rows f id)
 
 -- what clap's definitions need of the program
 simple_and_free : is_simple_and_free soroban_app ≡ true
-unfolding soroban_app apply_app show_app vet_app migrate_app clap_on_literals
+unfolding soroban_app apply_app show_app vet_app migrate_app gen_app clap_on_literals
 simple_and_free = refl
 
+first_of_both : (a b : Bool) → (a && b) ≡ true → a ≡ true
+first_of_both true b h = refl
+first_of_both false b h = h
+
 simple : is_simple soroban_app ≡ true
-unfolding soroban_app apply_app show_app vet_app migrate_app clap_on_literals
-simple = refl
+simple = first_of_both (is_simple soroban_app) (is_free_app (built soroban_app)) simple_and_free
 
 -- where clap has matches, the words ask for what is in them
 pub asked_at_ok : (app : App) (words read : List Text) (m : ArgMatches) → app ≡ soroban_app → read ≡ words → (is_simple_and_free app ≡ true → fault_of app read ≡ []) → HasMatchesOf app read m

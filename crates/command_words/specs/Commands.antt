@@ -34,10 +34,14 @@ vet_app = with_option (codes "module") (new_app (codes "vet"))
 unfoldable pub migrate_app : App
 migrate_app = with_option (codes "ledger-out") (with_option (codes "ledger") (new_app (codes "migrate")))
 
+-- gen --count COUNT --seed SEED --set FILE --ledger FILE --verdicts FILE
+unfoldable pub gen_app : App
+gen_app = with_option (codes "verdicts") (with_option (codes "ledger") (with_option (codes "set") (with_option (codes "seed") (with_option (codes "count") (new_app (codes "gen"))))))
+
 -- the program before it has commands: without help, and without its own name among the words
 abbrev pub bare_app : App
 bare_app = on_top (λ s. record s { no_binary_name = true; disable_help_flag = true; disable_help_subcommand = true; subcommand_required = true }) (new_app (codes "soroban"))
 
 -- the program with its commands
 unfoldable pub soroban_app : App
-soroban_app = with_subcommand (with_subcommand (with_subcommand (with_subcommand bare_app apply_app.top) show_app.top) vet_app.top) migrate_app.top
+soroban_app = with_subcommand (with_subcommand (with_subcommand (with_subcommand (with_subcommand bare_app apply_app.top) show_app.top) vet_app.top) migrate_app.top) gen_app.top

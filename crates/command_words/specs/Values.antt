@@ -20,13 +20,17 @@ abbrev pub number_in : ℕ → ℕ → Text → Option ℕ
 number_in least most text =
     if is_number text && (nat_le least (digits_value 10 text) && nat_le (digits_value 10 text) most) then Some (digits_value 10 text) else None
 
--- seconds, of 64 bits
-abbrev pub close_time_in : Text → Option ℕ
-close_time_in = number_in 0 (2 ^ 64 - 1)
+-- any number of 64 bits, as a time in seconds or a seed
+abbrev pub number64_in : Text → Option ℕ
+number64_in = number_in 0 (2 ^ 64 - 1)
 
 -- from 1 to 64
 abbrev pub workers_in : Text → Option ℕ
 workers_in = number_in 1 64
+
+-- from 1 to 100,000
+abbrev pub count_in : Text → Option ℕ
+count_in = number_in 1 100000
 
 -- one of four words
 abbrev pub kind_in : Text → Option ShowKind

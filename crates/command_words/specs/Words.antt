@@ -1,14 +1,14 @@
 -- The words of a command line, as clap reads them (own).
-use Rattle.std.specs.Prelude.{Bool, true, false, List, [], ◌∷◌, Option, Some, None, if◌then◌else◌, codes, option_and_then}
+use Rattle.std.specs.Prelude.{◌≤◌, ⊤, Bool, true, false, List, [], ◌∷◌, Option, Some, None, if◌then◌else◌, codes, option_and_then}
 use Rattle.std.specs.Str.{bytes_eq}
 use Rattle.clap.specs.Faults.{fault_of}
 use Rattle.clap.specs.Kinds.{Kinds}
 use Rattle.clap.specs.Simple.{subcommand_of}
 use Rattle.clap.specs.Walk.{Row, Text, first_of}
 use Rattle.command_words.specs.Commands.{soroban_app}
-use Rattle.command_words.specs.Values.{are_names, close_time_in, is_set, kind_in, workers_in}
+use Rattle.command_words.specs.Values.{are_names, count_in, is_set, kind_in, number64_in, workers_in}
 use Rattle.command_words.specs.declared.request.Request.{Request}
-use Rattle.command_words.specs.declared.request.Request.TheVariants.{Apply, Show, Vet, Migrate}
+use Rattle.command_words.specs.declared.request.Request.TheVariants.{Apply, Show, Vet, Migrate, Gen}
 
 infixl 10 ◌>>=◌
 abbrev ◌>>=◌ : {A B : Type 0} → Option A → (A → Option B) → Option B
@@ -29,7 +29,7 @@ apply_from rows = do
   set ← first_of (codes "set") rows
   ledger ← first_of (codes "ledger") rows
   verdicts ← first_of (codes "verdicts") rows
-  close_time ← option_and_then close_time_in (first_of (codes "close-time") rows)
+  close_time ← option_and_then number64_in (first_of (codes "close-time") rows)
   workers ← option_and_then workers_in (first_of (codes "workers") rows)
   report ← first_of (codes "report") rows
   ledger_out ← first_of (codes "ledger-out") rows
@@ -68,13 +68,31 @@ migrate_from rows = do
   _ ← guard (are_names (ledger ∷ ledger_out ∷ []))
   Some (Migrate (record { ledger = ledger; ledger_out = ledger_out }))
 
+-- gen, with the values of its options
+abbrev pub gen_from : List Row → Option Request
+gen_from rows = do
+  count ← option_and_then count_in (first_of (codes "count") rows)
+  seed ← option_and_then number64_in (first_of (codes "seed") rows)
+  set ← first_of (codes "set") rows
+  ledger ← first_of (codes "ledger") rows
+  verdicts ← first_of (codes "verdicts") rows
+  _ ← guard (are_names (set ∷ ledger ∷ verdicts ∷ []))
+  Some (Gen (record { count = count; seed = seed; set = set; ledger = ledger; verdicts = verdicts }))
+
+-- the numbers of a request are in their ranges
+abbrev pub IsInRange : Request → Type 0
+IsInRange (Apply a) = (1 ≤ a.workers) × (a.workers ≤ 64)
+IsInRange (Gen g) = (1 ≤ g.count) × (g.count ≤ 100000)
+IsInRange _ = ⊤
+
 -- the command of a subcommand's matches
 abbrev pub asked_from : Option (Text × List Row) → Option Request
 asked_from None = None
 asked_from (Some found) = if bytes_eq found.0 (codes "apply") then apply_from found.1
     else (if bytes_eq found.0 (codes "show") then show_from found.1
     else (if bytes_eq found.0 (codes "vet") then vet_from found.1
-    else (if bytes_eq found.0 (codes "migrate") then migrate_from found.1 else None)))
+    else (if bytes_eq found.0 (codes "migrate") then migrate_from found.1
+    else (if bytes_eq found.0 (codes "gen") then gen_from found.1 else None))))
 
 -- clap finds no fault
 abbrev pub are_right : Kinds → Bool

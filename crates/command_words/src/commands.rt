@@ -4,7 +4,7 @@ ghost use Rattle.std.specs.Prelude.{◌≡◌, false, IfOk};
 ghost use Rattle.clap.specs.Simple.{app_of, new_app, with_rule, with_subcommand};
 ghost use Rattle.clap.specs.Walk.{rule_of};
 ghost use Rattle.clap.specs.declared.builder.command.Command.TheViews.{out-Command as fields_of};
-ghost use Rattle.command_words.specs.Commands.{apply_app, bare_app, flag_rule, migrate_app, option_rule, show_app, soroban_app, vet_app, with_flag, with_option};
+ghost use Rattle.command_words.specs.Commands.{apply_app, bare_app, flag_rule, gen_app, migrate_app, option_rule, show_app, soroban_app, vet_app, with_flag, with_option};
 
 use clap::{Arg, ArgAction, Command};
 use std::alloc::{AllocError, Global};
@@ -17,6 +17,7 @@ pub fn soroban_command<'a>(alloc: Global) -> Result<Command<'a>, AllocError>
     let command = with_command(command, show_command(alloc)?)?;
     let command = with_command(command, vet_command(alloc)?)?;
     let command = with_command(command, migrate_command(alloc)?)?;
+    let command = with_command(command, gen_command(alloc)?)?;
     Ok(command)
 }
 
@@ -69,6 +70,17 @@ fn migrate_command<'a>(alloc: Global) -> Result<Command<'a>, AllocError>
 {
     let command = with_option(Command::new(alloc, "migrate"), alloc, "ledger")?;
     with_option(command, alloc, "ledger-out")
+}
+
+#[tactic(auto, unfolding(crate::specs::Commands::gen_app))]
+fn gen_command<'a>(alloc: Global) -> Result<Command<'a>, AllocError>
+    ensures app { IfOk result (λ c. app_of c ≡ gen_app) }
+    ensures local { IfOk result (λ c. (fields_of c).has_globals ≡ false) }
+{
+    let command = Command::new(alloc, "gen");
+    let command = with_options(command, alloc, "count", "seed", "set")?;
+    let command = with_option(command, alloc, "ledger")?;
+    with_option(command, alloc, "verdicts")
 }
 
 fn with_command<'a>(

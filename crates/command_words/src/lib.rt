@@ -9,5 +9,7 @@ mod values;
 mod words;
 
 pub use error::WordsErr;
-pub use request::{ApplyRequest, MigrateRequest, Request, ShowKind, ShowRequest, VetRequest};
+pub use request::{
+    ApplyRequest, GenRequest, MigrateRequest, Request, ShowKind, ShowRequest, VetRequest,
+};
 pub use words::request_of;

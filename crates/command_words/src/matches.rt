@@ -1,24 +1,30 @@
 //! From clap's matches to a request.
 
-ghost use Rattle.std.specs.Prelude.{◌≡◌, option_and_then, option_map};
+ghost use Rattle.std.specs.Prelude.{◌≡◌, ◌≤◌, IfOk, option_and_then, option_map};
 ghost use Rattle.clap.specs.Matches.{found_of};
 ghost use Rattle.clap.specs.Simple.{subcommand_rows_of};
 ghost use Rattle.clap.specs.Walk.{first_of, rows_of};
 ghost use Rattle.command_words.specs.Answers.{ReadsWords};
 ghost use Rattle.command_words.specs.Values.{is_set, kind_in, number_in};
-ghost use Rattle.command_words.specs.Words.{apply_from, asked_from, migrate_from, show_from, vet_from};
+ghost use Rattle.command_words.specs.Words.{IsInRange, apply_from, asked_from, gen_from, migrate_from, show_from, vet_from};
 
 use crate::values::{are_names, kind_in, number_in};
-use crate::{ApplyRequest, MigrateRequest, Request, ShowKind, ShowRequest, VetRequest, WordsErr};
+use crate::{
+    ApplyRequest, GenRequest, MigrateRequest, Request, ShowKind, ShowRequest, VetRequest, WordsErr,
+};
 use clap::ArgMatches;
 use edge_io::Word;
 use std::alloc::Global;
 
 const MAX_WORKERS: u64 = 64;
 
+/// The largest number of transactions that `gen` makes.
+const MAX_COUNT: u64 = 100_000;
+
 /// The request of the command that clap found.
 pub fn request_from(alloc: Global, matches: &ArgMatches<'_>) -> Result<Request, WordsErr>
-    ensures { ReadsWords result (asked_from (subcommand_rows_of matches.now)) }
+    ensures request { ReadsWords result (asked_from (subcommand_rows_of matches.now)) }
+    ensures range { IfOk result IsInRange }
 {
     let Some((name, found)) = subcommand_in(matches) else {
         return Err(WordsErr::Usage);
@@ -28,6 +34,7 @@ pub fn request_from(alloc: Global, matches: &ArgMatches<'_>) -> Result<Request, 
         "show" => show_request(alloc, found),
         "vet" => vet_request(alloc, found),
         "migrate" => migrate_request(alloc, found),
+        "gen" => gen_request(alloc, found),
         _ => Err(WordsErr::Usage),
     }
 }
@@ -40,7 +47,8 @@ fn subcommand_in<'m, 'a>(matches: &'m ArgMatches<'a>) -> Option<(&'a str, &'m Ar
 }
 
 fn apply_request(alloc: Global, found: &ArgMatches<'_>) -> Result<Request, WordsErr>
-    ensures { ReadsWords result (apply_from (rows_of (found_of found.now))) }
+    ensures request { ReadsWords result (apply_from (rows_of (found_of found.now))) }
+    ensures range { IfOk result IsInRange }
 {
     let set = value_of(alloc, found, "set")?;
     let ledger = value_of(alloc, found, "ledger")?;
@@ -65,7 +73,8 @@ fn apply_request(alloc: Global, found: &ArgMatches<'_>) -> Result<Request, Words
 }
 
 fn show_request(alloc: Global, found: &ArgMatches<'_>) -> Result<Request, WordsErr>
-    ensures { ReadsWords result (show_from (rows_of (found_of found.now))) }
+    ensures request { ReadsWords result (show_from (rows_of (found_of found.now))) }
+    ensures range { IfOk result IsInRange }
 {
     let kind = kind_of(found, "kind")?;
     let file = value_of(alloc, found, "file")?;
@@ -80,7 +89,8 @@ fn show_request(alloc: Global, found: &ArgMatches<'_>) -> Result<Request, WordsE
 }
 
 fn vet_request(alloc: Global, found: &ArgMatches<'_>) -> Result<Request, WordsErr>
-    ensures { ReadsWords result (vet_from (rows_of (found_of found.now))) }
+    ensures request { ReadsWords result (vet_from (rows_of (found_of found.now))) }
+    ensures range { IfOk result IsInRange }
 {
     let module_file = value_of(alloc, found, "module")?;
     if !are_names(&[&module_file]) {
@@ -90,7 +100,8 @@ fn vet_request(alloc: Global, found: &ArgMatches<'_>) -> Result<Request, WordsEr
 }
 
 fn migrate_request(alloc: Global, found: &ArgMatches<'_>) -> Result<Request, WordsErr>
-    ensures { ReadsWords result (migrate_from (rows_of (found_of found.now))) }
+    ensures request { ReadsWords result (migrate_from (rows_of (found_of found.now))) }
+    ensures range { IfOk result IsInRange }
 {
     let ledger = value_of(alloc, found, "ledger")?;
     let ledger_out = value_of(alloc, found, "ledger-out")?;
@@ -98,6 +109,27 @@ fn migrate_request(alloc: Global, found: &ArgMatches<'_>) -> Result<Request, Wor
         return Err(WordsErr::Usage);
     }
     Ok(Request::Migrate(MigrateRequest { ledger, ledger_out }))
+}
+
+fn gen_request(alloc: Global, found: &ArgMatches<'_>) -> Result<Request, WordsErr>
+    ensures request { ReadsWords result (gen_from (rows_of (found_of found.now))) }
+    ensures range { IfOk result IsInRange }
+{
+    let count = number_of(found, "count", 1, MAX_COUNT)?;
+    let seed = number_of(found, "seed", 0, u64::MAX)?;
+    let set = value_of(alloc, found, "set")?;
+    let ledger = value_of(alloc, found, "ledger")?;
+    let verdicts = value_of(alloc, found, "verdicts")?;
+    if !are_names(&[&set, &ledger, &verdicts]) {
+        return Err(WordsErr::Usage);
+    }
+    Ok(Request::Gen(GenRequest {
+        count,
+        seed,
+        set,
+        ledger,
+        verdicts,
+    }))
 }
 
 /// The value of an option.
@@ -115,7 +147,8 @@ fn value_of(alloc: Global, found: &ArgMatches<'_>, id: &str) -> Result<Word, Wor
 /// The value of an option, as a number in this range.
 #[tactic(auto, using(crate::proofs::Parsing::first_of_rows))]
 fn number_of(found: &ArgMatches<'_>, id: &str, least: u64, most: u64) -> Result<u64, WordsErr>
-    ensures { ReadsWords result (option_and_then (number_in least most) (first_of id.now (rows_of (found_of found.now)))) }
+    ensures number { ReadsWords result (option_and_then (number_in least most) (first_of id.now (rows_of (found_of found.now)))) }
+    ensures range { IfOk result (λ n. (least ≤ n) × (n ≤ most)) }
 {
     let Some(text) = found.get_str(id) else {
         return Err(WordsErr::Usage);

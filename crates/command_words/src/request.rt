@@ -56,6 +56,21 @@ pub struct MigrateRequest {
     pub ledger_out: Word,
 }
 
+/// The options of `gen`.
+#[derive(Debug, Drop)]
+pub struct GenRequest {
+    /// The number of transactions, from 1 to 100,000.
+    pub count: u64,
+    /// The first draw of the generator's random numbers.
+    pub seed: u64,
+    /// The file that gets the transaction set.
+    pub set: Word,
+    /// The file that gets the ledger.
+    pub ledger: Word,
+    /// The file that gets the verdicts.
+    pub verdicts: Word,
+}
+
 /// A command, with its options.
 #[derive(Debug, Drop)]
 pub enum Request {
@@ -63,4 +78,5 @@ pub enum Request {
     Show(ShowRequest),
     Vet(VetRequest),
     Migrate(MigrateRequest),
+    Gen(GenRequest),
 }

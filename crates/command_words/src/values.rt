@@ -1,6 +1,6 @@
 //! The values of options.
 
-ghost use Rattle.std.specs.Prelude.{◌≡◌, ◌<◌, map};
+ghost use Rattle.std.specs.Prelude.{◌≡◌, ◌≤◌, IfSome, map};
 ghost use Rattle.std.specs.List.{list_any};
 ghost use Rattle.std.specs.Str.{bytes_eq};
 ghost use Rattle.command_words.specs.Values.{are_names, begins_with, kind_in, number_in};
@@ -10,7 +10,8 @@ use edge_io::Word;
 
 /// The number of one or more decimal digits, if it is in this range.
 pub fn number_in(text: &str, least: u64, most: u64) -> Option<u64>
-    ensures { result ≡ number_in least most text.now }
+    ensures number { result ≡ number_in least most text.now }
+    ensures range { IfSome result (λ n. (least ≤ n) × (n ≤ most)) }
 {
     // `parse` accepts a plus sign.
     if begins_with(text, b'+') {

@@ -1,7 +1,8 @@
 //! From the words to a request.
 
+ghost use Rattle.std.specs.Prelude.{IfOk};
 ghost use Rattle.command_words.specs.Answers.{IsRefusal, ReadsWords};
-ghost use Rattle.command_words.specs.Words.{asked_of};
+ghost use Rattle.command_words.specs.Words.{IsInRange, asked_of};
 
 use crate::commands::soroban_command;
 use crate::matches::request_from;
@@ -13,7 +14,8 @@ use std::alloc::Global;
 
 /// The request of the words after the program's name: one command, and its options in any order, each once.
 pub fn request_of(alloc: Global, words: &[Word]) -> Result<Request, WordsErr>
-    ensures { ReadsWords result (asked_of words.now) }
+    ensures request { ReadsWords result (asked_of words.now) }
+    ensures range { IfOk result IsInRange }
 {
     let command = soroban_command(alloc)?;
     match command.try_get_matches_from(words) {

@@ -5,21 +5,24 @@ ghost use Rattle.ledger_spec.specs.LedgerFile.{are_settings, has_next};
 ghost use Rattle.tx_results.specs.Results.{result_set_format};
 ghost use Rattle.invoke_types.specs.Success.{success_format};
 ghost use Rattle.xdr_spec.specs.Format.{optional};
-ghost use Rattle.tx_xdr.specs.SetBounds.{today};
 ghost use Rattle.tx_xdr.specs.Set.{set_format};
 
 use crate::errors::{made, spelled};
 use crate::hashes::hex_line;
 use case_text::{CaseErr, Fragments, first_word, number};
+use edge_io::OpenGate;
 use invoke_types::SuccessPreimage;
-use ledger_apply::{Applied, apply_set};
-use ledger_file::{Ledger, LedgerErr, read_ledger};
+use ledger_apply::{Applied, ApplyErr, apply_set};
+use ledger_file::{Ledger, LedgerErr, read_ledger, read_verdicts};
 use std::alloc::Global;
 use std::fmt::Write;
+use std::thread::Threads;
 use tx_results::{ResultSet, write_report, write_results};
-use tx_xdr::{TxSet, read_set_today};
+use tx_xdr::{TxSet, read_set};
 use value_xdr::decode;
-use xdr_core::NoMemory;
+
+/// A file of verdicts that has none.
+const NO_VERDICTS: [u8; 4] = [0; 4];
 
 /// What a row shows of an applied set.
 #[derive(Clone, Copy)]
@@ -31,16 +34,27 @@ enum Shown {
 }
 
 /// LEDGER SET CLOSE-TIME: the codes of the results, and the lives of the new ledger's entries.
-pub fn apply(alloc: Global, fragments: &Fragments, rest: &str) -> Result<String, CaseErr> {
-    applied(alloc, fragments, rest, Shown::Lives)
+pub fn apply<T: Threads + Sync>(
+    threads: &T,
+    alloc: Global,
+    fragments: &Fragments,
+    rest: &str,
+) -> Result<String, CaseErr> {
+    applied(threads, alloc, fragments, rest, Shown::Lives)
 }
 
 /// LEDGER SET CLOSE-TIME: the report's bytes.
-pub fn applied_report(alloc: Global, fragments: &Fragments, rest: &str) -> Result<String, CaseErr> {
-    applied(alloc, fragments, rest, Shown::Report)
+pub fn applied_report<T: Threads + Sync>(
+    threads: &T,
+    alloc: Global,
+    fragments: &Fragments,
+    rest: &str,
+) -> Result<String, CaseErr> {
+    applied(threads, alloc, fragments, rest, Shown::Report)
 }
 
-fn applied(
+fn applied<T: Threads + Sync>(
+    threads: &T,
     alloc: Global,
     fragments: &Fragments,
     rest: &str,
@@ -50,22 +64,26 @@ fn applied(
     let (set, close_time) = first_word(rest);
     let close_time = number(close_time)?;
     let ledger = fragments.bytes(alloc, ledger)?;
-    let set = read_set_today(alloc, &fragments.bytes(alloc, set)?);
-    let set = spelled(set, "a set that runs")?;
-    applied_line(alloc, &ledger, &set, close_time, shown)
+    let set = read_set(alloc, &fragments.bytes(alloc, set)?);
+    let set = spelled(set, "a set")?;
+    applied_line(threads, alloc, &ledger, &set, close_time, shown)
 }
 
-fn applied_line(
+fn applied_line<T: Threads + Sync>(
+    threads: &T,
     alloc: Global,
     ledger: &[u8],
     set: &TxSet,
     close_time: u64,
     shown: Shown,
 ) -> Result<String, CaseErr>
-    requires { (set_format today).fits set.now }
+    requires { set_format.fits set.now }
 {
     let ledger = ledger_that_goes_on(alloc, ledger)?;
-    match apply_set(alloc, ledger, set, close_time) {
+    let verdicts = spelled(read_verdicts(alloc, &NO_VERDICTS), "verdicts")?;
+    match apply_set(
+        threads, alloc, ledger, set, close_time, &verdicts, 1, &OpenGate,
+    ) {
         Ok(applied) => match shown {
             Shown::Lives => line_of(alloc, &applied),
             Shown::Report => {
@@ -73,7 +91,11 @@ fn applied_line(
                 report_line(alloc, &applied.results, successes)
             }
         },
-        Err(NoMemory) => Err(CaseErr::NoMemory),
+        Err(ApplyErr::Conflict { stage, found, .. }) => {
+            let (a, b) = (found.a, found.b);
+            Ok(format!(in alloc; "conflict of clusters {a} and {b} in stage {stage}\n")?)
+        }
+        Err(ApplyErr::NoMemory) => Err(CaseErr::NoMemory),
     }
 }
 

@@ -17,7 +17,7 @@ impl Judge for Kinds {
 
     fn outcome<R: Runtime + AllocGlobal + Threads + Sync>(
         &mut self,
-        _rt: &R,
+        rt: &R,
         alloc: Global,
         fragments: &Fragments,
         case: Case,
@@ -39,6 +39,8 @@ impl Judge for Kinds {
             "charges" => budgets::charges(alloc, fragments, case.words),
             "base64" => texts::base64(alloc, fragments, case.words),
             "pieces" => texts::pieces(alloc, fragments, case.words),
+            "apply" => applying::apply(rt, alloc, fragments, case.words),
+            "applied-report" => applying::applied_report(rt, alloc, fragments, case.words),
             _ => ledger(alloc, fragments, case),
         };
         Ok(Some(outcome?))
@@ -73,8 +75,6 @@ fn ledger(alloc: Global, fragments: &Fragments, case: Case) -> Result<String, Ca
         "written" => ledgers::written(alloc, fragments, case.words),
         "made" => ledgers::made_entry(alloc, fragments, case.words),
         "verdict" => ledgers::verdict(alloc, fragments, case.words),
-        "apply" => applying::apply(alloc, fragments, case.words),
-        "applied-report" => applying::applied_report(alloc, fragments, case.words),
         "report" => applying::report(alloc, fragments, case.words),
         _ => Err(CaseErr::Lacks("a kind of case")),
     }

@@ -11,10 +11,9 @@ use tx_parts::{DecoratedSignature, LedgerBounds, Memo, MuxedAccount, Preconditio
 use tx_results::ResultSet;
 use tx_xdr::{
     Cluster, Component, Envelope, Operation, OperationBody, Phase, Stage, Transaction, TxSet,
-    read_envelope, read_set, read_set_today,
+    read_envelope, read_set,
 };
 use value_types::{Items, ScVal, ScValType};
-use value_xdr::Xdr;
 
 /// The spelling of a type by its name.
 pub fn spelling_of(alloc: Global, name: &str, bytes: &[u8]) -> Result<Spelling, CaseErr> {
@@ -70,7 +69,6 @@ fn spelling_of_set(alloc: Global, name: &str, bytes: &[u8]) -> Result<Spelling, 
         "phase" => rewritten::<Phase>(alloc, bytes),
         "set" => rewritten::<TxSet>(alloc, bytes),
         "set-file" => set_file(alloc, bytes),
-        "set-today" => set_today(alloc, bytes),
         _ => Err(CaseErr::Lacks("a type")),
     }
 }
@@ -92,14 +90,6 @@ fn envelope_file(alloc: Global, bytes: &[u8]) -> Result<Spelling, CaseErr> {
 fn set_file(alloc: Global, bytes: &[u8]) -> Result<Spelling, CaseErr> {
     match read_set(alloc, bytes) {
         Ok(value) => written(alloc, bytes, &value),
-        Err(error) => refused(error),
-    }
-}
-
-/// A set of the kinds that run today, which is not written again.
-fn set_today(alloc: Global, bytes: &[u8]) -> Result<Spelling, CaseErr> {
-    match read_set_today(alloc, bytes) {
-        Ok(set) => Ok(Spelling::Same(set.size())),
         Err(error) => refused(error),
     }
 }

@@ -1,6 +1,8 @@
-pub mod Spelling
+pub mod Lists
+pub mod Besides
 pub mod Raising
 pub mod Waiting
 pub mod Written
-pub mod On
-pub mod Calls
+pub mod Spelling
+pub mod Firsts
+pub mod Merging

@@ -10,8 +10,8 @@ use Rattle.ledger_types.specs.declared.key.LedgerKey.{LedgerKey}
 use Rattle.ledger_spec.specs.declared.Kept.{Kept}
 use Rattle.ledger_spec.specs.LedgerMap.{LedgerMap, key_bytes, find}
 use Rattle.ledger_spec.specs.Changes.{raise, raised}
-use Rattle.apply_spec.specs.declared.Extension.{Extension}
-use Rattle.apply_spec.specs.Runs.{put_in, put_all_in}
+use Rattle.stage_runs.specs.declared.Extension.{Extension}
+use Rattle.stage_runs.specs.Runs.{put_in, put_all_in}
 use Rattle.ledger_apply.specs.Pending.{has_bytes, longest}
 
 -- what is kept, and lives at least so long

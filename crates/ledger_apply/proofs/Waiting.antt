@@ -6,7 +6,7 @@ use Rattle.std.specs.Map.{KeepsOthers, IsKeyTest, AreApart, lookup}
 use Rattle.std.specs.Option.{option_map_or}
 use Rattle.std.specs.Ordering.{nat_cmp, is_eq}
 use Rattle.std.specs.Str.{bytes_eq}
-use Rattle.std.proofs.Common.{◌≡◌, ℕ, suc, ◌+◌, ◌≤◌, ◌<◌, max, Bool, true, false, not, cond, leb, List, [], ◌∷◌, ◌++◌, length, All, filter, Option, Some, None, Vec, refl, sym, ap, ap₂, subst, ◌∙◌, arith}
+use Rattle.std.proofs.Common.{◌≡◌, ℕ, suc, ◌+◌, ◌≤◌, ◌<◌, max, Bool, true, false, not, cond, leb, List, [], ◌∷◌, ◌++◌, length, All, filter, Option, Some, None, Vec, refl, sym, ap, ap₂, ◌∙◌, arith}
 use Rattle.std.proofs.lemmas.Bool.{le-leb, leb-true}
 use Rattle.std.proofs.lemmas.List.{length-append, append-nil}
 use Rattle.std.proofs.lemmas.List.Elements.{All-push, filter-append}
@@ -14,7 +14,7 @@ use Rattle.std.proofs.lemmas.Map.Text.{is_eq-slice_cmp}
 use Rattle.std.proofs.lemmas.Slice.Eq.{bytes_eq-Decides}
 use Rattle.ledger_types.specs.Key.{key_format}
 use Rattle.ledger_spec.specs.LedgerMap.{key_bytes}
-use Rattle.apply_spec.specs.declared.Extension.{Extension}
+use Rattle.stage_runs.specs.declared.Extension.{Extension}
 use Rattle.ledger_apply.specs.declared.pending.Awaited.{Awaited}
 use Rattle.ledger_apply.specs.Pending.{Awaiting, awaiting, is_awaited, still_pending, has_bytes, longest, IsAwaiting}
 
@@ -259,12 +259,6 @@ pending_more look yielded e before after awaited so_far here is =
     index_is n = omega arith
 
 -- what holds of each that is left holds of the next, and of those behind it
-pub next_of : (P : Extension → Type 0) (left : List Extension) (x : Extension) (rest : List Extension) → left ≡ x ∷ rest → All P left → P x
-next_of P left x rest e each = let both : All P (x ∷ rest) = subst (All P) e each in both 0 x (omega arith)
-
-pub rest_of : (P : Extension → Type 0) (left : List Extension) (x : Extension) (rest : List Extension) → left ≡ x ∷ rest → All P left → All P rest
-rest_of P left x rest e each = let both : All P (x ∷ rest) = subst (All P) e each in λ k d lt. both (suc k) d (omega arith)
-
 pub each_where : (P : Extension → Type 0) (xs : List Extension) (e : Extension) (awaited : Bool) → All P xs → P e → All P (cond awaited (xs ++ e ∷ []) xs)
 each_where P xs e true each one = All-push P xs e each one
 each_where P xs e false each one = each

@@ -8,7 +8,7 @@ use Rattle.std.specs.Ordering.{nat_cmp}
 use Rattle.std.specs.Str.{bytes_eq}
 use Rattle.ledger_types.specs.Key.{key_format}
 use Rattle.ledger_spec.specs.LedgerMap.{key_bytes}
-use Rattle.apply_spec.specs.declared.Extension.{Extension}
+use Rattle.stage_runs.specs.declared.Extension.{Extension}
 use Rattle.ledger_apply.specs.declared.pending.Awaited.{Awaited}
 
 -- the pending extensions of the key with these bytes

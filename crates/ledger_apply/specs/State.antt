@@ -1,34 +1,37 @@
 -- The state of the code in the terms of the definitions (own).
-use Rattle.std.specs.Prelude.{◌≡◌, ◌<◌, ◌^◌, IsTrue, All, length}
-use Rattle.std.specs.List.{AllByRecursion}
+use Rattle.std.specs.Prelude.{List, [], ◌++◌, All}
+use Rattle.std.specs.List.{flat_map}
 use Rattle.ledger_types.specs.Key.{key_format}
-use Rattle.ledger_types.specs.declared.header.Header.{Header}
-use Rattle.ledger_spec.specs.LedgerFile.{are_settings, has_next}
-use Rattle.tx_results.specs.Results.{pair_format}
-use Rattle.apply_spec.specs.Runs.{RunState}
-use Rattle.ledger_apply.specs.declared.running.SetRun.{SetRun as State}
-use Rattle.ledger_apply.specs.declared.running.ClusterRun.{ClusterRun as ClusterState}
+use Rattle.ledger_spec.specs.LedgerMap.{LedgerMap}
+use Rattle.stage_runs.specs.declared.Extension.{Extension}
+use Rattle.stage_runs.specs.Runs.{Reported, RunState}
+use Rattle.ledger_apply.specs.declared.running.ClusterRun.{ClusterRun}
+use Rattle.ledger_apply.specs.declared.running.ClusterDone.{ClusterDone}
 
-abbrev pub running_of : State → RunState
-running_of state = record { entries = state.ledger.entries; pending = state.pending.items; results = state.results.items }
+-- a cluster between its transactions, with the map of its own entries
+abbrev pub running_in : LedgerMap → ClusterRun → RunState
+running_in entries running = record { entries = entries; pending = running.pending; results = running.reports }
 
-abbrev pub running_in_cluster : ClusterState → RunState
-running_in_cluster state = record { entries = state.ledger.entries; pending = state.pending; results = state.results.items }
+-- a cluster after its last transaction
+abbrev pub done_in : LedgerMap → ClusterDone → RunState
+done_in entries done = record { entries = entries; pending = done.pending.items; results = done.reports }
 
--- The state has this header, and another ledger may follow it. The keys of pending extensions and the results are within
--- their XDR formats.
-pub record IsOn (header : Header) (state : State) : Type 0 where
-  pub settings : IsTrue (are_settings header.settings)
-  pub next : IsTrue (has_next header)
-  pub headed : state.ledger.header ≡ header
-  pub keyed : All (λ e. key_format.fits e.key) state.pending.items
-  pub spelled : AllByRecursion pair_format.fits state.results.items
-  pub few : length state.results.items < 2 ^ 32
+-- a set between its stages: nothing is pending
+abbrev pub between : LedgerMap → List Reported → RunState
+between entries reports = record { entries = entries; pending = []; results = reports }
 
--- the same within a cluster
-pub record IsOnInCluster (header : Header) (state : ClusterState) : Type 0 where
-  pub settings : IsTrue (are_settings header.settings)
-  pub next : IsTrue (has_next header)
-  pub headed : state.ledger.header ≡ header
-  pub spelled : AllByRecursion pair_format.fits state.results.items
-  pub few : length state.results.items < 2 ^ 32
+-- the extensions that clusters left pending, in the order of the clusters
+abbrev pub pending_of : List ClusterDone → List Extension
+pending_of done = flat_map (λ d. d.pending.items) done
+
+-- the reports of clusters, in their order
+abbrev pub reports_of : List ClusterDone → List Reported
+reports_of done = flat_map (λ d. d.reports) done
+
+-- the clusters of a stage that ran, joined to what was reported before the stage
+abbrev pub stage_in : LedgerMap → List Reported → List ClusterDone → RunState
+stage_in entries before done = record { entries = entries; pending = pending_of done; results = before ++ reports_of done }
+
+-- the keys of the pending extensions are within their XDR format
+abbrev pub IsKeyed : ClusterDone → Type 0
+IsKeyed done = All (λ e. key_format.fits e.key) done.pending.items

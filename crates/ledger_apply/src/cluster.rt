@@ -1,100 +1,75 @@
-//! Runs clusters and stages.
+//! Runs one cluster.
 
-ghost use Rattle.std.specs.Prelude.{◌≡◌, [], All, IfOk, IsTrue};
+ghost use Rattle.std.specs.Prelude.{◌≡◌, IfOk, IsTrue};
 ghost use Rattle.ledger_spec.specs.LedgerFile.{are_settings, has_next};
-ghost use Rattle.apply_spec.specs.Runs.{run_cluster as run_cluster_in, run_next_cluster as run_next_cluster_in, run_stage as run_stage_in};
-ghost use Rattle.ledger_apply.specs.State.{running_of, IsOn};
-ghost use Rattle.ledger_apply.specs.Spelled.{IsCluster, IsStage};
+ghost use Rattle.stage_runs.specs.Runs.{run_all as run_all_in, run_cluster as run_cluster_in};
+ghost use Rattle.apply_spec.specs.Enforced.{enforced};
+ghost use Rattle.ledger_apply.specs.Seen.{shown_step};
+ghost use Rattle.ledger_apply.specs.State.{running_in, done_in, IsKeyed};
+ghost use Rattle.ledger_apply.specs.Spelled.{AreEnvelopes};
 
-use crate::pending::{Pending, put_all};
-use crate::running::{ClusterRun, MOST_RESULTS, SetRun};
+use crate::entries::Entries;
+use crate::pending::Pending;
+use crate::reports::Reports;
+use crate::running::{ClusterDone, ClusterRun};
 use crate::step::run_transaction;
-use ledger_file::Ledger;
+use ledger_types::{Header, Verdicts};
 use std::alloc::Global;
-use tx_xdr::{Cluster, Stage};
+use tx_xdr::Envelope;
 use xdr_core::NoMemory;
 
-/// Runs the transactions of a cluster in order. A cluster starts without pending extensions.
-pub fn run_cluster(alloc: Global, ledger: Ledger, cluster: &Cluster) -> Result<SetRun, NoMemory>
-    requires fits { IsCluster cluster.now }
-    requires settings { IsTrue (are_settings ledger.header.settings) }
-    requires next { IsTrue (has_next ledger.header) }
-    ensures run { IfOk result (λ r. running_of r ≡ run_cluster_in ledger.header ledger.entries cluster.now) }
-    ensures on { IfOk result (IsOn ledger.header) }
-{
-    let mut running = ClusterRun {
-        ledger,
-        pending: Pending::new(alloc),
-        results: Vec::new(alloc),
-    };
-    let envelopes = cluster.envelopes.as_slice();
-    for envelope in envelopes {
-        running = run_transaction(alloc, running, envelope)?;
-    }
-    let ClusterRun {
-        ledger,
-        pending,
-        results,
-    } = running;
-    let pending = pending.into_vec(alloc)?;
-    Ok(SetRun {
-        ledger,
-        pending,
-        results,
-    })
-}
-
-/// Runs the next cluster of a stage.
-fn run_next_cluster(alloc: Global, running: SetRun, cluster: &Cluster) -> Result<SetRun, NoMemory>
-    requires fits { IsCluster cluster.now }
-    requires on { IsOn running.ledger.header running }
-    ensures run { IfOk result (λ r. running_of r ≡ run_next_cluster_in running.ledger.header (running_of running) cluster.now) }
-    ensures on { IfOk result (IsOn running.ledger.header) }
-{
-    let SetRun {
-        ledger,
-        mut pending,
-        mut results,
-    } = running;
-    let mut done = run_cluster(alloc, ledger, cluster)?;
-    let count = results.as_slice().len();
-    if done.results.as_slice().len() > MOST_RESULTS - count {
-        return Err(NoMemory);
-    }
-    pending.append(&mut done.pending)?;
-    results.append(&mut done.results)?;
-    Ok(SetRun {
-        ledger: done.ledger,
-        pending,
-        results,
-    })
-}
-
-/// Runs the clusters of a stage in order, and then puts in all pending extensions.
-pub fn run_stage(alloc: Global, running: SetRun, stage: &Stage) -> Result<SetRun, NoMemory>
-    requires fits { IsStage stage.now }
-    requires on { IsOn running.ledger.header running }
-    ensures run { IfOk result (λ r. running_of r ≡ run_stage_in running.ledger.header (running_of running) stage.now) }
-    ensures on { IfOk result (IsOn running.ledger.header) }
+/// Runs transactions of a cluster in their order.
+fn run_all<E: Entries>(
+    alloc: Global,
+    entries: &mut E,
+    header: &Header,
+    verdicts: &Verdicts,
+    running: ClusterRun,
+    envelopes: &[Envelope],
+) -> Result<ClusterRun, NoMemory>
+    requires fits { AreEnvelopes envelopes.now }
+    requires settings { IsTrue (are_settings header.now.settings) }
+    requires next { IsTrue (has_next header.now) }
+    ensures run { IfOk result (λ r. running_in (E.own entries.new) r
+        ≡ run_all_in (shown_step (E.shown entries.old) (enforced header.now verdicts.now)) (running_in (E.own entries.old) running) envelopes.now) }
+    ensures shown { IfOk result (λ _. E.shown entries.new ≡ E.shown entries.old) }
 {
     let mut running = running;
-    let clusters = stage.clusters.as_slice();
-    for cluster in clusters {
-        running = run_next_cluster(alloc, running, cluster)?;
+    for envelope in envelopes {
+        running = run_transaction(alloc, entries, header, verdicts, running, envelope)?;
     }
-    let SetRun {
-        ledger,
-        pending,
-        results,
-    } = running;
-    let Ledger {
-        header,
-        mut entries,
-    } = ledger;
-    put_all(&mut entries, &pending);
-    Ok(SetRun {
-        ledger: Ledger { header, entries },
-        pending: Vec::new(alloc),
-        results,
+    Ok(running)
+}
+
+/// Runs a cluster: its transactions in their order, on the entries. It starts without pending extensions.
+///
+/// `header` is that of the previous ledger, with the close time of the ledger that is being made.
+pub fn run_cluster<E: Entries>(
+    alloc: Global,
+    entries: &mut E,
+    header: &Header,
+    verdicts: &Verdicts,
+    envelopes: &[Envelope],
+) -> Result<ClusterDone, NoMemory>
+    requires fits { AreEnvelopes envelopes.now }
+    requires settings { IsTrue (are_settings header.now.settings) }
+    requires next { IsTrue (has_next header.now) }
+    ensures run { IfOk result (λ d. done_in (E.own entries.new) d
+        ≡ run_cluster_in (shown_step (E.shown entries.old) (enforced header.now verdicts.now)) (E.own entries.old) envelopes.now) }
+    ensures keyed { IfOk result IsKeyed }
+    ensures shown { IfOk result (λ _. E.shown entries.new ≡ E.shown entries.old) }
+{
+    let mut reports = Reports::new(alloc);
+    reports.reserve(envelopes.len())?;
+    let running = ClusterRun {
+        pending: Pending::new(alloc),
+        reports,
+    };
+    let ClusterRun { pending, reports } = run_all(
+        alloc, entries, header, verdicts, running, envelopes,
+    )?;
+    Ok(ClusterDone {
+        pending: pending.into_vec(alloc)?,
+        reports,
     })
 }

@@ -2,15 +2,23 @@
 #![tactic(auto)]
 
 mod cluster;
-mod laws;
+mod conflict;
+mod entries;
+mod error;
 mod pending;
+mod reports;
 mod running;
 mod set;
+mod stage;
+mod stages;
 mod step;
 
 pub use cluster::run_cluster;
-pub use laws::preimages_stand_with_calls;
+pub use entries::Entries;
+pub use error::ApplyErr;
 pub use pending::Pending;
-pub use running::{ClusterRun, SetRun};
+pub use reports::Reports;
+pub use running::{ClusterDone, ClusterRun};
 pub use set::{Applied, apply_set};
+pub use stage::{run_component, run_stage};
 pub use step::run_transaction;

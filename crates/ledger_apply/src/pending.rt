@@ -1,15 +1,15 @@
 //! The pending extensions of a cluster.
 
-ghost use Rattle.std.specs.Prelude.{◌≡◌, ◌∷◌, ◌++◌, [], not, max, All, IfOk, OnOk, OnErr, filter, if◌then◌else◌};
+ghost use Rattle.std.specs.Prelude.{◌≡◌, ◌∷◌, ◌++◌, [], not, max, All, IfOk, OnOk, filter, if◌then◌else◌};
 ghost use Rattle.std.specs.Option.{option_map_or};
 ghost use Rattle.ledger_types.specs.Key.{key_format};
-ghost use Rattle.apply_spec.specs.Checks.{is_key};
-ghost use Rattle.apply_spec.specs.Runs.{put_all_in};
-ghost use Rattle.ledger_apply.specs.Pending.{is_awaited as is_awaited_in};
+ghost use Rattle.ledger_spec.specs.LedgerMap.{key_bytes};
+ghost use Rattle.stage_runs.specs.Runs.{put_all_in};
+ghost use Rattle.ledger_apply.specs.Pending.{has_bytes, is_awaited as is_awaited_in};
 
-use apply_spec::Extension;
-use entry_map::EntryMap;
+use crate::entries::Entries;
 use ledger_types::LedgerKey;
+use stage_runs::Extension;
 use std::alloc::Global;
 use std::collections::BTreeMap;
 use std::marker::Model;
@@ -66,8 +66,8 @@ pub struct Pending {
 impl Model for Pending {
     ghost use Rattle.std.specs.Prelude.{List};
     ghost use Rattle.std.specs.Coded.{coded_list};
-    ghost use Rattle.apply_spec.specs.contracts.Extension as extension;
-    ghost use Rattle.apply_spec.specs.declared.Extension.{Extension as ExtensionData};
+    ghost use Rattle.stage_runs.specs.contracts.Extension as extension;
+    ghost use Rattle.stage_runs.specs.declared.Extension.{Extension as ExtensionData};
     ghost use Rattle.ledger_apply.specs.Pending.{awaiting, still_pending, IsAwaiting};
 
     ghost Value = { List ExtensionData };
@@ -120,16 +120,16 @@ impl Pending {
     }
 
     /// Puts in the pending extensions of a key: the greater live-until ledger stays.
-    pub fn put_in(
+    pub fn put_in<E: Entries>(
         &mut self,
         alloc: Global,
-        entries: &mut EntryMap,
+        entries: &mut E,
         key: &LedgerKey,
     ) -> Result<(), NoMemory>
         requires { key_format.fits key.now }
-        ensures entries { OnOk result (entries.new ≡ put_all_in entries.old (filter (λ e. is_key e.key key.now) self.old)) }
-        ensures pending { OnOk result (self.new ≡ filter (λ e. not (is_key e.key key.now)) self.old) }
-        ensures err { OnErr result ((self.new ≡ self.old) × (entries.new ≡ entries.old)) }
+        ensures entries { OnOk result (E.own entries.new ≡ put_all_in (E.own entries.old) (filter (has_bytes (key_bytes key.now)) self.old)) }
+        ensures pending { OnOk result (self.new ≡ filter (λ e. not (has_bytes (key_bytes key.now) e)) self.old) }
+        ensures shown { E.shown entries.new ≡ E.shown entries.old }
     {
         let bytes = encode(alloc, key)?;
         if let Some(awaited) = self.by_key.remove(bytes.as_slice()) {
@@ -168,14 +168,4 @@ fn push_where(
         pending.push(extension)?;
     }
     Ok(())
-}
-
-/// Puts in extensions: the greater live-until ledger stays.
-pub fn put_all(entries: &mut EntryMap, extensions: &[Extension])
-    requires { All (λ e. key_format.fits e.key) extensions.now }
-    ensures { entries.new ≡ put_all_in entries.old extensions.now }
-{
-    for extension in extensions {
-        entries.raise(&extension.key, extension.live_until);
-    }
 }

@@ -1,26 +1,19 @@
-//! The state of a run.
+//! The state of a cluster's run.
 
 use crate::pending::Pending;
-use apply_spec::Extension;
-use ledger_file::Ledger;
-use tx_results::TransactionResultPair;
+use crate::reports::Reports;
+use stage_runs::Extension;
 
-/// The state between clusters: the ledger so far, with the header that transactions run on; the pending extensions of the
-/// stage; and the results.
-#[derive(Drop)]
-pub struct SetRun {
-    pub ledger: Ledger,
-    pub pending: Vec<Extension>,
-    pub results: Vec<TransactionResultPair>,
-}
-
-/// The state between the transactions of a cluster. Its pending extensions can be found by key.
+/// A cluster between its transactions.
 #[derive(Drop)]
 pub struct ClusterRun {
-    pub ledger: Ledger,
     pub pending: Pending,
-    pub results: Vec<TransactionResultPair>,
+    pub reports: Reports,
 }
 
-/// As many results as a 32-bit count can hold. A run with more is out of memory.
-pub const MOST_RESULTS: usize = 4_294_967_295;
+/// What a cluster leaves beside its entries: the extensions that are still pending, and the reports of its transactions.
+#[derive(Drop)]
+pub struct ClusterDone {
+    pub pending: Vec<Extension>,
+    pub reports: Reports,
+}

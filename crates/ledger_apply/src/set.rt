@@ -1,25 +1,38 @@
 //! Applies transaction sets.
 
-ghost use Rattle.std.specs.Prelude.{◌≡◌, [], All, IfOk, IsTrue, None, fold, length, map};
+ghost use Rattle.std.specs.Prelude.{◌≡◌, ◌≤◌, All, IfOk, IfErr, OnOk, IsTrue, length, map};
+ghost use Rattle.std.specs.List.{AllByRecursion};
 ghost use Rattle.xdr_spec.specs.Format.{optional};
 ghost use Rattle.invoke_types.specs.Success.{success_format};
 ghost use Rattle.ledger_spec.specs.LedgerFile.{are_settings, has_next};
-ghost use Rattle.tx_xdr.specs.SetBounds.{today};
-ghost use Rattle.tx_xdr.specs.Set.{set_format, phase_format};
+ghost use Rattle.tx_xdr.specs.Set.{set_format};
+ghost use Rattle.tx_xdr.specs.Stages.{stages_of as stages_of_set};
+ghost use Rattle.tx_results.specs.Report.{HavePreimages};
 ghost use Rattle.tx_results.specs.Results.{result_set_format};
-ghost use Rattle.apply_spec.specs.Runs.{run_stage as run_stage_in, run_set, new_header, success_preimages};
-ghost use Rattle.tx_xdr.specs.Stages.{stages_in};
-ghost use Rattle.ledger_apply.specs.State.{running_of, IsOn};
-ghost use Rattle.ledger_apply.specs.Spelled.{IsStage};
+ghost use Rattle.stage_runs.specs.Runs.{run_stage as run_stage_in, run_set as run_stages_in, clusters_in, HasNoConflict};
+ghost use Rattle.apply_spec.specs.Enforced.{enforced};
+ghost use Rattle.apply_spec.specs.Outputs.{results_of, preimages_of};
+ghost use Rattle.apply_spec.specs.Runs.{run_set, new_header};
+ghost use Rattle.ledger_apply.specs.Seen.{shown_step};
+ghost use Rattle.ledger_apply.specs.State.{between};
+ghost use Rattle.ledger_apply.specs.Stages.{stage_of, clusters_of, IsSpelled};
+ghost use Rattle.ledger_apply.specs.Final.{run_stages_over};
+ghost use Rattle.ledger_apply.specs.Refused.{IsConflictUnlessMemory};
 
-use crate::cluster::run_stage;
-use crate::running::SetRun;
+use crate::conflict::first_conflict;
+use crate::entries::Entries;
+use crate::error::ApplyErr;
+use crate::reports::Reports;
+use crate::stage::{run_component, run_stage};
+use crate::stages::{SetStage, stages_of};
+use edge_io::Gate;
 use invoke_types::SuccessPreimage;
 use ledger_file::Ledger;
-use ledger_types::Header;
+use ledger_types::{Header, Verdicts};
 use std::alloc::Global;
-use tx_results::{ResultSet, TransactionResultPair};
-use tx_xdr::{Phase, Stage, TxSet};
+use std::thread::Threads;
+use tx_results::ResultSet;
+use tx_xdr::TxSet;
 use value_types::Items;
 use xdr_core::NoMemory;
 
@@ -32,97 +45,138 @@ pub struct Applied {
     pub successes: Items<Option<SuccessPreimage>, 4294967295>,
 }
 
-/// Makes the success preimages of results: none, since no set of today calls a contract.
-fn no_successes(
+/// Runs one stage of a set.
+fn run_one<E: Entries>(
     alloc: Global,
-    results: &[TransactionResultPair],
-) -> Result<Vec<Option<SuccessPreimage>>, NoMemory>
-    ensures none { IfOk result (λ successes. successes.items ≡ map (λ _. None) results.now) }
-    ensures spelled { IfOk result (λ successes. All (λ s. (optional success_format).fits s) successes.items) }
-    ensures each { IfOk result (λ successes. length successes.items ≡ length results.now) }
+    entries: &mut E,
+    header: &Header,
+    verdicts: &Verdicts,
+    reports: &mut Reports,
+    stage: SetStage<'_>,
+) -> Result<(), NoMemory>
+    requires fits { IsSpelled stage }
+    requires settings { IsTrue (are_settings header.now.settings) }
+    requires next { IsTrue (has_next header.now) }
+    ensures run { OnOk result (between (E.own entries.new) reports.new
+        ≡ run_stage_in (shown_step (E.shown entries.old) (enforced header.now verdicts.now)) (between (E.own entries.old) reports.old) (clusters_in (stage_of stage.entry))) }
+    ensures shown { OnOk result (E.shown entries.new ≡ E.shown entries.old) }
 {
-    let mut successes = Vec::new(alloc);
-    for _result in results {
-        successes.push(None)?;
+    match stage {
+        SetStage::Component(component) => {
+            run_component(alloc, entries, header, verdicts, reports, component)
+        }
+        SetStage::Parallel(stage) => run_stage(alloc, entries, header, verdicts, reports, stage),
     }
-    Ok(successes)
 }
 
-/// Returns the stages of a phase. A phase of today has all its stages in the list of its own.
-fn stages_of(phase: &Phase) -> &[Stage]
-    requires { (phase_format today).fits phase.now }
-    ensures { result.now ≡ stages_in phase.now }
+/// Runs stages in their order.
+fn run_stages<E: Entries>(
+    alloc: Global,
+    entries: &mut E,
+    header: &Header,
+    verdicts: &Verdicts,
+    reports: &mut Reports,
+    stages: &[SetStage<'_>],
+) -> Result<(), NoMemory>
+    requires fits { All IsSpelled stages.now }
+    requires settings { IsTrue (are_settings header.now.settings) }
+    requires next { IsTrue (has_next header.now) }
+    ensures run { OnOk result (between (E.own entries.new) reports.new
+        ≡ run_stages_in (shown_step (E.shown entries.old) (enforced header.now verdicts.now)) (between (E.own entries.old) reports.old) (clusters_of stages.now)) }
+    ensures shown { OnOk result (E.shown entries.new ≡ E.shown entries.old) }
 {
-    phase.stages()
-}
-
-fn run_stages(alloc: Global, running: SetRun, stages: &[Stage]) -> Result<SetRun, NoMemory>
-    requires fits { All IsStage stages.now }
-    requires on { IsOn running.ledger.header running }
-    ensures run { IfOk result (λ r. running_of r ≡ fold (run_stage_in running.ledger.header) (running_of running) stages.now) }
-    ensures on { IfOk result (IsOn running.ledger.header) }
-{
-    let mut running = running;
     for stage in stages {
-        running = run_stage(alloc, running, stage)?;
+        run_one(alloc, entries, header, verdicts, reports, *stage)?;
     }
-    Ok(running)
+    Ok(())
 }
 
-/// Applies a set to a ledger. `close_time` is that of the new ledger, in seconds since 1970.
-pub fn apply_set(
+/// Runs the stages of a set over a ledger, and makes the new ledger's header.
+fn run_on(
     alloc: Global,
     ledger: Ledger,
-    set: &TxSet,
     close_time: u64,
+    verdicts: &Verdicts,
+    stages: &[SetStage<'_>],
 ) -> Result<Applied, NoMemory>
-    requires fits { (set_format today).fits set.now }
+    requires fits { All IsSpelled stages.now }
     requires settings { IsTrue (are_settings ledger.header.settings) }
     requires next { IsTrue (has_next ledger.header) }
     ensures header { IfOk result (λ a. a.ledger.header ≡ new_header ledger.header close_time) }
-    ensures entries { IfOk result (λ a. a.ledger.entries ≡ (run_set ledger.header ledger.entries set.now close_time).entries) }
-    ensures results { IfOk result (λ a. a.results.pairs ≡ (run_set ledger.header ledger.entries set.now close_time).results) }
-    ensures successes { IfOk result (λ a. a.successes ≡ success_preimages (run_set ledger.header ledger.entries set.now close_time)) }
+    ensures entries { IfOk result (λ a. a.ledger.entries ≡ (run_stages_over ledger.header verdicts.now ledger.entries (clusters_of stages.now) close_time).entries) }
+    ensures results { IfOk result (λ a. a.results.pairs ≡ results_of (run_stages_over ledger.header verdicts.now ledger.entries (clusters_of stages.now) close_time)) }
+    ensures successes { IfOk result (λ a. a.successes ≡ preimages_of (run_stages_over ledger.header verdicts.now ledger.entries (clusters_of stages.now) close_time)) }
+    ensures spelled { IfOk result (λ a. result_set_format.fits a.results) }
+    ensures successes_spelled { IfOk result (λ a. All (λ s. (optional success_format).fits s) a.successes) }
+    ensures each { IfOk result (λ a. length a.successes ≡ length a.results.pairs) }
+    ensures preimages { IfOk result (λ a. HavePreimages a.results.pairs a.successes) }
+{
+    let mut ledger = ledger;
+    let header = ledger.header;
+    let running = Header {
+        close_time,
+        ..header
+    };
+    let mut reports = Reports::new(alloc);
+    run_stages(alloc, &mut ledger, &running, verdicts, &mut reports, stages)?;
+    let (results, successes) = reports.into_parts();
+    let Ledger { entries, .. } = ledger;
+    Ok(Applied {
+        ledger: Ledger {
+            header: Header {
+                seq: header.seq + 1,
+                ..running
+            },
+            entries,
+        },
+        results,
+        successes,
+    })
+}
+
+/// Applies a set to a ledger, unless two clusters of one of its stages conflict. All stages are tested before anything runs.
+///
+/// `close_time` is that of the new ledger, in seconds since 1970. One thread runs the set, whatever the number of workers, and the
+/// gate is not entered.
+pub fn apply_set<'a, R: Threads + Sync, T: Gate + Sync>(
+    _rt: &R,
+    alloc: Global,
+    ledger: Ledger,
+    set: &'a TxSet,
+    close_time: u64,
+    verdicts: &Verdicts,
+    workers: usize,
+    _gate: &T,
+) -> Result<Applied, ApplyErr<'a>>
+    requires fits { set_format.fits set.now }
+    requires settings { IsTrue (are_settings ledger.header.settings) }
+    requires next { IsTrue (has_next ledger.header) }
+    requires workers { (1 ≤ workers) × (workers ≤ 64) }
+
+    // A set is refused for its least conflict, and only for that.
+    ensures conflict { IfErr result (IsConflictUnlessMemory (map clusters_in (stages_of_set set.now)) ledger) }
+    ensures free { IfOk result (λ _. AllByRecursion HasNoConflict (map clusters_in (stages_of_set set.now))) }
+
+    ensures header { IfOk result (λ a. a.ledger.header ≡ new_header ledger.header close_time) }
+    ensures entries { IfOk result (λ a. a.ledger.entries ≡ (run_set ledger.header verdicts.now ledger.entries set.now close_time).entries) }
+    ensures results { IfOk result (λ a. a.results.pairs ≡ results_of (run_set ledger.header verdicts.now ledger.entries set.now close_time)) }
+    ensures successes { IfOk result (λ a. a.successes ≡ preimages_of (run_set ledger.header verdicts.now ledger.entries set.now close_time)) }
 
     // The results and the success preimages can be written.
     ensures spelled { IfOk result (λ a. result_set_format.fits a.results) }
     ensures successes_spelled { IfOk result (λ a. All (λ s. (optional success_format).fits s) a.successes) }
     ensures each { IfOk result (λ a. length a.successes ≡ length a.results.pairs) }
+    ensures preimages { IfOk result (λ a. HavePreimages a.results.pairs a.successes) }
 {
-    let Ledger { header, entries } = ledger;
-    let running_header = Header {
-        close_time,
-        ..header
-    };
-    let mut running = SetRun {
-        ledger: Ledger {
-            header: running_header,
-            entries,
-        },
-        pending: Vec::new(alloc),
-        results: Vec::new(alloc),
-    };
-    let phases = set.phases.as_slice();
-    for phase in phases {
-        running = run_stages(alloc, running, stages_of(phase))?;
+    let _workers = workers;
+    let stages = stages_of(alloc, set)?;
+    if let Some(conflict) = first_conflict(alloc, &stages)? {
+        return Err(ApplyErr::Conflict {
+            stage: conflict.stage,
+            found: conflict.found,
+            ledger,
+        });
     }
-    let SetRun {
-        ledger,
-        results,
-        ..
-    } = running;
-    let successes = no_successes(alloc, &results)?;
-    Ok(Applied {
-        ledger: Ledger {
-            header: Header {
-                seq: header.seq + 1,
-                ..running_header
-            },
-            entries: ledger.entries,
-        },
-        results: ResultSet {
-            pairs: Items::from_vec(results),
-        },
-        successes: Items::from_vec(successes),
-    })
+    let applied = run_on(alloc, ledger, close_time, verdicts, &stages)?;
+    Ok(applied)
 }

@@ -1,83 +1,85 @@
-//! Runs one envelope in its cluster.
+//! Runs one transaction in its cluster.
 
-ghost use Rattle.std.specs.Prelude.{◌≡◌, IfOk};
-ghost use Rattle.tx_xdr.specs.SetBounds.{today};
-ghost use Rattle.tx_xdr.specs.Transaction.{transaction_format};
+ghost use Rattle.std.specs.Prelude.{◌≡◌, not, IfOk, OnOk, IsTrue, filter};
+ghost use Rattle.ledger_spec.specs.LedgerFile.{are_settings, has_next};
 ghost use Rattle.tx_xdr.specs.Envelope.{envelope_format};
-ghost use Rattle.apply_spec.specs.Runs.{before, run_transaction as run_transaction_in};
-ghost use Rattle.ledger_apply.specs.State.{running_in_cluster, IsOnInCluster};
+ghost use Rattle.stage_runs.specs.Runs.{after as after_in, is_written, put_all_in, run_transaction as run_transaction_in};
+ghost use Rattle.apply_spec.specs.Enforced.{enforced};
+ghost use Rattle.tx_apply.specs.Done.{effect_of, IsWithin};
+ghost use Rattle.ledger_apply.specs.Seen.{shown_step};
+ghost use Rattle.ledger_apply.specs.State.{running_in};
 
-use crate::running::{ClusterRun, MOST_RESULTS};
-use ledger_file::Ledger;
+use crate::entries::{Entries, change_all};
+use crate::pending::Pending;
+use crate::running::ClusterRun;
+use ledger_types::{Header, Verdicts};
 use std::alloc::Global;
-use tx_apply::{enforce, read_write_of};
-use tx_results::{TransactionResult, TransactionResultPair};
-use tx_xdr::{Envelope, Transaction, envelope_hash};
+use tx_apply::{TxDone, enforce, read_write_of};
+use tx_xdr::Envelope;
 use xdr_core::NoMemory;
 
 /// Puts in the pending extensions of the keys that a transaction declares read-write.
-fn put_written(alloc: Global, running: ClusterRun, tx: &Transaction) -> Result<ClusterRun, NoMemory>
-    requires fits { (transaction_format today).fits tx.now }
-    requires on { IsOnInCluster running.ledger.header running }
-    ensures run { IfOk result (λ r. running_in_cluster r ≡ before tx.now (running_in_cluster running)) }
-    ensures on { IfOk result (IsOnInCluster running.ledger.header) }
+fn put_written<E: Entries>(
+    alloc: Global,
+    entries: &mut E,
+    pending: &mut Pending,
+    envelope: &Envelope,
+) -> Result<(), NoMemory>
+    requires { envelope_format.fits envelope.now }
+    ensures entries { OnOk result (E.own entries.new ≡ put_all_in (E.own entries.old) (filter (is_written envelope.now) pending.old)) }
+    ensures pending { OnOk result (pending.new ≡ filter (λ e. not (is_written envelope.now e)) pending.old) }
+    ensures shown { OnOk result (E.shown entries.new ≡ E.shown entries.old) }
 {
-    let ClusterRun {
-        ledger,
-        mut pending,
-        results,
-    } = running;
-    let Ledger {
-        header,
-        mut entries,
-    } = ledger;
-    let keys = read_write_of(tx);
+    let keys = read_write_of(envelope.transaction());
     for key in keys {
-        pending.put_in(alloc, &mut entries, key)?;
+        pending.put_in(alloc, entries, key)?;
     }
-    Ok(ClusterRun {
-        ledger: Ledger { header, entries },
-        pending,
-        results,
-    })
+    Ok(())
 }
 
-/// Runs an envelope in its cluster: a transaction, or a fee bump's inner transaction.
-///
-/// Before it runs, the pending extensions of its read-write keys are put in, even if it fails. Its own extensions are
-/// pending afterwards. Both take O(log n) comparisons for each of its keys, where n is the number of pending keys.
-pub fn run_transaction(
+/// Makes the changes of a transaction, and adds its extensions and its report.
+fn after<E: Entries>(
     alloc: Global,
+    entries: &mut E,
+    running: ClusterRun,
+    done: TxDone,
+) -> Result<ClusterRun, NoMemory>
+    requires within { IsWithin done }
+    ensures run { IfOk result (λ r. running_in (E.own entries.new) r ≡ after_in (effect_of done) (running_in (E.own entries.old) running)) }
+    ensures shown { IfOk result (λ _. E.shown entries.new ≡ E.shown entries.old) }
+{
+    let ClusterRun {
+        pending,
+        mut reports,
+    } = running;
+    change_all(alloc, entries, done.changes.into_vec())?;
+    let pending = pending.with_all(alloc, done.extensions.into_vec())?;
+    reports.push(done.result, done.success)?;
+    Ok(ClusterRun { pending, reports })
+}
+
+/// Runs a transaction in its cluster.
+///
+/// Before it runs, the pending extensions of its read-write keys are put in, even if it fails. Its changes are made at once. Its own
+/// extensions are pending afterwards. For each of its keys this takes O(log n) comparisons, where n is the number of entries and of
+/// pending keys.
+pub fn run_transaction<E: Entries>(
+    alloc: Global,
+    entries: &mut E,
+    header: &Header,
+    verdicts: &Verdicts,
     running: ClusterRun,
     envelope: &Envelope,
 ) -> Result<ClusterRun, NoMemory>
-    requires fits { (envelope_format today).fits envelope.now }
-    requires on { IsOnInCluster running.ledger.header running }
-    ensures run { IfOk result (λ r. running_in_cluster r ≡ run_transaction_in running.ledger.header (running_in_cluster running) envelope.now) }
-    ensures on { IfOk result (IsOnInCluster running.ledger.header) }
+    requires fits { envelope_format.fits envelope.now }
+    requires settings { IsTrue (are_settings header.now.settings) }
+    requires next { IsTrue (has_next header.now) }
+    ensures run { IfOk result (λ r. running_in (E.own entries.new) r
+        ≡ run_transaction_in (shown_step (E.shown entries.old) (enforced header.now verdicts.now)) (running_in (E.own entries.old) running) envelope.now) }
+    ensures shown { IfOk result (λ _. E.shown entries.new ≡ E.shown entries.old) }
 {
-    let ClusterRun {
-        ledger,
-        pending,
-        mut results,
-    } = put_written(alloc, running, envelope.transaction())?;
-    if results.as_slice().len() >= MOST_RESULTS {
-        return Err(NoMemory);
-    }
-    let header = ledger.header;
-    let done = enforce(alloc, &ledger, &header, envelope)?;
-    let hash = envelope_hash(alloc, &header.network_id, envelope)?;
-    let pending = pending.with_all(alloc, done.extensions.into_vec())?;
-    results.push(TransactionResultPair {
-        hash,
-        result: TransactionResult {
-            fee_charged: 0,
-            outcome: done.outcome,
-        },
-    })?;
-    Ok(ClusterRun {
-        ledger,
-        pending,
-        results,
-    })
+    let mut running = running;
+    put_written(alloc, entries, &mut running.pending, envelope)?;
+    let done = enforce(alloc, entries, header, verdicts, envelope)?;
+    after(alloc, entries, running, done)
 }

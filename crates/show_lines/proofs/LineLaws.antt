@@ -1,14 +1,11 @@
 -- Lines that are put together piece by piece.
 use Rattle.std.proofs.Common.{◌≡◌, ℕ, ◌-◌, ◌^◌, List, ◌++◌, length, ◌∙◌, ap, arith}
 use Rattle.std.specs.Prelude.{codes, decimal, min}
-use Rattle.std.specs.FinMap.{entries, len}
-use Rattle.std.specs.List.{flat_map}
-use Rattle.ledger_types.specs.declared.header.Header.{Header}
 use Rattle.value_types.specs.Depth.{value_depth}
 use Rattle.value_types.specs.Formats.{kind, scval_format}
 use Rattle.value_types.specs.Kinds.{number}
 use Rattle.value_types.specs.declared.value.ScVal.{ScVal}
-use Rattle.show_lines.specs.LedgerLines.{header_line, ledger_lines, record_line, value_line}
+use Rattle.show_lines.specs.LedgerLines.{value_line}
 use Rattle.show_lines.proofs.Depths.{depth_at_most}
 
 -- the depth of a value that has a spelling is no other number

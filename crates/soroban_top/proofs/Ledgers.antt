@@ -11,13 +11,17 @@ use Rattle.ledger_spec.specs.declared.LedgerRefusal.{LedgerRefusal}
 use Rattle.ledger_spec.specs.declared.LedgerWhy.{LedgerWhy}
 use Rattle.ledger_spec.specs.declared.LedgerWhy.TheVariants as ledger_why
 use Rattle.ledger_types.specs.File.{file_format}
+use Rattle.ledger_types.specs.Verdicts.{verdicts_format, verdicts_lawful}
 use Rattle.ledger_types.specs.declared.header.Header.{Header}
 use Rattle.show_lines.specs.LedgerLines.{ledger_lines}
+use Rattle.tx_xdr.specs.Set.{set_format, set_lawful}
 use Rattle.xdr_spec.specs.Format.{IsBytes}
 use Rattle.xdr_spec.specs.Refusal.{Refuses}
 use Rattle.xdr_spec.specs.declared.Why.{Why}
-use Rattle.soroban_top.specs.Judged.{as_ledger, ledger_in}
-use Rattle.soroban_top.specs.Laws.{LedgerDoneLaw, LedgerLaw, LedgerShownLaw, MigrateDoneLaw, MigrateLaw, MigrateRefusedLaw}
+use Rattle.xdr_spec.proofs.Decoding.{spells_decoded}
+use Rattle.soroban_top.specs.FirstConflict.{free_of_conflict, stages_in}
+use Rattle.soroban_top.specs.Judged.{as_ledger, ledger_in, set_in, verdicts_in}
+use Rattle.soroban_top.specs.Laws.{AppliedLaw, LedgerDoneLaw, LedgerLaw, LedgerShownLaw, MigrateDoneLaw, MigrateLaw, MigrateRefusedLaw, NoLedgerLaw}
 use Rattle.soroban_top.specs.Migrated.{migrated}
 use Rattle.soroban_top.specs.Outcome.{applied, only_said, outputs_of}
 use Rattle.soroban_top.specs.Product.{file}
@@ -25,6 +29,7 @@ use Rattle.soroban_top.specs.Shown.{any_ledger_in}
 use Rattle.soroban_top.specs.Steps.{◌>>=◌, status_of}
 use Rattle.soroban_top.specs.declared.status.Status.{Status}
 use Rattle.soroban_top.specs.declared.status.Status.TheVariants as status
+use Rattle.soroban_top.proofs.FirstConflicts.{no_conflict_is}
 use Rattle.soroban_top.proofs.Later.{Later, set_file, verdicts_file}
 
 is_refusal : {B : Type 0} (r : Result (Header × LedgerMap) LedgerRefusal) (rest : Header × LedgerMap → Result B Status) (reason : LedgerWhy) (at : ℕ) → ((l : Header × LedgerMap) → status_of (rest l) ≡ status.Ledger reason at → ⊥)
@@ -51,10 +56,50 @@ ledger_law a m bytes given at =
       long = λ name h. cc;
       text = λ name h. cc;
       malformed = λ place why h. cc;
+      conflict = λ stage x y key h. cc;
       done = λ h. cc;
     } in
     rw given.has_ledger (ledger_due true bytes _ at given.are_bytes (λ l. verdicts_file _ later (λ place h. cc) (get m a.verdicts) a.verdicts _
-    (λ v. set_file _ later (get m a.set) a.base64 a.set (λ s. applied (file 3 a.report) (file 4 a.ledger_out) (outputs_of l s a.close_time)))))
+    (λ v. set_file _ later (get m a.set) a.base64 a.set (λ s. applied (file 3 a.report) (file 4 a.ledger_out) (outputs_of l v s a.close_time)))))
+
+is_ledger_status : {B : Type 0} (r : Result (Header × LedgerMap) LedgerRefusal) (rest : Header × LedgerMap → Result B Status) → ((l : Header × LedgerMap) → r ≡ Ok l → ⊥) → (why : LedgerWhy) × (at : ℕ) × (status_of (as_ledger r >>= rest) ≡ status.Ledger why at)
+is_ledger_status (Ok l) rest none = absurd (none l refl)
+is_ledger_status (Err e) rest none = (e.why, e.at, refl)
+
+ledger_refused : {B : Type 0} (r : Result (Header × LedgerMap) LedgerRefusal) (rest : Header × LedgerMap → Result B Status) (l : Header × LedgerMap) (why : LedgerWhy) (at : ℕ) → ((l : Header × LedgerMap) → status_of (rest l) ≡ status.Ledger why at → ⊥)
+    → r ≡ Ok l → status_of (as_ledger r >>= rest) ≡ status.Ledger why at → ⊥
+ledger_refused (Ok x) rest l why at none is h = none x h
+ledger_refused (Err e) rest l why at none is h = cc
+
+no_ledger : {B : Type 0} (bytes : List ℕ) (rest : Header × LedgerMap → Result B Status) → IsBytes bytes → ((why : LedgerWhy) (at : ℕ) (l : Header × LedgerMap) → status_of (rest l) ≡ status.Ledger why at → ⊥)
+    → ((why : LedgerWhy) × (at : ℕ) × (status_of (as_ledger (ledger_of true bytes) >>= rest) ≡ status.Ledger why at)) ↔ (((header : Header) × (entries : LedgerMap) × IsFileOf true bytes header entries) → ⊥)
+no_ledger bytes rest fit none = (
+  λ h is. ledger_refused (ledger_of true bytes) rest (is.0, is.1) h.0 h.1 (none h.0 h.1) (file_is_read true bytes is.0 is.1 is.2) h.2,
+  λ not. is_ledger_status (ledger_of true bytes) rest (λ l e. not (l.0, l.1, file_read true bytes l.0 l.1 fit e)),
+)
+
+pub no_ledger_law : NoLedgerLaw
+unfolding ledger_in
+no_ledger_law a m bytes given =
+    let later : (reason : LedgerWhy) (at : ℕ) → Later (λ s. s ≡ status.Ledger reason at → ⊥) = λ reason at. record {
+      fault = λ name h. cc;
+      long = λ name h. cc;
+      text = λ name h. cc;
+      malformed = λ place why h. cc;
+      conflict = λ stage x y key h. cc;
+      done = λ h. cc;
+    } in
+    rw given.has_ledger (no_ledger bytes _ given.are_bytes (λ reason at l. verdicts_file _ (later reason at) (λ place h. cc) (get m a.verdicts) a.verdicts _
+    (λ v. set_file _ (later reason at) (get m a.set) a.base64 a.set (λ s. applied (file 3 a.report) (file 4 a.ledger_out) (outputs_of l v s a.close_time)))))
+
+pub applied_law : AppliedLaw
+unfolding ledger_in verdicts_in set_in free_of_conflict outputs_of
+applied_law a m header entries verdicts set given free =
+    let ledger = file_is_read true given.ledger header entries given.is_ledger in
+    let read = spells_decoded verdicts_format verdicts_lawful verdicts given.bytes given.spells in
+    let spelled = spells_decoded set_format set_lawful set given.opened_set given.spells_set in
+    let none = (no_conflict_is (stages_in set)).1 free in
+    rw (given.has_ledger, ledger, given.has_verdicts, read, given.has_set, given.opens, spelled, none) refl
 
 -- ---- show
 

@@ -3,6 +3,8 @@ mod Decoding
 mod Later
 mod Ledgers
 mod Due
+mod FirstConflicts
+mod Generated
 mod Made
 mod Leaving
 mod PutTogether

@@ -1,16 +1,23 @@
 -- What a set makes of a ledger, from what its run and the writers give.
-use Rattle.std.proofs.Common.{◌≡◌, ℕ, ◌<◌, ◌^◌, List, Option, IsTrue, ◌∙◌, ap, ap₂, arith}
+use Rattle.std.specs.List.{AllByRecursion}
+use Rattle.std.proofs.Common.{◌≡◌, ℕ, ◌<◌, ◌^◌, List, Option, Ok, Err, IsTrue, map, ap, arith, refl}
 use borrow.Author.Tests.{ltb-true}
-use Rattle.apply_spec.specs.Outputs.{outputs_after, outputs_with}
-use Rattle.apply_spec.specs.Runs.{RunState, new_header, success_preimages}
+use Rattle.apply_spec.specs.Outputs.{Outputs, outputs_after, outputs_with}
+use Rattle.apply_spec.specs.Runs.{new_header}
 use Rattle.invoke_types.specs.declared.success.SuccessPreimage.{SuccessPreimage}
-use Rattle.ledger_spec.specs.LedgerFile.{has_next}
+use Rattle.ledger_spec.specs.LedgerFile.{has_next, ledger_bytes}
+use Rattle.ledger_spec.specs.LedgerMap.{LedgerMap}
 use Rattle.ledger_types.specs.Header.{header_format, header_in}
 use Rattle.ledger_types.specs.declared.header.Header.{Header}
+use Rattle.stage_runs.specs.Conflicts.{IsFirstConflict}
+use Rattle.stage_runs.specs.Runs.{HasNoConflict, RunState}
 use Rattle.tx_results.specs.Report.{report_bytes}
-use Rattle.tx_results.specs.declared.results.ResultSet.{ResultSet}
 use Rattle.tx_results.specs.declared.results.TransactionResultPair.{TransactionResultPair}
+use Rattle.tx_xdr.specs.declared.set.TxSet.{TxSet}
 use Rattle.xdr_spec.specs.Format.{number32, number64}
+use Rattle.soroban_top.specs.FirstConflict.{free_of_conflict, stages_in, unless_found}
+use Rattle.soroban_top.specs.declared.status.Status.TheVariants.{Conflict}
+use Rattle.soroban_top.proofs.FirstConflicts.{first_conflict_is, no_conflict_is}
 
 -- the header of the ledger that follows can be written
 pub new_header_fits : (header : Header) (close_time : ℕ) → header_format.fits header → IsTrue (has_next header) → close_time < 2 ^ 64 → header_format.fits (new_header header close_time)
@@ -19,16 +26,24 @@ new_header_fits header close_time fits next small =
     let below : header.seq < 4000000000 = ltb-true header.seq 4000000000 next in
     (fits.0, (fits.1.0, (omega arith, (small, fits.1.1.1.1))))
 
-pub report_made : (running : RunState) (results : ResultSet) (successes : List (Option SuccessPreimage)) (report : List ℕ) → results.pairs ≡ running.results → successes ≡ success_preimages running → report ≡ report_bytes results successes
-    → report ≡ report_bytes (record { pairs = running.results }) (success_preimages running)
-report_made running results successes report same_results same_successes is =
-    is ∙ ap₂ (λ pairs s. report_bytes (record { pairs = pairs }) s) same_results same_successes
+abbrev pub outputs_made_of : List ℕ → List ℕ → List ℕ → Outputs
+outputs_made_of report ledger lines = record { report = report; ledger = ledger; lines = lines }
 
-pub lines_made : (header given : Header) (running : RunState) (pairs : List TransactionResultPair) (report ledger lines : List ℕ) → given ≡ header → pairs ≡ running.results → report ≡ (outputs_after header running).report → ledger ≡ (outputs_after header running).ledger
-    → lines ≡ (outputs_with given.seq pairs report ledger).lines → lines ≡ (outputs_after header running).lines
-lines_made header given running pairs report ledger lines same_header same_pairs same_report same_ledger is =
-    is
-    ∙ ap (λ (h : Header). (outputs_with h.seq pairs report ledger).lines) same_header
-    ∙ ap (λ p. (outputs_with header.seq p report ledger).lines) same_pairs
-    ∙ ap (λ r. (outputs_with header.seq running.results r ledger).lines) same_report
-    ∙ ap (λ l. (outputs_with header.seq running.results (outputs_after header running).report l).lines) same_ledger
+-- the files and the lines about them
+pub put_together : (seq : ℕ) (pairs : List TransactionResultPair) (report ledger lines r l : List ℕ) → report ≡ r → ledger ≡ l → lines ≡ (outputs_with seq pairs report ledger).lines → outputs_made_of report ledger lines ≡ outputs_with seq pairs r l
+put_together seq pairs report ledger lines r l e f g = rw (g, e, f) refl
+
+-- the outputs of what was applied are those of the run
+pub outputs_applied : (header given : Header) (running : RunState) (entries : LedgerMap) (pairs : List TransactionResultPair) (successes : List (Option SuccessPreimage)) → given ≡ header → entries ≡ running.entries → pairs ≡ map (λ r. r.result) running.results → successes ≡ map (λ r. r.success) running.results
+    → outputs_with given.seq pairs (report_bytes (record { pairs = pairs }) successes) (ledger_bytes given entries) ≡ outputs_after header running
+outputs_applied header given running entries pairs successes e f g h = rw (e, f, g, h) refl
+
+-- a set without a conflict goes on
+pub free_is : (set : TxSet) → AllByRecursion HasNoConflict (stages_in set) → free_of_conflict set ≡ Ok tt
+unfolding free_of_conflict
+free_is set free = ap unless_found ((no_conflict_is (stages_in set)).1 free)
+
+-- a set with a conflict ends with it
+pub conflict_is : (set : TxSet) (stage a b : ℕ) (key : List ℕ) → IsFirstConflict (stages_in set) stage a b key → free_of_conflict set ≡ Err (Conflict stage a b key)
+unfolding free_of_conflict
+conflict_is set stage a b key first = ap unless_found ((first_conflict_is (stages_in set) (record { stage = stage; a = a; b = b; key = key })).1 first)

@@ -4,7 +4,7 @@ use Rattle.std.specs.Prelude.{⊤, nat_lt, if◌then◌else◌}
 use Rattle.std.specs.FinMap.{get}
 use Rattle.base64_text.specs.Text.{bytes_in}
 use Rattle.command_words.specs.declared.request.Request.{Request}
-use Rattle.command_words.specs.declared.request.Request.TheVariants.{Apply, Show, Vet, Migrate}
+use Rattle.command_words.specs.declared.request.Request.TheVariants.{Apply, Show, Vet, Migrate, Gen}
 use Rattle.command_words.specs.declared.request.ShowKind.{ShowKind}
 use Rattle.command_words.specs.declared.request.ShowKind.TheVariants as kinds
 use Rattle.edge_io.specs.Contents.{Contents, FileMap}
@@ -15,17 +15,18 @@ use Rattle.module_vet.specs.Verdict.{verdict_of}
 use Rattle.module_loader.specs.declared.error.Flaw.{Flaw}
 use Rattle.module_loader.specs.declared.error.Flaw.TheVariants as flaw
 use Rattle.module_vet.specs.declared.Sizes.{Sizes}
-use Rattle.tx_xdr.specs.SetBounds.{today, whole}
 use Rattle.tx_xdr.specs.Set.{set_format}
 use Rattle.tx_xdr.specs.Envelope.{envelope_format}
+use Rattle.tx_xdr.specs.declared.set.TxSet.{TxSet}
 use Rattle.value_types.specs.Formats.{scval_format}
 use Rattle.xdr_spec.specs.Decoded.{decoded}
 use Rattle.xdr_spec.specs.declared.XdrErr.{XdrErr}
 use Rattle.soroban_top.specs.Asked.{reads_named}
+use Rattle.soroban_top.specs.FirstConflict.{FoundConflict, first_conflict, free_of_conflict, stages_in, unless_found}
 use Rattle.soroban_top.specs.Judged.{AreThere, as_bytes, as_ledger, as_spelled, as_verdicts, bytes_of, content_of, ledger_at, ledger_in, opened, set_at, set_in, set_opened, verdicts_at, verdicts_in}
 use Rattle.soroban_top.specs.Migrated.{any_ledger_at}
 use Rattle.soroban_top.specs.Outcome.{due}
-use Rattle.soroban_top.specs.Shown.{any_envelope_in, any_ledger_in, any_set_in, shown, shown_at, shown_opened, value_in}
+use Rattle.soroban_top.specs.Shown.{any_ledger_in, envelope_in, shown, shown_at, shown_opened, value_in}
 use Rattle.soroban_top.specs.Steps.{◌>>=◌, UnlessFault, status_of}
 use Rattle.soroban_top.specs.Vetted.{as_vetted, vetted, vetted_at}
 use Rattle.soroban_top.specs.declared.status.Status.{Status}
@@ -74,7 +75,15 @@ verdicts_judged bytes = as_verdicts_judged (decoded verdicts_format bytes)
 
 set_judged : (bytes : List ℕ) → IsNoFault (status_of (set_in bytes))
 unfolding set_in
-set_judged bytes = as_spelled_judged (decoded (set_format today) bytes)
+set_judged bytes = as_spelled_judged (decoded set_format bytes)
+
+unless_found_judged : (o : Option FoundConflict) → IsNoFault (status_of (unless_found o))
+unless_found_judged None = tt
+unless_found_judged (Some f) = tt
+
+conflict_judged : (set : TxSet) → IsNoFault (status_of (free_of_conflict set))
+unfolding free_of_conflict
+conflict_judged set = unless_found_judged (first_conflict (stages_in set))
 
 -- text in Base64 is no fault
 bytes_judged : (name : List ℕ) (o : Option (List ℕ)) → IsNoFault (status_of (as_bytes name o))
@@ -99,9 +108,9 @@ unfolding vetted
 vetted_judged bytes = as_vetted_judged (verdict_of bytes)
 
 shown_judged : (kind : ShowKind) (bytes : List ℕ) → IsNoFault (status_of (shown kind bytes))
-unfolding any_set_in any_envelope_in any_ledger_in value_in
-shown_judged kinds.Set bytes = both (any_set_in bytes) _ (as_spelled_judged (decoded (set_format whole) bytes)) (λ set. tt)
-shown_judged kinds.Envelope bytes = both (any_envelope_in bytes) _ (as_spelled_judged (decoded (envelope_format whole) bytes)) (λ envelope. tt)
+unfolding set_in envelope_in any_ledger_in value_in
+shown_judged kinds.Set bytes = both (set_in bytes) _ (as_spelled_judged (decoded set_format bytes)) (λ set. tt)
+shown_judged kinds.Envelope bytes = both (envelope_in bytes) _ (as_spelled_judged (decoded envelope_format bytes)) (λ envelope. tt)
 shown_judged kinds.Ledger bytes = both (any_ledger_in bytes) _ (as_ledger_judged (ledger_of false bytes)) (λ ledger. tt)
 shown_judged kinds.Value bytes = both (value_in bytes) _ (as_spelled_judged (decoded scval_format bytes)) (λ value. tt)
 
@@ -117,13 +126,14 @@ no_fault None m there = tt
 no_fault (Some (Apply a)) m there =
     both (ledger_at m a.ledger) _ (judged m a.ledger ledger_in there.0 ledger_judged)
     (λ ledger. both (verdicts_at m a.verdicts) _ (judged m a.verdicts verdicts_in there.1.0 verdicts_judged)
-    (λ verdicts. both (set_at m a.base64 a.set) _ (judged m a.set (set_opened a.base64 a.set) there.1.1.0 (set_opened_judged a.base64 a.set)) (λ set. tt)))
+    (λ verdicts. both (set_at m a.base64 a.set) _ (judged m a.set (set_opened a.base64 a.set) there.1.1.0 (set_opened_judged a.base64 a.set)) (λ set. both (free_of_conflict set) _ (conflict_judged set) (λ free. tt))))
 no_fault (Some (Show s)) m there =
     both (shown_at m s) _ (judged m s.file (shown_opened s.base64 s.kind s.file) there.0 (shown_opened_judged s.base64 s.kind s.file)) (λ lines. tt)
 no_fault (Some (Vet v)) m there =
     both (vetted_at m v.module_file) _ (judged m v.module_file vetted there.0 vetted_judged) (λ lines. tt)
 no_fault (Some (Migrate g)) m there =
     both (any_ledger_at m g.ledger) _ (judged m g.ledger any_ledger_in there.0 any_ledger_judged) (λ ledger. tt)
+no_fault (Some (Gen g)) m there = tt
 
 unless : (P : Type 0) (status : Status) → IsNoFault status → UnlessFault status P → P
 unless P (Fault name) none h = absurd none

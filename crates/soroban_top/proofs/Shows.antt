@@ -2,17 +2,16 @@
 use Rattle.std.proofs.Common.{◌≡◌, Result, Ok, Err, refl}
 use Rattle.show_lines.specs.SetLines.{envelope_line, set_lines}
 use Rattle.show_lines.specs.LedgerLines.{value_line}
-use Rattle.tx_xdr.specs.SetBounds.{whole}
 use Rattle.tx_xdr.specs.Set.{set_format, set_lawful}
 use Rattle.tx_xdr.specs.Envelope.{envelope_format, envelope_lawful}
 use Rattle.value_types.specs.Formats.{scval_format}
 use Rattle.value_types.proofs.Lawful.{scval_lawful}
 use Rattle.xdr_spec.specs.Decoded.{decoded}
 use Rattle.xdr_spec.specs.declared.XdrErr.{XdrErr}
-use Rattle.soroban_top.specs.Judged.{as_spelled}
+use Rattle.soroban_top.specs.Judged.{as_spelled, set_in}
 use Rattle.soroban_top.specs.Laws.{EnvelopeDoneLaw, EnvelopeMalformedLaw, SetDoneLaw, SetMalformedLaw, ValueDoneLaw, ValueMalformedLaw}
 use Rattle.soroban_top.specs.Outcome.{only_said}
-use Rattle.soroban_top.specs.Shown.{any_envelope_in, any_set_in, value_in}
+use Rattle.soroban_top.specs.Shown.{envelope_in, value_in}
 use Rattle.soroban_top.specs.Steps.{◌>>=◌, status_of}
 use Rattle.soroban_top.proofs.Statuses.{done_due, malformed_due, spelled_status}
 
@@ -22,24 +21,24 @@ two_steps (Ok x) f made = refl
 two_steps (Err e) f made = refl
 
 pub set_malformed : SetMalformedLaw
-unfolding any_set_in
+unfolding set_in
 set_malformed s m bytes kind given at why =
-    rw (given.has_text, given.opens, kind, two_steps (decoded (set_format whole) bytes) set_lines only_said) (malformed_due (set_format whole) (set_lawful whole) bytes set_lines at why given.are_bytes)
+    rw (given.has_text, given.opens, kind, two_steps (decoded set_format bytes) set_lines only_said) (malformed_due set_format set_lawful bytes set_lines at why given.are_bytes)
 
 pub set_done : SetDoneLaw
-unfolding any_set_in
+unfolding set_in
 set_done s m bytes kind given =
-    rw (given.has_text, given.opens, kind, two_steps (decoded (set_format whole) bytes) set_lines only_said) (done_due (set_format whole) (set_lawful whole) bytes set_lines given.are_bytes)
+    rw (given.has_text, given.opens, kind, two_steps (decoded set_format bytes) set_lines only_said) (done_due set_format set_lawful bytes set_lines given.are_bytes)
 
 pub envelope_malformed : EnvelopeMalformedLaw
-unfolding any_envelope_in
+unfolding envelope_in
 envelope_malformed s m bytes kind given at why =
-    rw (given.has_text, given.opens, kind, two_steps (decoded (envelope_format whole) bytes) envelope_line only_said) (malformed_due (envelope_format whole) (envelope_lawful whole) bytes envelope_line at why given.are_bytes)
+    rw (given.has_text, given.opens, kind, two_steps (decoded envelope_format bytes) envelope_line only_said) (malformed_due envelope_format envelope_lawful bytes envelope_line at why given.are_bytes)
 
 pub envelope_done : EnvelopeDoneLaw
-unfolding any_envelope_in
+unfolding envelope_in
 envelope_done s m bytes kind given =
-    rw (given.has_text, given.opens, kind, two_steps (decoded (envelope_format whole) bytes) envelope_line only_said) (done_due (envelope_format whole) (envelope_lawful whole) bytes envelope_line given.are_bytes)
+    rw (given.has_text, given.opens, kind, two_steps (decoded envelope_format bytes) envelope_line only_said) (done_due envelope_format envelope_lawful bytes envelope_line given.are_bytes)
 
 pub value_malformed : ValueMalformedLaw
 unfolding value_in

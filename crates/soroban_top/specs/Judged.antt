@@ -9,7 +9,6 @@ use Rattle.ledger_spec.specs.declared.LedgerRefusal.{LedgerRefusal}
 use Rattle.ledger_types.specs.Verdicts.{verdicts_format}
 use Rattle.ledger_types.specs.declared.header.Header.{Header}
 use Rattle.ledger_types.specs.declared.verdicts.Verdicts.{Verdicts}
-use Rattle.tx_xdr.specs.SetBounds.{today}
 use Rattle.tx_xdr.specs.Set.{set_format}
 use Rattle.tx_xdr.specs.declared.set.TxSet.{TxSet}
 use Rattle.xdr_spec.specs.Decoded.{decoded}
@@ -78,9 +77,9 @@ abbrev pub unread_ledger : LedgerErr → Status
 unread_ledger (ledger_errors.Refused refusal) = status.Ledger refusal.why refusal.at
 unread_ledger ledger_errors.NoMemory = status.NoMemory
 
--- a set that runs today
+-- a set
 unfoldable pub set_in : List ℕ → Result TxSet Status
-set_in bytes = as_spelled (decoded (set_format today) bytes)
+set_in bytes = as_spelled (decoded set_format bytes)
 
 -- the same, of a file that may be base64 text
 abbrev pub set_opened : Bool → List ℕ → List ℕ → Result TxSet Status

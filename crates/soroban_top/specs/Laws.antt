@@ -1,8 +1,11 @@
 -- The outcomes of the commands, in terms of the spellings (RFC 4506) of their files' bytes alone.
-use Rattle.std.specs.Prelude.{◌≡◌, ◌↔◌, ℕ, false, List, Result, Ok, Some}
+use Rattle.std.specs.Prelude.{◌≡◌, ◌↔◌, ◌≤◌, ℕ, true, false, List, [], ◌∷◌, Result, Ok, Some, length}
+use Rattle.std.specs.List.{AllByRecursion}
+use Rattle.apply_spec.specs.Outputs.{outputs}
 use Rattle.command_words.specs.declared.request.ApplyRequest.{ApplyRequest}
+use Rattle.command_words.specs.declared.request.GenRequest.{GenRequest}
 use Rattle.command_words.specs.declared.request.MigrateRequest.{MigrateRequest}
-use Rattle.command_words.specs.declared.request.Request.TheVariants.{Apply, Show, Vet, Migrate}
+use Rattle.command_words.specs.declared.request.Request.TheVariants.{Apply, Show, Vet, Migrate, Gen}
 use Rattle.command_words.specs.declared.request.ShowKind.{ShowKind}
 use Rattle.command_words.specs.declared.request.ShowKind.TheVariants as kinds
 use Rattle.command_words.specs.declared.request.ShowRequest.{ShowRequest}
@@ -10,6 +13,7 @@ use Rattle.command_words.specs.declared.request.VetRequest.{VetRequest}
 use Rattle.edge_io.specs.Contents.{FileMap}
 use Rattle.ledger_file.specs.FileOf.{IsFileOf}
 use Rattle.ledger_spec.specs.LedgerMap.{LedgerMap}
+use Rattle.ledger_spec.specs.declared.LedgerWhy.{LedgerWhy}
 use Rattle.ledger_spec.specs.declared.LedgerWhy.TheVariants as ledger_why
 use Rattle.ledger_types.specs.File.{file_format}
 use Rattle.ledger_types.specs.Verdicts.{verdicts_format}
@@ -18,18 +22,24 @@ use Rattle.ledger_types.specs.declared.verdicts.Verdicts.{Verdicts}
 use Rattle.module_vet.specs.Verdict.{IsVerdict}
 use Rattle.module_loader.specs.declared.error.Flaw.{Flaw}
 use Rattle.module_vet.specs.declared.Sizes.{Sizes}
-use Rattle.tx_xdr.specs.SetBounds.{today, whole}
+use Rattle.set_generator.specs.GeneratedLedger.{generated_entries, generated_header}
+use Rattle.set_generator.specs.GeneratedSet.{generated_set}
+use Rattle.stage_runs.specs.Conflicts.{IsFirstConflict}
+use Rattle.stage_runs.specs.Runs.{HasNoConflict}
 use Rattle.tx_xdr.specs.Set.{set_format}
 use Rattle.tx_xdr.specs.Envelope.{envelope_format}
+use Rattle.tx_xdr.specs.Stages.{stages_of}
 use Rattle.tx_xdr.specs.declared.set.TxSet.{TxSet}
 use Rattle.value_types.specs.Formats.{scval_format}
 use Rattle.xdr_spec.specs.Format.{Format, IsBytes}
 use Rattle.xdr_spec.specs.Refusal.{Spells, Refuses}
 use Rattle.xdr_spec.specs.declared.Why.{Why}
+use Rattle.soroban_top.specs.FirstConflict.{stages_in}
+use Rattle.soroban_top.specs.Generating.{job, made_line}
 use Rattle.soroban_top.specs.Judged.{content_of, ledger_at, opened}
 use Rattle.soroban_top.specs.Migrated.{migrated}
-use Rattle.soroban_top.specs.Outcome.{due, only_said, outcome_of}
-use Rattle.soroban_top.specs.Product.{file}
+use Rattle.soroban_top.specs.Outcome.{applied, due, only_said, outcome_of}
+use Rattle.soroban_top.specs.Product.{Made, file}
 use Rattle.soroban_top.specs.Steps.{◌>>=◌}
 use Rattle.soroban_top.specs.Vetted.{as_vetted}
 use Rattle.soroban_top.specs.declared.status.Status.{Status}
@@ -67,20 +77,53 @@ abbrev pub LedgerLaw : Type 0
 LedgerLaw = (a : ApplyRequest) (m : FileMap) (bytes : List ℕ) → HasLedgerFile a m bytes → (at : ℕ)
     → (due_of a m ≡ status.Ledger ledger_why.Xdr at) ↔ ((why : Why) × Refuses file_format bytes at why)
 
+-- Ledger is due, with any reason, exactly if the bytes are not the file of a ledger that another ledger may follow.
+abbrev pub NoLedgerLaw : Type 0
+NoLedgerLaw = (a : ApplyRequest) (m : FileMap) (bytes : List ℕ) → HasLedgerFile a m bytes
+    → ((why : LedgerWhy) × (at : ℕ) × (due_of a m ≡ status.Ledger why at)) ↔ (¬ ((header : Header) × (entries : LedgerMap) × IsFileOf true bytes header entries))
+
 -- Verdicts is due exactly if the bytes are refused, at that offset.
 abbrev pub VerdictsLaw : Type 0
 VerdictsLaw = (a : ApplyRequest) (m : FileMap) (bytes : List ℕ) → HasLedger a m bytes → (at : ℕ)
     → (due_of a m ≡ status.Verdicts at) ↔ ((why : Why) × Refuses verdicts_format bytes at why)
 
--- Malformed is due exactly if the bytes spell no set that runs today, with the offset and the reason of their refusal.
+-- Malformed is due exactly if the bytes spell no set, with the offset and the reason of their refusal.
 abbrev pub MalformedLaw : Type 0
 MalformedLaw = (a : ApplyRequest) (m : FileMap) (bytes : List ℕ) → HasInputs a m bytes → (at : ℕ) (why : Why)
-    → (due_of a m ≡ status.Malformed at why) ↔ Refuses (set_format today) bytes at why
+    → (due_of a m ≡ status.Malformed at why) ↔ Refuses set_format bytes at why
 
--- Done is due exactly if they spell one.
+-- Conflict is due exactly if they spell a set, and this is its first conflict.
+abbrev pub ConflictLaw : Type 0
+ConflictLaw = (a : ApplyRequest) (m : FileMap) (bytes : List ℕ) → HasInputs a m bytes → (stage x y : ℕ) (key : List ℕ)
+    → (due_of a m ≡ status.Conflict stage x y key) ↔ ((set : TxSet) × Spells set_format set bytes × IsFirstConflict (stages_in set) stage x y key)
+
+-- no stage of the set has a conflict
+abbrev pub IsFree : TxSet → Type 0
+IsFree set = AllByRecursion HasNoConflict (stages_in set)
+
+-- Done is due exactly if they spell a set without a conflict.
 abbrev pub DoneLaw : Type 0
 DoneLaw = (a : ApplyRequest) (m : FileMap) (bytes : List ℕ) → HasInputs a m bytes
-    → (due_of a m ≡ status.Done) ↔ ((set : TxSet) × Spells (set_format today) set bytes)
+    → (due_of a m ≡ status.Done) ↔ ((set : TxSet) × Spells set_format set bytes × IsFree set)
+
+-- the three files are those of this ledger, of these verdicts and of this set
+pub record AreFilesOf (a : ApplyRequest) (m : FileMap) (header : Header) (entries : LedgerMap) (verdicts : Verdicts) (set : TxSet) : Type 0 where
+  pub ledger : List ℕ
+  pub has_ledger : content_of m a.ledger ≡ Ok ledger
+  pub is_ledger : IsFileOf true ledger header entries
+  pub bytes : List ℕ
+  pub has_verdicts : content_of m a.verdicts ≡ Ok bytes
+  pub spells : Spells verdicts_format verdicts bytes
+  pub text : List ℕ
+  pub has_set : content_of m a.set ≡ Ok text
+  pub opened_set : List ℕ
+  pub opens : opened a.base64 a.set text ≡ Ok opened_set
+  pub spells_set : Spells set_format set opened_set
+
+-- Of a set without a conflict, the outputs over the ledger are stored and printed.
+abbrev pub AppliedLaw : Type 0
+AppliedLaw = (a : ApplyRequest) (m : FileMap) (header : Header) (entries : LedgerMap) (verdicts : Verdicts) (set : TxSet) → AreFilesOf a m header entries verdicts set → IsFree set
+    → outcome_of (Apply a) m ≡ Ok (applied (file 3 a.report) (file 4 a.ledger_out) (outputs header verdicts entries set a.close_time))
 
 -- ---- show and vet
 
@@ -105,18 +148,17 @@ abbrev pub ShownDone : ShowKind → {A : Type 0} → Format A → Type 0
 ShownDone kind {A} F = (s : ShowRequest) (m : FileMap) (bytes : List ℕ) → s.kind ≡ kind → HasShown s m bytes
     → (due_of_show s m ≡ status.Done) ↔ ((x : A) × Spells F x bytes)
 
--- Sets and envelopes are those of the whole grammar.
 abbrev pub SetMalformedLaw : Type 0
-SetMalformedLaw = ShownMalformed kinds.Set (set_format whole)
+SetMalformedLaw = ShownMalformed kinds.Set set_format
 
 abbrev pub SetDoneLaw : Type 0
-SetDoneLaw = ShownDone kinds.Set (set_format whole)
+SetDoneLaw = ShownDone kinds.Set set_format
 
 abbrev pub EnvelopeMalformedLaw : Type 0
-EnvelopeMalformedLaw = ShownMalformed kinds.Envelope (envelope_format whole)
+EnvelopeMalformedLaw = ShownMalformed kinds.Envelope envelope_format
 
 abbrev pub EnvelopeDoneLaw : Type 0
-EnvelopeDoneLaw = ShownDone kinds.Envelope (envelope_format whole)
+EnvelopeDoneLaw = ShownDone kinds.Envelope envelope_format
 
 -- For a shown ledger, Ledger with reason Xdr is due exactly if the bytes are refused, at that offset; Done is due exactly if they
 -- are the file of a ledger.
@@ -160,3 +202,21 @@ MigrateDoneLaw = (g : MigrateRequest) (m : FileMap) (bytes : List ℕ) → HasMi
 abbrev pub MigrateLaw : Type 0
 MigrateLaw = (g : MigrateRequest) (m : FileMap) (bytes : List ℕ) (header : Header) (entries : LedgerMap) → content_of m g.ledger ≡ Ok bytes → IsFileOf false bytes header entries
     → outcome_of (Migrate g) m ≡ Ok (migrated (file 1 g.ledger_out) (header, entries))
+
+-- ---- gen
+
+-- what is stored and printed: the files of the generated set, of the generated ledger and of no verdicts, and how many
+-- transactions and stages the set has
+pub record IsGenerated (g : GenRequest) (made : Made) : Type 0 where
+  pub set : List ℕ
+  pub ledger : List ℕ
+  pub verdicts : List ℕ
+  pub stores : made.stores ≡ job (file 0 g.set) set ∷ job (file 1 g.ledger) ledger ∷ job (file 2 g.verdicts) verdicts ∷ []
+  pub spells_set : Spells set_format (generated_set g.count g.seed) set
+  pub is_ledger : IsFileOf true ledger generated_header generated_entries
+  pub spells_verdicts : Spells verdicts_format (record { pairs = [] }) verdicts
+  pub says : made.says ≡ made_line g.count (length (stages_of (generated_set g.count g.seed)))
+
+-- The generated files are stored, whatever files there are.
+abbrev pub GenLaw : Type 0
+GenLaw = (g : GenRequest) (m : FileMap) → g.count ≤ 100000 → (made : Made) × (outcome_of (Gen g) m ≡ Ok made) × IsGenerated g made

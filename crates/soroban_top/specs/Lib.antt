@@ -1,6 +1,9 @@
 pub mod Asked
+pub mod ConflictLaws
 pub mod Counts
 pub mod Ends
+pub mod FirstConflict
+pub mod Generating
 pub mod Judged
 pub mod Laws
 pub mod Left

@@ -1,6 +1,7 @@
 -- The lines of each status, and how much of them was printed (own).
 use Rattle.std.specs.Prelude.{◌≡◌, ◌⊎◌, ℕ, List, [], ◌++◌, take, Option, Some, None, Result, Ok, Err, codes, decimal, ⊤}
 use Rattle.edge_io.specs.Counts.{Rose}
+use Rattle.hex.specs.Hex.{encode_lower}
 use Rattle.edge_io.specs.Text.{extended}
 use Rattle.edge_io.specs.declared.failed.EdgeErr.{EdgeErr}
 use Rattle.edge_io.specs.declared.failed.EdgeErr.TheVariants as edge
@@ -8,7 +9,7 @@ use Rattle.soroban_top.specs.Steps.{status_of}
 use Rattle.ledger_spec.specs.declared.LedgerWhy.{LedgerWhy}
 use Rattle.ledger_spec.specs.declared.LedgerWhy.TheVariants as why
 use Rattle.soroban_top.specs.declared.status.Status.{Status}
-use Rattle.soroban_top.specs.declared.status.Status.TheVariants.{Done, Usage, Fault, TooLong, Ledger, Verdicts, Malformed, NotBase64, NotAModule, Ill, Unlinked, NoMemory}
+use Rattle.soroban_top.specs.declared.status.Status.TheVariants.{Done, Usage, Fault, TooLong, Ledger, Verdicts, Malformed, NotBase64, Conflict, NotAModule, Ill, Unlinked, NoMemory}
 use Rattle.xdr_spec.specs.declared.Why.{Why}
 use Rattle.xdr_spec.specs.declared.Why.TheVariants.{End, Padding, Boolean, Tag, Limit, Depth, Trailing}
 
@@ -36,6 +37,11 @@ abbrev pub ill_line : Option ℕ → List ℕ
 ill_line None = codes "ill typed: module\n"
 ill_line (Some func) = codes "ill typed: function " ++ decimal func ++ codes "\n"
 
+-- the line of a conflict: its stage, its clusters, and the XDR bytes of the key in hex
+abbrev pub conflict_line : ℕ → ℕ → ℕ → List ℕ → List ℕ
+conflict_line stage a b key =
+    codes "conflict: stage " ++ decimal stage ++ codes ", clusters " ++ decimal a ++ codes " and " ++ decimal b ++ codes ", key " ++ encode_lower key ++ codes "\n"
+
 -- the line of a status, if the command has no lines of its own
 abbrev pub line_of : Status → List ℕ
 line_of Done = []
@@ -46,6 +52,7 @@ line_of (Ledger why at) = number_of why ++ decimal at ++ codes "\n"
 line_of (Verdicts at) = codes "verdicts refused at " ++ decimal at ++ codes "\n"
 line_of (Malformed at why) = codes "refused at " ++ decimal at ++ name_of why
 line_of (NotBase64 name) = codes "not base64: " ++ name ++ codes "\n"
+line_of (Conflict stage a b key) = conflict_line stage a b key
 line_of NotAModule = codes "not a module\n"
 line_of (Ill func) = ill_line func
 line_of (Unlinked k) = codes "unlinked: import " ++ decimal k ++ codes "\n"
@@ -61,6 +68,7 @@ code_of (Ledger why at) = 3
 code_of (Verdicts at) = 3
 code_of (Malformed at why) = 1
 code_of (NotBase64 name) = 1
+code_of (Conflict stage a b key) = 1
 code_of NotAModule = 1
 code_of (Ill func) = 1
 code_of (Unlinked k) = 1

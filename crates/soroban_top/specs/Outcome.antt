@@ -2,11 +2,14 @@
 use Rattle.std.specs.Prelude.{◌≡◌, ℕ, List, [], ◌∷◌, Option, Some, None, Result, Ok, Err, ⊤}
 use Rattle.apply_spec.specs.Outputs.{Outputs, outputs}
 use Rattle.command_words.specs.declared.request.Request.{Request}
-use Rattle.command_words.specs.declared.request.Request.TheVariants.{Apply, Show, Vet, Migrate}
+use Rattle.command_words.specs.declared.request.Request.TheVariants.{Apply, Show, Vet, Migrate, Gen}
 use Rattle.edge_io.specs.Contents.{FileMap}
 use Rattle.ledger_spec.specs.LedgerMap.{LedgerMap}
 use Rattle.ledger_types.specs.declared.header.Header.{Header}
+use Rattle.ledger_types.specs.declared.verdicts.Verdicts.{Verdicts}
 use Rattle.tx_xdr.specs.declared.set.TxSet.{TxSet}
+use Rattle.soroban_top.specs.FirstConflict.{free_of_conflict}
+use Rattle.soroban_top.specs.Generating.{generated}
 use Rattle.soroban_top.specs.Judged.{ledger_at, verdicts_at, set_at}
 use Rattle.soroban_top.specs.Migrated.{any_ledger_at, migrated}
 use Rattle.soroban_top.specs.Product.{Made, File, file}
@@ -27,17 +30,18 @@ applied report ledger_out made = record {
 abbrev pub only_said : List ℕ → Made
 only_said lines = record { stores = []; says = lines }
 
--- the outputs of a set over a ledger, at a close time
-unfoldable pub outputs_of : Header × LedgerMap → TxSet → ℕ → Outputs
-outputs_of ledger set close_time = outputs ledger.0 ledger.1 set close_time
+-- the outputs of a set over a ledger, with these verdicts, at a close time
+unfoldable pub outputs_of : Header × LedgerMap → Verdicts → TxSet → ℕ → Outputs
+outputs_of ledger verdicts set close_time = outputs ledger.0 verdicts ledger.1 set close_time
 
--- The outcome of a command: each file is checked before the next is read.
+-- The outcome of a command: each file is checked before the next is read. A set is run only if none of its stages has a conflict.
 abbrev pub outcome_of : Request → FileMap → Result Made Status
 outcome_of (Apply a) m = do
   ledger ← ledger_at m a.ledger
   verdicts ← verdicts_at m a.verdicts
   set ← set_at m a.base64 a.set
-  Ok (applied (file 3 a.report) (file 4 a.ledger_out) (outputs_of ledger set a.close_time))
+  _ ← free_of_conflict set
+  Ok (applied (file 3 a.report) (file 4 a.ledger_out) (outputs_of ledger verdicts set a.close_time))
 outcome_of (Show s) m = do
   lines ← shown_at m s
   Ok (only_said lines)
@@ -47,6 +51,7 @@ outcome_of (Vet v) m = do
 outcome_of (Migrate g) m = do
   ledger ← any_ledger_at m g.ledger
   Ok (migrated (file 1 g.ledger_out) ledger)
+outcome_of (Gen g) m = Ok (generated g)
 
 -- the outcome of the words
 abbrev pub outcome_if : Option Request → FileMap → Result Made Status

@@ -1,5 +1,5 @@
 -- The lines of `show` for a file's bytes (own).
-use Rattle.std.specs.Prelude.{ℕ, Bool, false, List, Result, Ok, Err}
+use Rattle.std.specs.Prelude.{ℕ, Bool, false, List, Result, Ok}
 use Rattle.command_words.specs.declared.request.ShowKind.{ShowKind}
 use Rattle.command_words.specs.declared.request.ShowKind.TheVariants as kinds
 use Rattle.command_words.specs.declared.request.ShowRequest.{ShowRequest}
@@ -9,26 +9,19 @@ use Rattle.ledger_spec.specs.LedgerMap.{LedgerMap}
 use Rattle.ledger_types.specs.declared.header.Header.{Header}
 use Rattle.show_lines.specs.SetLines.{envelope_line, set_lines}
 use Rattle.show_lines.specs.LedgerLines.{ledger_lines, value_line}
-use Rattle.tx_xdr.specs.SetBounds.{whole}
-use Rattle.tx_xdr.specs.Set.{set_format}
 use Rattle.tx_xdr.specs.Envelope.{envelope_format}
-use Rattle.tx_xdr.specs.declared.set.TxSet.{TxSet}
 use Rattle.tx_xdr.specs.declared.envelope.Envelope.{Envelope}
 use Rattle.value_types.specs.Formats.{scval_format}
 use Rattle.value_types.specs.declared.value.ScVal.{ScVal}
 use Rattle.xdr_spec.specs.Decoded.{decoded}
-use Rattle.soroban_top.specs.Judged.{as_ledger, as_spelled, content_of, opened}
+use Rattle.soroban_top.specs.Judged.{as_ledger, as_spelled, content_of, opened, set_in}
 use Rattle.soroban_top.specs.Steps.{◌>>=◌}
 use Rattle.soroban_top.specs.declared.status.Status.{Status}
 
 -- ---- what the bytes spell
 
--- a set of the whole grammar
-unfoldable pub any_set_in : List ℕ → Result TxSet Status
-any_set_in bytes = as_spelled (decoded (set_format whole) bytes)
-
-unfoldable pub any_envelope_in : List ℕ → Result Envelope Status
-any_envelope_in bytes = as_spelled (decoded (envelope_format whole) bytes)
+unfoldable pub envelope_in : List ℕ → Result Envelope Status
+envelope_in bytes = as_spelled (decoded envelope_format bytes)
 
 -- any ledger, also one that no ledger may follow
 unfoldable pub any_ledger_in : List ℕ → Result (Header × LedgerMap) Status
@@ -41,10 +34,10 @@ value_in bytes = as_spelled (decoded scval_format bytes)
 
 abbrev pub shown : ShowKind → List ℕ → Result (List ℕ) Status
 shown kinds.Set bytes = do
-  set ← any_set_in bytes
+  set ← set_in bytes
   Ok (set_lines set)
 shown kinds.Envelope bytes = do
-  envelope ← any_envelope_in bytes
+  envelope ← envelope_in bytes
   Ok (envelope_line envelope)
 shown kinds.Ledger bytes = do
   ledger ← any_ledger_in bytes

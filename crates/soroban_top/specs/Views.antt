@@ -1,6 +1,8 @@
 -- The code's values as plain data (own).
 use Rattle.std.specs.Prelude.{List, map}
+use Rattle.apply_spec.specs.Outputs.{Outputs}
 use Rattle.soroban_top.specs.Product.{File, Job, Made}
+use Rattle.soroban_top.specs.declared.outputs.Outputs as code
 use Rattle.soroban_top.specs.declared.product.FileArg.{FileArg}
 use Rattle.soroban_top.specs.declared.product.OutputFile.{OutputFile}
 use Rattle.soroban_top.specs.declared.product.Product.{Product}
@@ -20,3 +22,7 @@ targets_of = map (λ (s : OutputFile). file_of s.file)
 
 abbrev pub made_of : Product → Made
 made_of p = record { stores = jobs_of p.stores.items; says = p.says.items }
+
+-- the report, the new ledger's file, and the lines
+abbrev pub outputs_in : code.Outputs → Outputs
+outputs_in o = record { report = o.report.items; ledger = o.ledger.items; lines = o.lines.items }

@@ -1,28 +1,32 @@
 //! The command `apply`: applies a transaction set to a ledger.
 
-ghost use Rattle.std.specs.Prelude.{◌≡◌, [], ◌∷◌, IfOk, IfErr, IfSome};
+ghost use Rattle.std.specs.Prelude.{◌≡◌, ◌≤◌, [], ◌∷◌, IfOk, IfErr, IfSome};
 ghost use Rattle.command_words.specs.declared.request.Request.TheVariants.{Apply as Asked};
 ghost use Rattle.soroban_top.specs.Asked.{reads_of, writes_of};
 ghost use Rattle.soroban_top.specs.Counts.{HasCause, NoLower, SameCounts};
 ghost use Rattle.soroban_top.specs.Outcome.{applied, outcome_of};
 ghost use Rattle.soroban_top.specs.Product.{file};
 ghost use Rattle.soroban_top.specs.Steps.{Gives, GivesExactly, UnlessFault, status_of};
-ghost use Rattle.soroban_top.specs.Views.{made_of, targets_of};
+ghost use Rattle.soroban_top.specs.Views.{made_of, outputs_in, targets_of};
 
 use crate::judged::{read_ledger, read_set, read_verdicts};
-use crate::outputs::{Outputs, make_outputs};
+use crate::outputs::{Outputs, Run, make_outputs};
 use crate::product::{LEDGER, LEDGER_OUT, REPORT, SET, VERDICTS};
 use crate::{FileArg, OutputFile, Product, Status};
 use command_words::ApplyRequest;
-use edge_io::Files;
+use edge_io::{Files, Gate};
 use std::alloc::{AllocError, Global};
+use std::thread::Threads;
 
 /// Reads and checks the three files, and makes the report, the new ledger and the lines.
-pub fn apply<'a, F: Files>(
+pub fn apply<'a, R: Threads + Sync, F: Files, G: Gate + Sync>(
+    rt: &R,
     alloc: Global,
     files: &mut F,
     request: &'a ApplyRequest,
+    gate: &G,
 ) -> Result<Product<'a>, Status>
+    requires workers { (1 ≤ request.now.workers) × (request.now.workers ≤ 64) }
     ensures given { IfSome (F.contents files.old) (λ m. Gives made_of result (outcome_of (Asked request.now) m)) }
     ensures targets { IfOk result (λ p. targets_of p.stores.items ≡ writes_of (Asked request.now)) }
     ensures same { F.contents files.new ≡ F.contents files.old }
@@ -34,9 +38,15 @@ pub fn apply<'a, F: Files>(
         GivesExactly made_of result (outcome_of (Asked request.now) m)) }
 {
     let ledger = read_ledger(alloc, files, LEDGER, &request.ledger)?;
-    let _verdicts = read_verdicts(alloc, files, VERDICTS, &request.verdicts)?;
+    let verdicts = read_verdicts(alloc, files, VERDICTS, &request.verdicts)?;
     let set = read_set(alloc, files, SET, &request.set, request.base64)?;
-    let outputs = make_outputs(alloc, ledger, &set, request.close_time)?;
+    let run = Run {
+        set: &set,
+        close_time: request.close_time,
+        verdicts: &verdicts,
+        workers: request.workers as usize,
+    };
+    let outputs = make_outputs(rt, alloc, ledger, &run, gate)?;
     let product = product_of(alloc, request, outputs)?;
     Ok(product)
 }
@@ -48,7 +58,7 @@ fn product_of<'a>(
     outputs: Outputs,
 ) -> Result<Product<'a>, AllocError>
     ensures made { IfOk result (λ p. made_of p ≡ applied (file 3 request.now.report) (file 4 request.now.ledger_out)
-        (record { report = outputs.report.items; ledger = outputs.ledger.items; lines = outputs.lines.items })) }
+        (outputs_in outputs)) }
     ensures targets { IfOk result (λ p. targets_of p.stores.items ≡ writes_of (Asked request.now)) }
 {
     let report = FileArg {

@@ -1,15 +1,16 @@
 //! The end of every command: printing the lines of its status.
 
-ghost use Rattle.std.specs.Prelude.{◌≡◌, ◌⊎◌, ◌≤◌, ◌++◌};
+ghost use Rattle.std.specs.Prelude.{◌≡◌, ◌⊎◌, ◌≤◌, ◌++◌, IfOk};
 ghost use Rattle.edge_io.specs.Counts.{OnFailed, Rose};
-ghost use Rattle.soroban_top.specs.Lines.{Finishes, HasSayCause, IsStatusAfter, SaysLines, ill_line, line_of, name_of, number_of};
+ghost use Rattle.soroban_top.specs.Lines.{Finishes, HasSayCause, IsStatusAfter, SaysLines, conflict_line, ill_line, line_of, name_of, number_of};
 ghost use Rattle.soroban_top.specs.Steps.{status_of, viewed};
 
 use crate::Status;
 use edge_io::{EdgeErr, Say, Word};
 use itoa::Buffer;
 use ledger_spec::LedgerWhy;
-use std::alloc::Global;
+use std::alloc::{AllocError, Global};
+use text_lines::{push_hex, push_number};
 use xdr_spec::Why;
 
 /// Prints the lines of a command: its own lines if it is done, otherwise the line of its status. Returns the final status, which is
@@ -25,7 +26,7 @@ pub fn finish<S: Say>(alloc: Global, came_to: Result<Vec<u8>, Status>, say: &mut
     match came_to {
         Ok(lines) => unless_unsaid(alloc, Status::Done, say_part(say, &lines)),
         Err(status) => {
-            let said = say_status(say, &status);
+            let said = say_status(alloc, say, &status);
             unless_unsaid(alloc, status, said)
         }
     }
@@ -44,8 +45,8 @@ fn unless_unsaid(alloc: Global, status: Status, said: Result<(), EdgeErr>) -> St
     }
 }
 
-/// Prints the line of a status. Takes no memory.
-fn say_status<S: Say>(say: &mut S, status: &Status) -> Result<(), EdgeErr>
+/// Prints the line of a status. Takes memory for the line of a conflict alone.
+fn say_status<S: Say>(alloc: Global, say: &mut S, status: &Status) -> Result<(), EdgeErr>
     ensures said { SaysLines result (line_of status.now) (S.text say.old) (S.text say.new) }
     ensures counts { S.faults say.old ≤ S.faults say.new }
     ensures cause { OnFailed result (Rose (S.faults say.old) (S.faults say.new)) }
@@ -72,6 +73,9 @@ fn say_status<S: Say>(say: &mut S, status: &Status) -> Result<(), EdgeErr>
         Status::NotBase64 { name } => {
             say_parts(say, b"not base64: ", name.as_str().as_bytes(), b"\n")
         }
+        Status::Conflict { stage, a, b, key } => {
+            say_conflict(alloc, say, *stage, *a, *b, key.as_slice())
+        }
         Status::NotAModule => say_part(say, b"not a module\n"),
         Status::Ill { func } => say_ill(say, *func),
         Status::Unlinked { import } => {
@@ -80,6 +84,43 @@ fn say_status<S: Say>(say: &mut S, status: &Status) -> Result<(), EdgeErr>
         }
         Status::NoMemory => say_part(say, b"no memory\n"),
     }
+}
+
+/// Prints the line of a conflict.
+fn say_conflict<S: Say>(
+    alloc: Global,
+    say: &mut S,
+    stage: u64,
+    a: u64,
+    b: u64,
+    key: &[u8],
+) -> Result<(), EdgeErr>
+    ensures said { SaysLines result (conflict_line stage a b key.now) (S.text say.old) (S.text say.new) }
+    ensures counts { S.faults say.old ≤ S.faults say.new }
+    ensures cause { OnFailed result (Rose (S.faults say.old) (S.faults say.new)) }
+    ensures steady { S.steady say.old → OnFailed result ⊥ × S.steady say.new × (S.faults say.new ≡ S.faults say.old) }
+{
+    match conflict_line(alloc, stage, a, b, key) {
+        Ok(line) => say_part(say, &line),
+        Err(_) => Err(EdgeErr::NoMemory),
+    }
+}
+
+fn conflict_line(
+    alloc: Global,
+    stage: u64,
+    a: u64,
+    b: u64,
+    key: &[u8],
+) -> Result<Vec<u8>, AllocError>
+    ensures { IfOk result (λ v. v.items ≡ conflict_line stage a b key.now) }
+{
+    let mut line = Vec::from_slice(alloc, b"conflict: stage ")?;
+    push_number(&mut line, stage, b", clusters ")?;
+    push_number(&mut line, a, b" and ")?;
+    push_number(&mut line, b, b", key ")?;
+    push_hex(alloc, &mut line, key, b"\n")?;
+    Ok(line)
 }
 
 /// Prints the line of an ill-typed module.

@@ -3,16 +3,16 @@
 ghost use Rattle.std.specs.Prelude.{◌≡◌, ◌<◌, ◌+◌, ◌^◌, [], ◌∷◌, IfOk, IfErr, IfSome, IsTrue};
 ghost use Rattle.ledger_spec.specs.LedgerFile.{are_settings, has_next};
 ghost use Rattle.ledger_types.specs.Header.{header_format};
-ghost use Rattle.tx_xdr.specs.SetBounds.{today};
 ghost use Rattle.tx_xdr.specs.Set.{set_format};
 ghost use Rattle.soroban_top.specs.Counts.{HasCause, IsOfBytes, NoLower, SameCounts};
-ghost use Rattle.soroban_top.specs.Judged.{ledger_at, ledger_in, verdicts_at, verdicts_in, set_at, set_in, set_opened};
+ghost use Rattle.soroban_top.specs.Judged.{ledger_at, ledger_in, verdicts_at, verdicts_in, set_at, set_opened};
 ghost use Rattle.soroban_top.specs.Product.{file};
 ghost use Rattle.soroban_top.specs.Seen.{seen};
 ghost use Rattle.soroban_top.specs.Steps.{Gives, GivesExactly, UnlessFault, status_of};
 
 use crate::drive::read_file;
 use crate::opened::open_text;
+use crate::spelled::set_in;
 use crate::{FileArg, Status};
 use edge_io::{Files, Word};
 use ledger_file::Ledger;
@@ -76,7 +76,7 @@ pub fn read_set<F: Files>(
 ) -> Result<TxSet, Status>
     requires { option < 8 }
     ensures given { IfSome (F.contents files.old) (λ m. Gives (λ s. s) result (set_at m base64 name.now)) }
-    ensures fits { IfOk result (set_format today).fits }
+    ensures fits { IfOk result set_format.fits }
     ensures same { F.contents files.new ≡ F.contents files.old }
     ensures counts { NoLower (F.faults files.old) (F.faults files.new) }
     ensures cause { IfErr result (HasCause (file option name.now ∷ []) (F.faults files.old) (F.faults files.new)) }
@@ -92,7 +92,7 @@ pub fn read_set<F: Files>(
 /// The set that a file's text spells.
 fn set_opened(alloc: Global, base64: bool, name: &Word, text: &[u8]) -> Result<TxSet, Status>
     ensures given { Gives (λ s. s) result (set_opened base64 name.now text.now) }
-    ensures fits { IfOk result (set_format today).fits }
+    ensures fits { IfOk result set_format.fits }
     ensures cause { IfErr result IsOfBytes }
 {
     if base64 {
@@ -125,14 +125,4 @@ fn verdicts_in(alloc: Global, bytes: &[u8]) -> Result<Verdicts, Status>
         Err(ReadXdr::Bad(error)) => Err(Status::Verdicts { at: error.at }),
         Err(ReadXdr::NoMemory) => Err(Status::NoMemory),
     }
-}
-
-#[tactic(auto, unfolding(crate::specs::Judged::set_in))]
-fn set_in(alloc: Global, bytes: &[u8]) -> Result<TxSet, Status>
-    ensures given { Gives (λ s. s) result (set_in bytes.now) }
-    ensures fits { IfOk result (set_format today).fits }
-    ensures cause { IfErr result IsOfBytes }
-{
-    let set = tx_xdr::read_set_today(alloc, bytes)?;
-    Ok(set)
 }

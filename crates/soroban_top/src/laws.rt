@@ -1,15 +1,26 @@
 //! The outcomes of the commands, in terms of the spellings of their files' bytes.
 
-ghost use Rattle.soroban_top.specs.Laws.{DoneLaw, EnvelopeDoneLaw, EnvelopeMalformedLaw, LedgerDoneLaw, LedgerLaw, LedgerShownLaw, MalformedLaw, MigrateDoneLaw, MigrateLaw, MigrateRefusedLaw, SetDoneLaw, SetMalformedLaw, ValueDoneLaw, ValueMalformedLaw, VerdictsLaw, VetLaw};
+ghost use Rattle.soroban_top.specs.ConflictLaws.{FirstConflictLaw, NoConflictLaw};
+ghost use Rattle.soroban_top.specs.Laws.{AppliedLaw, ConflictLaw, DoneLaw, EnvelopeDoneLaw, EnvelopeMalformedLaw, GenLaw, LedgerDoneLaw, LedgerLaw, LedgerShownLaw, MalformedLaw, MigrateDoneLaw, MigrateLaw, MigrateRefusedLaw, NoLedgerLaw, SetDoneLaw, SetMalformedLaw, ValueDoneLaw, ValueMalformedLaw, VerdictsLaw, VetLaw};
 
-/// `apply`: Ledger with reason Xdr is due exactly if the bytes of the ledger's file are refused. If that file is accepted, Verdicts
-/// is due exactly if the verdicts' bytes are refused. If these are accepted, too, Malformed is due exactly if the set's bytes are
-/// refused, and Done exactly if they spell a set.
+/// `apply`: Ledger is due exactly if the bytes are not the file of a ledger, with reason Xdr if they are refused. If that file is
+/// accepted, Verdicts is due exactly if the verdicts' bytes are refused. If these are accepted, too, Malformed is due exactly if the
+/// set's bytes are refused, Conflict exactly if they spell a set with this first conflict, and Done exactly if they spell a set
+/// without a conflict. Then its outputs over the ledger are stored.
 pub fn apply_laws()
     ensures ledger { LedgerLaw }
+    ensures no_ledger { NoLedgerLaw }
     ensures verdicts { VerdictsLaw }
     ensures malformed { MalformedLaw }
+    ensures conflict { ConflictLaw }
     ensures done { DoneLaw }
+    ensures applied { AppliedLaw }
+{}
+
+/// The conflict that is found in a set is the least one by stage, clusters and key.
+pub fn first_conflict_laws()
+    ensures found { FirstConflictLaw }
+    ensures none { NoConflictLaw }
 {}
 
 /// `show`: for a set, an envelope or a value, Malformed is due exactly if the bytes are refused, and Done exactly if they spell one.
@@ -36,4 +47,10 @@ pub fn migrate_laws()
     ensures refused { MigrateRefusedLaw }
     ensures done { MigrateDoneLaw }
     ensures stored { MigrateLaw }
+{}
+
+/// `gen` stores the files of a generated set, of a ledger on which it runs and of no verdicts. The line has the numbers of its
+/// transactions and stages.
+pub fn gen_laws()
+    ensures { GenLaw }
 {}

@@ -2,7 +2,7 @@
 #![tactic(auto)]
 
 ghost use Rattle.std.specs.Prelude.{◌≡◌, ◌≤◌, ◌⊎◌, None, IfOk, IfErr, IfSome};
-ghost use Rattle.command_words.specs.Words.{asked_of};
+ghost use Rattle.command_words.specs.Words.{IsInRange, asked_of};
 ghost use Rattle.edge_io.specs.Text.{extended};
 ghost use Rattle.soroban_top.specs.Asked.{reads_of, reads_named, files_named};
 ghost use Rattle.soroban_top.specs.Counts.{NoLower, SameCounts, FaultHasCause, HasCause, HasCauseFor, NoneRose};
@@ -16,7 +16,9 @@ ghost use Rattle.soroban_top.specs.Steps.{Gives, GivesExactly, UnlessFault, Unle
 mod apply;
 mod drive;
 mod ending;
+mod generating;
 mod judged;
+mod key_bytes;
 mod laws;
 mod lines;
 mod migrate;
@@ -33,7 +35,8 @@ use command_words::Request;
 use drive::store_all;
 use edge_io::{Files, Gate, Say, Word};
 pub use ending::finish;
-pub use laws::{apply_laws, migrate_laws, show_laws, vet_law};
+pub use key_bytes::KeyBytes;
+pub use laws::{apply_laws, first_conflict_laws, gen_laws, migrate_laws, show_laws, vet_law};
 use product::{FileArg, OutputFile, Product};
 use request::{asked, produce};
 pub use status::Status;
@@ -42,7 +45,7 @@ use std::thread::Threads;
 
 /// Runs the command of the words, and prints the lines of its status.
 ///
-/// The runtime and the gate are for runs on several threads. No run uses them yet.
+/// The runtime and the gate are for the workers of `apply`. All its clusters run on one thread yet.
 pub fn soroban<R: Threads + Sync, F: Files, S: Say, G: Gate + Sync>(
     rt: &R,
     alloc: Global,
@@ -88,12 +91,18 @@ pub fn soroban<R: Threads + Sync, F: Files, S: Say, G: Gate + Sync>(
     ensures counts { NoLower (F.faults files.old) (F.faults files.new) }
     ensures say_count { S.faults say.old ≤ S.faults say.new }
 {
-    let came_to = perform(alloc, words, files);
+    let came_to = perform(rt, alloc, words, files, gate);
     finish(alloc, came_to, say)
 }
 
 /// Reads, computes and stores. Returns the lines to print, or the status whose line is to be printed.
-fn perform<F: Files>(alloc: Global, words: &[Word], files: &mut F) -> Result<Vec<u8>, Status>
+fn perform<R: Threads + Sync, F: Files, G: Gate + Sync>(
+    rt: &R,
+    alloc: Global,
+    words: &[Word],
+    files: &mut F,
+    gate: &G,
+) -> Result<Vec<u8>, Status>
     ensures usage_only { status_of result ≡ Status.Usage → asked_of words.now ≡ None }
     ensures usage { asked_of words.now ≡ None → UnlessFree (status_of result) (status_of result ≡ Status.Usage) }
     ensures cause { FaultHasCause (files_named (asked_of words.now)) (F.faults files.old) (F.faults files.new) (status_of result) }
@@ -108,11 +117,18 @@ fn perform<F: Files>(alloc: Global, words: &[Word], files: &mut F) -> Result<Vec
     ensures counts { NoLower (F.faults files.old) (F.faults files.new) }
 {
     let request = asked(alloc, words)?;
-    run(alloc, &request, files)
+    run(rt, alloc, &request, files, gate)
 }
 
 /// Does the same for a request.
-fn run<F: Files>(alloc: Global, request: &Request, files: &mut F) -> Result<Vec<u8>, Status>
+fn run<R: Threads + Sync, F: Files, G: Gate + Sync>(
+    rt: &R,
+    alloc: Global,
+    request: &Request,
+    files: &mut F,
+    gate: &G,
+) -> Result<Vec<u8>, Status>
+    requires range { IsInRange request.now }
     ensures cause { IfErr result (HasCause (files_named (Some request.now)) (F.faults files.old) (F.faults files.new)) }
     ensures given { IfSome (F.contents files.old) (λ m. Gives (λ v. v.items) result (says_of (outcome_of request.now m))) }
     ensures left { IfSome (F.contents files.old) (λ m. Leaves (status_of result) (reads_of request.now)
@@ -124,7 +140,7 @@ fn run<F: Files>(alloc: Global, request: &Request, files: &mut F) -> Result<Vec<
         GivesExactly (λ v. v.items) result (says_of (outcome_of request.now m))) }
     ensures counts { NoLower (F.faults files.old) (F.faults files.new) }
 {
-    let product = produce(alloc, request, files)?;
+    let product = produce(rt, alloc, request, files, gate)?;
     store_all(files, &product.stores)?;
     Ok(product.says)
 }

@@ -1,20 +1,44 @@
 //! The outputs of a set over a ledger: the report, the new ledger's file, and the lines.
 
-ghost use Rattle.std.specs.Prelude.{◌≡◌, IfOk, IsTrue};
-ghost use Rattle.ledger_spec.specs.LedgerFile.{are_settings, has_next};
+ghost use Rattle.std.specs.Prelude.{◌≡◌, ◌≤◌, All, IfErr, IfOk, IsTrue, length};
+ghost use Rattle.apply_spec.specs.Outputs.{outputs_with};
+ghost use Rattle.invoke_types.specs.Success.{success_format};
+ghost use Rattle.ledger_spec.specs.LedgerFile.{are_settings, has_next, ledger_bytes};
+ghost use Rattle.ledger_spec.specs.LedgerMap.{key_bytes};
 ghost use Rattle.ledger_types.specs.Header.{header_format};
-ghost use Rattle.tx_xdr.specs.SetBounds.{today};
+ghost use Rattle.ledger_types.specs.Key.{key_format};
+ghost use Rattle.tx_results.specs.Report.{report_bytes};
+ghost use Rattle.tx_results.specs.Results.{result_set_format};
 ghost use Rattle.tx_xdr.specs.Set.{set_format};
+ghost use Rattle.xdr_spec.specs.Format.{optional};
+ghost use Rattle.soroban_top.specs.Counts.{IsOfBytes};
+ghost use Rattle.soroban_top.specs.FirstConflict.{free_of_conflict};
 ghost use Rattle.soroban_top.specs.Outcome.{outputs_of};
 ghost use Rattle.soroban_top.specs.Seen.{seen};
+ghost use Rattle.soroban_top.specs.Steps.{UnlessNoMemory};
+ghost use Rattle.soroban_top.specs.Views.{outputs_in};
 
 use crate::lines::lines;
-use ledger_apply::apply_set;
+use crate::{KeyBytes, Status};
+use edge_io::Gate;
+use ledger_apply::{Applied, ApplyErr, apply_set};
 use ledger_file::{Ledger, write_ledger};
+use ledger_types::{LedgerKey, Verdicts};
 use std::alloc::Global;
+use std::thread::Threads;
 use tx_results::write_report;
 use tx_xdr::TxSet;
+use value_xdr::encode;
 use xdr_core::NoMemory;
+
+/// A set, and how it is run.
+#[derive(Clone, Copy)]
+pub struct Run<'a> {
+    pub set: &'a TxSet,
+    pub close_time: u64,
+    pub verdicts: &'a Verdicts,
+    pub workers: usize,
+}
 
 /// The report, the new ledger's file, and the lines.
 #[derive(Drop)]
@@ -24,23 +48,69 @@ pub struct Outputs {
     pub lines: Vec<u8>,
 }
 
-/// Runs a set over a ledger, and writes the bytes to store and the lines to print.
-#[tactic(auto, unfolding(crate::specs::Outcome::outputs_of))]
-pub fn make_outputs(
+/// Runs a set over a ledger, and writes the bytes to store and the lines to print. A set with a conflict is not run.
+pub fn make_outputs<R: Threads + Sync, G: Gate + Sync>(
+    rt: &R,
     alloc: Global,
     ledger: Ledger,
-    set: &TxSet,
-    close_time: u64,
-) -> Result<Outputs, NoMemory>
-    requires set { (set_format today).fits set.now }
+    run: &Run<'_>,
+    gate: &G,
+) -> Result<Outputs, Status>
+    requires set { set_format.fits run.now.set.now }
     requires header { header_format.fits ledger.header }
     requires settings { IsTrue (are_settings ledger.header.settings) }
     requires next { IsTrue (has_next ledger.header) }
-    ensures report { IfOk result (λ o. o.report.items ≡ (outputs_of (seen ledger) set.now close_time).report) }
-    ensures ledger { IfOk result (λ o. o.ledger.items ≡ (outputs_of (seen ledger) set.now close_time).ledger) }
-    ensures lines { IfOk result (λ o. o.lines.items ≡ (outputs_of (seen ledger) set.now close_time).lines) }
+    requires workers { (1 ≤ run.now.workers) × (run.now.workers ≤ 64) }
+    ensures free { IfOk result (λ _. free_of_conflict run.now.set.now ≡ Ok tt) }
+    ensures outputs { IfOk result (λ o. outputs_in o ≡ outputs_of (seen ledger) run.now.verdicts.now run.now.set.now run.now.close_time) }
+    ensures refused { IfErr result (λ status. UnlessNoMemory status (free_of_conflict run.now.set.now ≡ Err status)) }
+    ensures cause { IfErr result IsOfBytes }
 {
-    let applied = apply_set(alloc, ledger, set, close_time)?;
+    match apply_set(
+        rt,
+        alloc,
+        ledger,
+        run.set,
+        run.close_time,
+        run.verdicts,
+        run.workers,
+        gate,
+    ) {
+        Ok(applied) => {
+            let outputs = written(alloc, &applied)?;
+            Ok(outputs)
+        }
+        Err(ApplyErr::Conflict { stage, found, .. }) => {
+            let key = key_bytes(alloc, found.key)?;
+            Err(Status::Conflict {
+                stage: stage as u64,
+                a: found.a as u64,
+                b: found.b as u64,
+                key,
+            })
+        }
+        Err(ApplyErr::NoMemory) => Err(Status::NoMemory),
+    }
+}
+
+/// The XDR bytes of a key.
+fn key_bytes(alloc: Global, key: &LedgerKey) -> Result<KeyBytes, NoMemory>
+    requires { key_format.fits key.now }
+    ensures { IfOk result (λ bytes. bytes ≡ key_bytes key.now) }
+{
+    let bytes = encode(alloc, key)?;
+    Ok(KeyBytes::from_vec(bytes))
+}
+
+/// Writes the bytes to store and the lines to print after a run.
+fn written(alloc: Global, applied: &Applied) -> Result<Outputs, NoMemory>
+    requires header { header_format.fits applied.now.ledger.header }
+    requires results { result_set_format.fits applied.now.results }
+    requires successes { All (λ s. (optional success_format).fits s) applied.now.successes }
+    requires each { length applied.now.successes ≡ length applied.now.results.pairs }
+    ensures { IfOk result (λ o. outputs_in o ≡ outputs_with applied.now.ledger.header.seq applied.now.results.pairs
+        (report_bytes applied.now.results applied.now.successes) (ledger_bytes applied.now.ledger.header applied.now.ledger.entries)) }
+{
     let successes = applied.successes.as_slice();
     let report = write_report(alloc, &applied.results, successes)?.into_vec();
     let ledger = write_ledger(alloc, &applied.ledger)?.into_vec();

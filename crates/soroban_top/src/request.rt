@@ -1,7 +1,7 @@
 //! From a request to its product.
 
 ghost use Rattle.std.specs.Prelude.{◌≡◌, IfOk, IfErr, IfSome};
-ghost use Rattle.command_words.specs.Words.{asked_of};
+ghost use Rattle.command_words.specs.Words.{IsInRange, asked_of};
 ghost use Rattle.soroban_top.specs.Asked.{reads_of, writes_of};
 ghost use Rattle.soroban_top.specs.Counts.{HasCause, NoLower, SameCounts};
 ghost use Rattle.soroban_top.specs.Outcome.{ReadsWords, outcome_of};
@@ -9,17 +9,20 @@ ghost use Rattle.soroban_top.specs.Steps.{Gives, GivesExactly, UnlessFault, stat
 ghost use Rattle.soroban_top.specs.Views.{made_of, targets_of};
 
 use crate::apply::apply;
+use crate::generating::generate;
 use crate::migrate::migrate;
 use crate::show::show;
 use crate::vetting::vet;
 use crate::{Product, Status};
 use command_words::{Request, WordsErr, request_of};
-use edge_io::{Files, Word};
+use edge_io::{Files, Gate, Word};
 use std::alloc::Global;
+use std::thread::Threads;
 
 /// The request of the words.
 pub fn asked(alloc: Global, words: &[Word]) -> Result<Request, Status>
-    ensures { ReadsWords result (asked_of words.now) }
+    ensures request { ReadsWords result (asked_of words.now) }
+    ensures range { IfOk result IsInRange }
 {
     match request_of(alloc, words) {
         Ok(request) => Ok(request),
@@ -29,11 +32,14 @@ pub fn asked(alloc: Global, words: &[Word]) -> Result<Request, Status>
 }
 
 /// Reads the files of a command, and makes its stores and lines.
-pub fn produce<'a, F: Files>(
+pub fn produce<'a, R: Threads + Sync, F: Files, G: Gate + Sync>(
+    rt: &R,
     alloc: Global,
     request: &'a Request,
     files: &mut F,
+    gate: &G,
 ) -> Result<Product<'a>, Status>
+    requires range { IsInRange request.now }
     ensures given { IfSome (F.contents files.old) (λ m. Gives made_of result (outcome_of request.now m)) }
     ensures targets { IfOk result (λ p. targets_of p.stores.items ≡ writes_of request.now) }
     ensures same { F.contents files.new ≡ F.contents files.old }
@@ -45,9 +51,10 @@ pub fn produce<'a, F: Files>(
         GivesExactly made_of result (outcome_of request.now m)) }
 {
     match request {
-        Request::Apply(options) => apply(alloc, files, options),
+        Request::Apply(options) => apply(rt, alloc, files, options, gate),
         Request::Show(options) => show(alloc, files, options),
         Request::Vet(options) => vet(alloc, files, options),
         Request::Migrate(options) => migrate(alloc, files, options),
+        Request::Gen(options) => generate(alloc, options),
     }
 }

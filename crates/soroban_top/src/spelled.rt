@@ -2,13 +2,13 @@
 
 ghost use Rattle.std.specs.Prelude.{IfOk, IfErr};
 ghost use Rattle.ledger_types.specs.Header.{header_format};
-ghost use Rattle.tx_xdr.specs.SetBounds.{whole};
 ghost use Rattle.tx_xdr.specs.Set.{set_format};
 ghost use Rattle.value_types.specs.Formats.{scval_format};
 ghost use Rattle.xdr_spec.specs.Refusal.{Spells};
 ghost use Rattle.soroban_top.specs.Counts.{IsOfBytes};
+ghost use Rattle.soroban_top.specs.Judged.{set_in};
 ghost use Rattle.soroban_top.specs.Seen.{seen};
-ghost use Rattle.soroban_top.specs.Shown.{any_envelope_in, any_ledger_in, any_set_in, value_in};
+ghost use Rattle.soroban_top.specs.Shown.{any_ledger_in, envelope_in, value_in};
 ghost use Rattle.soroban_top.specs.Steps.{Gives};
 
 use crate::Status;
@@ -18,11 +18,11 @@ use tx_xdr::{Envelope, TxSet, read_envelope, read_set};
 use value_types::ScVal;
 use value_xdr::value_from_bytes;
 
-/// Reads a set of the whole grammar.
-#[tactic(auto, unfolding(crate::specs::Shown::any_set_in))]
+/// Reads a set; the error is the status of its refusal.
+#[tactic(auto, unfolding(crate::specs::Judged::set_in))]
 pub fn set_in(alloc: Global, bytes: &[u8]) -> Result<TxSet, Status>
-    ensures given { Gives (λ s. s) result (any_set_in bytes.now) }
-    ensures fits { IfOk result (set_format whole).fits }
+    ensures given { Gives (λ s. s) result (set_in bytes.now) }
+    ensures fits { IfOk result set_format.fits }
     ensures cause { IfErr result IsOfBytes }
 {
     let set = read_set(alloc, bytes)?;
@@ -30,9 +30,9 @@ pub fn set_in(alloc: Global, bytes: &[u8]) -> Result<TxSet, Status>
 }
 
 /// Reads an envelope; the error is the status of its refusal.
-#[tactic(auto, unfolding(crate::specs::Shown::any_envelope_in))]
+#[tactic(auto, unfolding(crate::specs::Shown::envelope_in))]
 pub fn envelope_in(alloc: Global, bytes: &[u8]) -> Result<Envelope, Status>
-    ensures given { Gives (λ e. e) result (any_envelope_in bytes.now) }
+    ensures given { Gives (λ e. e) result (envelope_in bytes.now) }
     ensures cause { IfErr result IsOfBytes }
 {
     let envelope = read_envelope(alloc, bytes)?;

@@ -4,6 +4,7 @@ ghost use Rattle.std.specs.Prelude.{◌≡◌};
 ghost use Rattle.soroban_top.specs.declared.status.Status.TheVariants.{NoMemory as OutOfMemory};
 ghost use Rattle.soroban_top.specs.Judged.{unread, unread_ledger};
 
+use crate::KeyBytes;
 use edge_io::Word;
 use ledger_file::LedgerErr;
 use ledger_spec::LedgerWhy;
@@ -18,24 +19,50 @@ pub enum Status {
     /// The words are wrong.
     Usage,
     /// A call for this file failed; with the empty name, a call for the output.
-    Fault { name: Word },
+    Fault {
+        name: Word,
+    },
     /// This file has more than 2^30 bytes.
-    TooLong { name: Word },
+    TooLong {
+        name: Word,
+    },
     /// The ledger's file is refused: `at` is a byte offset, the index of a record, or 0.
-    Ledger { why: LedgerWhy, at: u64 },
+    Ledger {
+        why: LedgerWhy,
+        at: u64,
+    },
     /// The verdicts' file is refused at this byte offset.
-    Verdicts { at: u64 },
+    Verdicts {
+        at: u64,
+    },
     /// The bytes are no spelling: they are refused at this byte offset, for this reason.
-    Malformed { at: u64, why: Why },
+    Malformed {
+        at: u64,
+        why: Why,
+    },
     /// The text of this file is no base64.
-    NotBase64 { name: Word },
+    NotBase64 {
+        name: Word,
+    },
+    /// These two clusters of a stage conflict on this key, and the set has no conflict before that: by the index of the stage, then
+    /// by those of the clusters, then by the key's XDR bytes.
+    Conflict {
+        stage: u64,
+        a: u64,
+        b: u64,
+        key: KeyBytes,
+    },
     /// The bytes are no WebAssembly module.
     NotAModule,
     /// The module is ill typed: the index of its first ill-typed function, with imports counted, or none if a rule outside function
     /// bodies is broken.
-    Ill { func: Option<u32> },
+    Ill {
+        func: Option<u32>,
+    },
     /// The module's first import that the host does not have with this type.
-    Unlinked { import: u32 },
+    Unlinked {
+        import: u32,
+    },
     NoMemory,
 }
 
@@ -50,6 +77,7 @@ impl Status {
             Status::Done => 0,
             Status::Malformed { .. }
             | Status::NotBase64 { .. }
+            | Status::Conflict { .. }
             | Status::NotAModule
             | Status::Ill { .. }
             | Status::Unlinked { .. } => 1,

@@ -7,13 +7,13 @@ use Rattle.ledger_types.specs.declared.key.LedgerKey.{LedgerKey}
 use Rattle.tx_xdr.specs.Soroban.{footprint_format, soroban_format}
 use Rattle.tx_xdr.specs.Ext.{ext_format}
 use Rattle.tx_xdr.specs.Transaction.{transaction_format}
-use Rattle.tx_xdr.specs.declared.limits.SetBounds.{SetBounds}
 use Rattle.tx_xdr.specs.declared.transaction.Footprint.{Footprint}
 use Rattle.tx_xdr.specs.declared.transaction.SorobanData.{SorobanData}
 use Rattle.tx_xdr.specs.declared.transaction.TransactionExt.{TransactionExt}
 use Rattle.tx_xdr.specs.declared.transaction.TransactionExt.TheVariants as exts
 use Rattle.tx_xdr.specs.declared.transaction.Transaction.{Transaction}
-use Rattle.apply_spec.specs.Checks.{footprint_of, footprint_in}
+use Rattle.stage_runs.specs.Transactions.{footprint_in}
+use Rattle.apply_spec.specs.Checks.{footprint_of}
 
 abbrev pub AreSpelled : List LedgerKey → Type 0
 AreSpelled keys = All (λ key. key_format.fits key) keys
@@ -32,6 +32,6 @@ ext_keys exts.None h = (All-nil key_format.fits, All-nil key_format.fits)
 ext_keys (exts.Soroban soroban) h = footprint_keys soroban.footprint (soroban_keys soroban h)
 
 -- the keys of a transaction's footprint have spellings
-pub declared_spelled : (limits : SetBounds) (tx : Transaction) → (transaction_format limits).fits tx → AreSpelled (footprint_of tx).read_only × AreSpelled (footprint_of tx).read_write
+pub declared_spelled : (tx : Transaction) → transaction_format.fits tx → AreSpelled (footprint_of tx).read_only × AreSpelled (footprint_of tx).read_write
 unfolding transaction_format
-declared_spelled limits tx h = ext_keys tx.ext h.1.1.1.1.1.1
+declared_spelled tx h = ext_keys tx.ext h.1.1.1.1.1.1

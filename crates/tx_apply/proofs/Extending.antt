@@ -6,8 +6,8 @@ use Rattle.std.proofs.lemmas.List.Elements.{filter_map-append}
 use Rattle.ledger_types.specs.declared.key.LedgerKey.{LedgerKey}
 use Rattle.ledger_spec.specs.LedgerMap.{LedgerMap}
 use Rattle.ledger_spec.specs.Seen.{seen}
-use Rattle.apply_spec.specs.declared.Extension.{Extension}
-use Rattle.apply_spec.specs.Enforced.{extension_seen, extensions_of}
+use Rattle.stage_runs.specs.declared.Extension.{Extension}
+use Rattle.apply_spec.specs.Extending.{extension_seen, extensions_of}
 
 module _ (n : ℕ) (entries : LedgerMap) (keys : List LedgerKey) (i : ℕ) (key : LedgerKey) (until : ℕ) (lt : i < length keys) (is : key ≡ get_or keys i key) where
   abbrev at_key : LedgerKey → Option Extension

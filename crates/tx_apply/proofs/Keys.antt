@@ -5,17 +5,18 @@ use Rattle.std.proofs.Common.{◌≡◌, ℕ, Bool, true, false, ◌||◌, ◌&&
 use Rattle.std.proofs.lemmas.List.{map-append}
 use Rattle.std.proofs.lemmas.List.Folds.{list_all-append}
 use Rattle.ledger_types.specs.declared.key.LedgerKey.{LedgerKey}
-use Rattle.ledger_spec.specs.LedgerMap.{key_bytes}
-use Rattle.apply_spec.specs.Checks.{has_twice, has_key, is_key, may_be_declared, may_be_footprint}
+use Rattle.stage_runs.specs.Maps.{Bytes, key_bytes, has_bytes}
+use Rattle.stage_runs.specs.Whole.{has_twice}
+use Rattle.apply_spec.specs.Checks.{may_be_declared, may_be_footprint}
 use Rattle.list_laws.specs.Twice.{stand_twice}
 
-pub any_keys : (key : LedgerKey) (keys : List LedgerKey) → has_key keys key ≡ list_any (bytes_eq (key_bytes key)) (map key_bytes keys)
-any_keys key [] = refl
-any_keys key (k ∷ keys) = ap (λ (b : Bool). is_key key k || b) (any_keys key keys)
+pub any_keys : (bytes : Bytes) (keys : List LedgerKey) → has_bytes keys bytes ≡ list_any (bytes_eq bytes) (map key_bytes keys)
+any_keys bytes [] = refl
+any_keys bytes (k ∷ keys) = ap (λ (b : Bool). bytes_eq bytes (key_bytes k) || b) (any_keys bytes keys)
 
 pub twice_keys : (keys : List LedgerKey) → has_twice keys ≡ stand_twice (map key_bytes keys)
 twice_keys [] = refl
-twice_keys (key ∷ keys) = ap₂ (λ (a b : Bool). a || b) (any_keys key keys) (twice_keys keys)
+twice_keys (key ∷ keys) = ap₂ (λ (a b : Bool). a || b) (any_keys (key_bytes key) keys) (twice_keys keys)
 
 -- the spellings of both lists of a footprint
 pub twice_declared : (ro rw' : List LedgerKey) (none one two : List (List ℕ)) → none ≡ [] → one ≡ none ++ map key_bytes ro → two ≡ one ++ map key_bytes rw'

@@ -3,3 +3,4 @@ pub mod Extending
 pub mod Checked
 pub mod Declared
 pub mod Effects
+pub mod Told

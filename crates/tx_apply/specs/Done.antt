@@ -1,10 +1,41 @@
--- What transactions and envelopes come to, in the terms of the definitions (own).
+-- What the calls return, in the terms of the definitions (own).
+use Rattle.std.specs.Prelude.{◌≡◌, All, IfSome}
+use Rattle.std.specs.Option.{is_some}
+use Rattle.invoke_types.specs.Success.{success_format}
+use Rattle.ledger_types.specs.Key.{key_format}
+use Rattle.ledger_spec.specs.LedgerMap.{IsKeptAt, key_bytes}
+use Rattle.tx_results.specs.Report.{has_preimage}
+use Rattle.tx_results.specs.Results.{outcome_in, pair_format}
+use Rattle.stage_runs.specs.declared.Change.{Change}
+use Rattle.stage_runs.specs.Transactions.{Effect}
 use Rattle.tx_apply.specs.declared.transaction.TransactionDone.{TransactionDone}
 use Rattle.tx_apply.specs.declared.envelope.TxDone.{TxDone}
-use Rattle.apply_spec.specs.Enforced.{Enforced, EnforcedTransaction}
+use Rattle.tx_apply.specs.Outcomes.{Ended}
 
-abbrev pub transaction_done_of : TransactionDone → EnforcedTransaction
-transaction_done_of done = record { outcome = done.outcome; extensions = done.extensions }
+-- the outcome and the extensions
+abbrev pub ended_of : TransactionDone → Ended
+ended_of done = record { outcome = done.outcome; extensions = done.extensions }
 
-abbrev pub done_of : TxDone → Enforced
-done_of done = record { outcome = done.outcome; extensions = done.extensions }
+-- the effect
+abbrev pub effect_of : TxDone → Effect
+effect_of done = record {
+  result = done.result;
+  success = done.success;
+  changes = done.changes;
+  extensions = done.extensions;
+  used = done.used;
+}
+
+-- a ledger map may have the new entry at its key
+pub record CanChange (change : Change) : Type 0 where
+  pub key : key_format.fits change.key
+  pub after : IfSome change.after (IsKeptAt (key_bytes change.key))
+
+-- A report may have the result, with a success preimage exactly where the result code asks for one. A ledger map may have the
+-- changes, and a ledger key has a spelling at each extension.
+pub record IsWithin (done : TxDone) : Type 0 where
+  pub result : pair_format.fits done.result
+  pub success : IfSome done.success success_format.fits
+  pub preimage : is_some done.success ≡ has_preimage (outcome_in done.result.result.outcome)
+  pub changes : All CanChange done.changes
+  pub extensions : All (λ e. key_format.fits e.key) done.extensions

@@ -1,33 +1,39 @@
 //! Runs one envelope: a transaction, or a fee bump's inner transaction as if alone.
 
-ghost use Rattle.std.specs.Prelude.{◌≡◌, pos, All, IfOk, IsTrue};
-ghost use Rattle.ledger_types.specs.Key.{key_format};
+ghost use Rattle.std.specs.Prelude.{◌≡◌, pos, IfOk, IsTrue};
 ghost use Rattle.ledger_spec.specs.LedgerFile.{are_settings, has_next};
 ghost use Rattle.value_types.specs.Hash.{hash_format};
-ghost use Rattle.tx_xdr.specs.SetBounds.{whole};
-ghost use Rattle.tx_xdr.specs.Envelope.{envelope_format, transaction_in};
-ghost use Rattle.tx_results.specs.Results.{outcome_format, envelope_outcome_format};
-ghost use Rattle.apply_spec.specs.Enforced.{enforced, runs_today, is_success as is_success_in, fee_bump_outcome as fee_bump_outcome_in, envelope_outcome as envelope_outcome_in};
-ghost use Rattle.tx_apply.specs.Done.{done_of};
+ghost use Rattle.tx_xdr.specs.Envelope.{envelope_format};
+ghost use Rattle.tx_results.specs.Results.{outcome_format, envelope_outcome_format, pair_format};
+ghost use Rattle.apply_spec.specs.Enforced.{enforced, is_success as is_success_in, fee_bump_outcome as fee_bump_outcome_in, envelope_outcome as envelope_outcome_in, result_pair as result_pair_in};
+ghost use Rattle.tx_apply.specs.Done.{effect_of, IsWithin};
 
 use crate::transaction::run_transaction;
-use apply_spec::Extension;
+use budget_meter::Used;
 use entry_lookup::Ground;
-use ledger_types::Header;
+use invoke_types::SuccessPreimage;
+use ledger_types::{Header, Verdicts};
+use stage_runs::{Change, Extension};
 use std::alloc::Global;
 use tx_results::{
     EnvelopeOutcome, InnerTransactionResult, InnerTransactionResultPair, TransactionOutcome,
+    TransactionResult, TransactionResultPair,
 };
-use tx_xdr::{Envelope, tx_hash};
+use tx_xdr::{Envelope, envelope_hash, tx_hash};
 use value_types::{Hash, Items};
 use xdr_core::NoMemory;
 
-/// The outcome of an envelope and its effect.
+/// The effect of an envelope: its result, and what it does to the entries of a ledger.
 #[derive(Drop)]
 pub struct TxDone {
-    pub outcome: EnvelopeOutcome,
-    /// Pending until they are put in.
+    pub result: TransactionResultPair,
+    /// The success preimage of a contract call that succeeded.
+    pub success: Option<SuccessPreimage>,
+    /// At the keys that the transaction declares read-write, in their order.
+    pub changes: Items<Change, 4294967295>,
+    /// At keys that the transaction declares read-only. They are pending until they are put in.
     pub extensions: Items<Extension, 4294967295>,
+    pub used: Used,
 }
 
 fn is_success(outcome: &TransactionOutcome) -> bool
@@ -65,7 +71,7 @@ fn envelope_outcome(
     envelope: &Envelope,
     outcome: TransactionOutcome,
 ) -> Result<EnvelopeOutcome, NoMemory>
-    requires envelope { (envelope_format whole).fits envelope.now }
+    requires envelope { envelope_format.fits envelope.now }
     requires outcome { outcome_format.fits outcome }
     ensures value { IfOk result (λ o. o ≡ envelope_outcome_in network.now envelope.now outcome) }
     ensures fits { IfOk result envelope_outcome_format.fits }
@@ -79,29 +85,57 @@ fn envelope_outcome(
     }
 }
 
+/// Returns the hash of an envelope with the outcome of its transaction. No fee is charged.
+fn result_pair(
+    alloc: Global,
+    network: &Hash,
+    envelope: &Envelope,
+    outcome: TransactionOutcome,
+) -> Result<TransactionResultPair, NoMemory>
+    requires envelope { envelope_format.fits envelope.now }
+    requires outcome { outcome_format.fits outcome }
+    ensures value { IfOk result (λ pair. pair ≡ result_pair_in network.now envelope.now outcome) }
+    ensures fits { IfOk result pair_format.fits }
+{
+    let outcome = envelope_outcome(alloc, network, envelope, outcome)?;
+    let hash = envelope_hash(alloc, network, envelope)?;
+    Ok(TransactionResultPair {
+        hash,
+        result: TransactionResult {
+            fee_charged: 0,
+            outcome,
+        },
+    })
+}
+
 /// Checks and runs an envelope over the entries of a ledger. A fee bump's inner transaction runs as if alone, and fees are not
 /// judged.
 ///
-/// `header` is that of the previous ledger, with the close time of the ledger that is being made.
+/// `header` is that of the previous ledger, with the close time of the ledger that is being made. No operation asks for a
+/// verdict yet.
 pub fn enforce<G: Ground>(
     alloc: Global,
     ground: &G,
     header: &Header,
+    verdicts: &Verdicts,
     envelope: &Envelope,
 ) -> Result<TxDone, NoMemory>
-    requires fits { (envelope_format whole).fits envelope.now }
-    requires runs { IsTrue (runs_today (transaction_in envelope.now)) }
+    requires fits { envelope_format.fits envelope.now }
     requires settings { IsTrue (are_settings header.now.settings) }
     requires next { IsTrue (has_next header.now) }
-    ensures done { IfOk result (λ done. done_of done ≡ enforced header.now (G.map ground.now) envelope.now) }
-    // The result and the keys of extensions are within their XDR formats.
-    ensures outcome_fits { IfOk result (λ done. envelope_outcome_format.fits done.outcome) }
-    ensures keys_fit { IfOk result (λ done. All (λ e. key_format.fits e.key) done.extensions) }
+    ensures done { IfOk result (λ done. effect_of done ≡ enforced header.now verdicts.now (G.map ground.now) envelope.now) }
+    ensures within { IfOk result IsWithin }
 {
     let done = run_transaction(alloc, ground, header, envelope.transaction())?;
-    let outcome = envelope_outcome(alloc, &header.network_id, envelope, done.outcome)?;
+    let result = result_pair(alloc, &header.network_id, envelope, done.outcome)?;
     Ok(TxDone {
-        outcome,
+        result,
+        success: None,
+        changes: Items::from_vec(Vec::new(alloc)),
         extensions: done.extensions,
+        used: Used {
+            instructions: 0,
+            memory: 0,
+        },
     })
 }

@@ -3,12 +3,13 @@
 ghost use Rattle.std.specs.Prelude.{◌≡◌, All, IfOk, if◌then◌else◌};
 ghost use Rattle.std.specs.List.{list_all};
 ghost use Rattle.ledger_types.specs.Key.{key_format};
-ghost use Rattle.apply_spec.specs.Enforced.{has_life as has_life_in, may_extend as may_extend_in, extensions_of, extension_seen};
+ghost use Rattle.apply_spec.specs.Enforced.{has_life as has_life_in, may_extend as may_extend_in};
+ghost use Rattle.apply_spec.specs.Extending.{extensions_of, extension_seen};
 ghost use Rattle.ledger_spec.specs.Seen.{seen};
 
-use apply_spec::Extension;
 use entry_lookup::Ground;
 use ledger_types::{LedgerKey, Settings};
+use stage_runs::Extension;
 use std::alloc::Global;
 use xdr_core::NoMemory;
 

@@ -4,17 +4,15 @@ ghost use Rattle.std.specs.Prelude.{◌≡◌, [], ◌∷◌, All, IfOk, IsTrue}
 ghost use Rattle.ledger_types.specs.Key.{key_format};
 ghost use Rattle.ledger_spec.specs.LedgerFile.{are_settings, has_next};
 ghost use Rattle.apply_spec.specs.Checks.{footprint_of};
-ghost use Rattle.tx_xdr.specs.SetBounds.{today, takes_operation};
-ghost use Rattle.tx_xdr.specs.Operation.{kind};
-ghost use Rattle.apply_spec.specs.Enforced.{enforced_transaction, extended, performed, runs_today, without_effect as without_effect_in};
-ghost use Rattle.tx_apply.specs.Done.{transaction_done_of};
+ghost use Rattle.tx_apply.specs.Outcomes.{ended, extended, performed, without_effect as without_effect_in};
+ghost use Rattle.tx_apply.specs.Done.{ended_of};
 
 use crate::checks::refusal_of;
 use crate::extend::{extensions, may_extend};
 use crate::footprint::{read_only_of, read_write_of};
-use apply_spec::Extension;
 use entry_lookup::Ground;
 use ledger_types::Header;
+use stage_runs::Extension;
 use std::alloc::Global;
 use tx_results::{ExtendResult, InnerResult, OperationResult, TransactionOutcome};
 use tx_xdr::{OperationBody, Transaction};
@@ -58,7 +56,7 @@ fn extension(result_of_extend: ExtendResult) -> OperationResult
 
 /// Returns the outcome of a transaction whose only operation failed.
 fn failed(alloc: Global, only: OperationResult) -> Result<TransactionDone, NoMemory>
-    ensures { IfOk result (λ done. transaction_done_of done ≡ without_effect_in (TransactionOutcome.Failed (only ∷ []))) }
+    ensures { IfOk result (λ done. ended_of done ≡ without_effect_in (TransactionOutcome.Failed (only ∷ []))) }
 {
     let results = one_result(alloc, only)?;
     Ok(without_effect(alloc, TransactionOutcome::Failed(results)))
@@ -75,7 +73,7 @@ fn extend<G: Ground>(
     requires read_only { All (λ key. key_format.fits key) (footprint_of tx.now).read_only }
     requires settings { IsTrue (are_settings header.now.settings) }
     requires next { IsTrue (has_next header.now) }
-    ensures { IfOk result (λ done. transaction_done_of done ≡ extended header.now (G.map ground.now) (footprint_of tx.now) extend_to) }
+    ensures { IfOk result (λ done. ended_of done ≡ extended header.now (G.map ground.now) (footprint_of tx.now) extend_to) }
 {
     let keys = read_only_of(tx);
     if !may_extend(&header.settings, keys, read_write_of(tx), extend_to) {
@@ -98,18 +96,18 @@ fn perform<G: Ground>(
     tx: &Transaction,
     body: &OperationBody,
 ) -> Result<TransactionDone, NoMemory>
-    requires runs { IsTrue (takes_operation today (kind body.now)) }
     requires read_only { All (λ key. key_format.fits key) (footprint_of tx.now).read_only }
     requires settings { IsTrue (are_settings header.now.settings) }
     requires next { IsTrue (has_next header.now) }
-    ensures { IfOk result (λ done. transaction_done_of done ≡ performed header.now (G.map ground.now) tx.now body.now) }
+    ensures { IfOk result (λ done. ended_of done ≡ performed header.now (G.map ground.now) tx.now body.now) }
 {
     match body {
         OperationBody::ExtendFootprintTtl { extend_to } => {
             extend(alloc, ground, header, tx, *extend_to)
         }
-        OperationBody::RestoreFootprint => failed(alloc, OperationResult::NotSupported),
-        OperationBody::InvokeHostFunction { .. } => unreachable!(),
+        OperationBody::RestoreFootprint | OperationBody::InvokeHostFunction { .. } => {
+            failed(alloc, OperationResult::NotSupported)
+        }
     }
 }
 
@@ -120,12 +118,11 @@ pub fn run_transaction<G: Ground>(
     header: &Header,
     tx: &Transaction,
 ) -> Result<TransactionDone, NoMemory>
-    requires runs { IsTrue (runs_today tx.now) }
     requires read_only { All (λ key. key_format.fits key) (footprint_of tx.now).read_only }
     requires read_write { All (λ key. key_format.fits key) (footprint_of tx.now).read_write }
     requires settings { IsTrue (are_settings header.now.settings) }
     requires next { IsTrue (has_next header.now) }
-    ensures { IfOk result (λ done. transaction_done_of done ≡ enforced_transaction header.now (G.map ground.now) tx.now) }
+    ensures { IfOk result (λ done. ended_of done ≡ ended header.now (G.map ground.now) tx.now) }
 {
     if let Some(outcome) = refusal_of(alloc, header, tx)? {
         return Ok(without_effect(alloc, outcome));

@@ -13,7 +13,6 @@ use Rattle.tx_parts.specs.Signature.{signature_format, signature_lawful}
 use Rattle.tx_parts.specs.declared.account.MuxedAccount.{MuxedAccount}
 use Rattle.tx_parts.specs.declared.signature.DecoratedSignature.{DecoratedSignature}
 use Rattle.tx_xdr.specs.Transaction.{transaction_format, transaction_lawful}
-use Rattle.tx_xdr.specs.declared.limits.SetBounds.{SetBounds}
 use Rattle.tx_xdr.specs.declared.transaction.Transaction.{Transaction}
 use Rattle.tx_xdr.specs.declared.envelope.SignedTransaction.{SignedTransaction}
 use Rattle.tx_xdr.specs.declared.envelope.FeeBump.{FeeBump}
@@ -31,13 +30,13 @@ signed_of f = record { tx = f.0; signatures = f.1 }
 abbrev pub signed_fields : SignedTransaction → Transaction × List DecoratedSignature
 signed_fields signed = (signed.tx, signed.signatures)
 
-unfoldable pub signed_format : SetBounds → Format SignedTransaction
-signed_format limits = via signed_of signed_fields (pair (transaction_format limits) (list 20 signature_format))
+unfoldable pub signed_format : Format SignedTransaction
+signed_format = via signed_of signed_fields (pair transaction_format (list 20 signature_format))
 
-pub signed_lawful : (limits : SetBounds) → IsFormat (signed_format limits)
+pub signed_lawful : IsFormat signed_format
 unfolding signed_format
-signed_lawful limits = via_lawful signed_of signed_fields _ (λ f. refl) (λ signed. refl)
-    (pair_lawful _ _ (transaction_lawful limits) (list_lawful 20 _ signature_lawful))
+signed_lawful = via_lawful signed_of signed_fields _ (λ f. refl) (λ signed. refl)
+    (pair_lawful _ _ transaction_lawful (list_lawful 20 _ signature_lawful))
 
 -- ---- a fee bump: who pays, the fee, the number 2 (ENVELOPE_TYPE_TX) and a signed transaction, and ext 0
 
@@ -50,15 +49,15 @@ fee_bump_of f = record { fee_source = f.0; fee = f.1.0; inner = f.1.1.0 }
 abbrev pub fee_bump_fields : FeeBump → FeeBumpFields
 fee_bump_fields fee_bump = (fee_bump.fee_source, (fee_bump.fee, (fee_bump.inner, tt)))
 
-unfoldable pub fee_bump_format : SetBounds → Format FeeBump
-fee_bump_format limits = via fee_bump_of fee_bump_fields
-    (pair account_format (pair signed64 (pair (headed 2 (signed_format limits)) (headed 0 (nothing tt)))))
+unfoldable pub fee_bump_format : Format FeeBump
+fee_bump_format = via fee_bump_of fee_bump_fields
+    (pair account_format (pair signed64 (pair (headed 2 signed_format) (headed 0 (nothing tt)))))
 
-pub fee_bump_lawful : (limits : SetBounds) → IsFormat (fee_bump_format limits)
+pub fee_bump_lawful : IsFormat fee_bump_format
 unfolding fee_bump_format
-fee_bump_lawful limits = via_lawful fee_bump_of fee_bump_fields _ (λ f. refl) (λ fee_bump. refl)
+fee_bump_lawful = via_lawful fee_bump_of fee_bump_fields _ (λ f. refl) (λ fee_bump. refl)
     (pair_lawful _ _ account_lawful (pair_lawful _ _ signed64_lawful
-    (pair_lawful _ _ (headed_lawful 2 _ (omega arith) (signed_lawful limits)) (headed_lawful 0 _ (omega arith) (nothing_lawful tt)))))
+    (pair_lawful _ _ (headed_lawful 2 _ (omega arith) signed_lawful) (headed_lawful 0 _ (omega arith) (nothing_lawful tt)))))
 
 -- ---- a fee bump and at most 20 signatures
 
@@ -68,13 +67,13 @@ signed_fee_bump_of f = record { fee_bump = f.0; signatures = f.1 }
 abbrev pub signed_fee_bump_fields : SignedFeeBump → FeeBump × List DecoratedSignature
 signed_fee_bump_fields signed = (signed.fee_bump, signed.signatures)
 
-unfoldable pub signed_fee_bump_format : SetBounds → Format SignedFeeBump
-signed_fee_bump_format limits = via signed_fee_bump_of signed_fee_bump_fields (pair (fee_bump_format limits) (list 20 signature_format))
+unfoldable pub signed_fee_bump_format : Format SignedFeeBump
+signed_fee_bump_format = via signed_fee_bump_of signed_fee_bump_fields (pair fee_bump_format (list 20 signature_format))
 
-pub signed_fee_bump_lawful : (limits : SetBounds) → IsFormat (signed_fee_bump_format limits)
+pub signed_fee_bump_lawful : IsFormat signed_fee_bump_format
 unfolding signed_fee_bump_format
-signed_fee_bump_lawful limits = via_lawful signed_fee_bump_of signed_fee_bump_fields _ (λ f. refl) (λ signed. refl)
-    (pair_lawful _ _ (fee_bump_lawful limits) (list_lawful 20 _ signature_lawful))
+signed_fee_bump_lawful = via_lawful signed_fee_bump_of signed_fee_bump_fields _ (λ f. refl) (λ signed. refl)
+    (pair_lawful _ _ fee_bump_lawful (list_lawful 20 _ signature_lawful))
 
 -- ---- the types
 
@@ -123,12 +122,12 @@ abbrev pub as_fee_bump : Envelope → Option SignedFeeBump
 as_fee_bump (envelopes.FeeBump signed) = Some signed
 as_fee_bump _ = None
 
-abbrev pub arms : SetBounds → EnvelopeType → Format Envelope
-arms limits types.Transaction = arm of_transaction as_transaction (signed_format limits)
-arms limits types.FeeBump = arm of_fee_bump as_fee_bump (signed_fee_bump_format limits)
+abbrev pub arms : EnvelopeType → Format Envelope
+arms types.Transaction = arm of_transaction as_transaction signed_format
+arms types.FeeBump = arm of_fee_bump as_fee_bump signed_fee_bump_format
 
-unfoldable pub envelope_format : SetBounds → Format Envelope
-envelope_format limits = union number type_of kind (arms limits)
+unfoldable pub envelope_format : Format Envelope
+envelope_format = union number type_of kind arms
 
 -- the transaction that runs: of a fee bump the inner one
 abbrev pub transaction_in : Envelope → Transaction
@@ -143,21 +142,21 @@ back_fee_bump : (v : Envelope) (x : SignedFeeBump) → as_fee_bump v ≡ Some x 
 back_fee_bump (envelopes.FeeBump signed) x e = cc
 back_fee_bump _ x e = absurd cc
 
-arms_lawful : (limits : SetBounds) (k : EnvelopeType) → IsFormat (arms limits k)
-arms_lawful limits types.Transaction = arm_lawful of_transaction as_transaction _ (λ x. refl) back_transaction (signed_lawful limits)
-arms_lawful limits types.FeeBump = arm_lawful of_fee_bump as_fee_bump _ (λ x. refl) back_fee_bump (signed_fee_bump_lawful limits)
+arms_lawful : (k : EnvelopeType) → IsFormat (arms k)
+arms_lawful types.Transaction = arm_lawful of_transaction as_transaction _ (λ x. refl) back_transaction signed_lawful
+arms_lawful types.FeeBump = arm_lawful of_fee_bump as_fee_bump _ (λ x. refl) back_fee_bump signed_fee_bump_lawful
 
-coherent : (limits : SetBounds) (k : EnvelopeType) (v : Envelope) → (arms limits k).fits v → kind v ≡ k
-coherent limits types.Transaction v h = arm_kind kind types.Transaction of_transaction as_transaction (signed_format limits) (λ x. refl) back_transaction v h
-coherent limits types.FeeBump v h = arm_kind kind types.FeeBump of_fee_bump as_fee_bump (signed_fee_bump_format limits) (λ x. refl) back_fee_bump v h
+coherent : (k : EnvelopeType) (v : Envelope) → (arms k).fits v → kind v ≡ k
+coherent types.Transaction v h = arm_kind kind types.Transaction of_transaction as_transaction signed_format (λ x. refl) back_transaction v h
+coherent types.FeeBump v h = arm_kind kind types.FeeBump of_fee_bump as_fee_bump signed_fee_bump_format (λ x. refl) back_fee_bump v h
 
-pub envelope_lawful : (limits : SetBounds) → IsFormat (envelope_format limits)
+pub envelope_lawful : IsFormat envelope_format
 unfolding envelope_format
-envelope_lawful limits = union_lawful number type_of kind (arms limits) (record {
+envelope_lawful = union_lawful number type_of kind arms (record {
   some = types.Transaction;
   small = small;
   there = there;
   back = find_kind-back number all;
-  bodies = arms_lawful limits;
-  coherent = coherent limits;
+  bodies = arms_lawful;
+  coherent = coherent;
 })

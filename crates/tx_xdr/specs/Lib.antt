@@ -1,4 +1,3 @@
-pub mod SetBounds
 pub mod Operation
 pub mod Soroban
 pub mod Ext

@@ -2,12 +2,11 @@
 -- and a body of that type.
 use Rattle.std.specs.Prelude.{◌≡◌, ◌<◌, ◌^◌, List, [], ◌∷◌, ℕ, Option, Some, None}
 use Rattle.std.proofs.Common.{refl, ap, arith}
-use Rattle.xdr_spec.specs.Format.{Format, via, pair, list, arm, nothing, optional, enumeration, find_kind, number32, union_among}
+use Rattle.xdr_spec.specs.Format.{Format, via, pair, list, arm, nothing, optional, enumeration, find_kind, number32, union}
 use Rattle.xdr_spec.specs.Laws.{IsFormat}
 use Rattle.xdr_spec.proofs.Pairs.{pair_lawful, nothing_lawful}
 use Rattle.xdr_spec.proofs.Remade.{via_lawful, arm_lawful, arm_kind}
-use Rattle.xdr_spec.proofs.Derived.{enumeration_lawful, find_kind-back, list_lawful, optional_lawful, number32_lawful}
-use Rattle.xdr_spec.proofs.Among.{union_among_lawful}
+use Rattle.xdr_spec.proofs.Derived.{union_lawful, enumeration_lawful, find_kind-back, list_lawful, optional_lawful, number32_lawful}
 use Rattle.value_types.specs.Headed.{headed, headed_lawful}
 use Rattle.invoke_types.specs.HostFunction.{host_function_format, host_function_lawful}
 use Rattle.invoke_types.specs.declared.host_function.HostFunction.{HostFunction}
@@ -15,8 +14,6 @@ use Rattle.auth_types.specs.AuthEntry.{auth_entry_format, auth_entry_lawful}
 use Rattle.auth_types.specs.declared.auth_entry.AuthEntry.{AuthEntry}
 use Rattle.tx_parts.specs.MuxedAccount.{account_format, account_lawful}
 use Rattle.tx_parts.specs.declared.account.MuxedAccount.{MuxedAccount}
-use Rattle.tx_xdr.specs.SetBounds.{takes_operation}
-use Rattle.tx_xdr.specs.declared.limits.SetBounds.{SetBounds}
 use Rattle.tx_xdr.specs.declared.transaction.OperationType.{OperationType}
 use Rattle.tx_xdr.specs.declared.transaction.OperationType.TheVariants as types
 use Rattle.tx_xdr.specs.declared.transaction.OperationBody.{OperationBody}
@@ -80,8 +77,8 @@ arms types.InvokeHostFunction = arm invocation_of as_invocation (pair host_funct
 arms types.ExtendFootprintTtl = arm extension_of as_extension (headed 0 number32)
 arms types.RestoreFootprint = headed 0 (nothing bodies.RestoreFootprint)
 
-unfoldable pub body_format : SetBounds → Format OperationBody
-body_format limits = union_among (takes_operation limits) number type_of kind arms
+unfoldable pub body_format : Format OperationBody
+body_format = union number type_of kind arms
 
 back_invocation : (v : OperationBody) (x : HostFunction × List AuthEntry) → as_invocation v ≡ Some x → invocation_of x ≡ v
 back_invocation (bodies.InvokeHostFunction host_function auth) x e = cc
@@ -101,16 +98,16 @@ coherent types.InvokeHostFunction v h = arm_kind kind types.InvokeHostFunction i
 coherent types.ExtendFootprintTtl v h = arm_kind kind types.ExtendFootprintTtl extension_of as_extension (headed 0 number32) (λ x. refl) back_extension v h
 coherent types.RestoreFootprint v h = ap kind h
 
-pub body_lawful : (limits : SetBounds) → IsFormat (body_format limits)
+pub body_lawful : IsFormat body_format
 unfolding body_format
-body_lawful limits = union_among_lawful (takes_operation limits) number type_of kind arms (record {
+body_lawful = union_lawful number type_of kind arms (record {
   some = types.RestoreFootprint;
   small = small;
   there = there;
   back = find_kind-back number all;
   bodies = arms_lawful;
   coherent = coherent;
-}) refl
+})
 
 -- ---- the operation
 
@@ -120,10 +117,10 @@ operation_of f = record { source = f.0; body = f.1 }
 abbrev pub operation_fields : Operation → Option MuxedAccount × OperationBody
 operation_fields operation = (operation.source, operation.body)
 
-unfoldable pub operation_format : SetBounds → Format Operation
-operation_format limits = via operation_of operation_fields (pair (optional account_format) (body_format limits))
+unfoldable pub operation_format : Format Operation
+operation_format = via operation_of operation_fields (pair (optional account_format) body_format)
 
-pub operation_lawful : (limits : SetBounds) → IsFormat (operation_format limits)
+pub operation_lawful : IsFormat operation_format
 unfolding operation_format
-operation_lawful limits = via_lawful operation_of operation_fields _ (λ f. refl) (λ operation. refl)
-    (pair_lawful _ _ (optional_lawful _ account_lawful) (body_lawful limits))
+operation_lawful = via_lawful operation_of operation_fields _ (λ f. refl) (λ operation. refl)
+    (pair_lawful _ _ (optional_lawful _ account_lawful) body_lawful)

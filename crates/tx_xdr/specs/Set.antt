@@ -2,18 +2,15 @@
 -- or stages of clusters of envelopes.
 use Rattle.std.specs.Prelude.{◌≡◌, ◌<◌, ◌^◌, ℕ, ℤ, List, [], ◌∷◌, Option, Some, None}
 use Rattle.std.proofs.Common.{refl, arith}
-use Rattle.xdr_spec.specs.Format.{Format, via, pair, list, arm, optional, signed64, enumeration, find_kind, union_among}
+use Rattle.xdr_spec.specs.Format.{Format, via, pair, list, arm, optional, signed64, enumeration, find_kind, union}
 use Rattle.xdr_spec.specs.Laws.{IsFormat}
 use Rattle.xdr_spec.proofs.Pairs.{pair_lawful}
 use Rattle.xdr_spec.proofs.Remade.{via_lawful, arm_lawful, arm_kind}
-use Rattle.xdr_spec.proofs.Derived.{list_lawful, optional_lawful, signed64_lawful, enumeration_lawful, find_kind-back}
-use Rattle.xdr_spec.proofs.Among.{union_among_lawful}
+use Rattle.xdr_spec.proofs.Derived.{list_lawful, optional_lawful, signed64_lawful, union_lawful, enumeration_lawful, find_kind-back}
 use Rattle.value_types.specs.Headed.{headed, headed_lawful}
 use Rattle.value_types.specs.Hash.{hash_format, hash_lawful}
 use Rattle.value_types.specs.declared.hash.Hash.{Hash}
-use Rattle.tx_xdr.specs.SetBounds.{takes_phase}
 use Rattle.tx_xdr.specs.Envelope.{envelope_format, envelope_lawful}
-use Rattle.tx_xdr.specs.declared.limits.SetBounds.{SetBounds}
 use Rattle.tx_xdr.specs.declared.envelope.Envelope.{Envelope}
 use Rattle.tx_xdr.specs.declared.set.Component.{Component}
 use Rattle.tx_xdr.specs.declared.set.Cluster.{Cluster}
@@ -32,13 +29,13 @@ component_of f = record { base_fee = f.0; envelopes = f.1 }
 abbrev pub component_fields : Component → Option ℤ × List Envelope
 component_fields component = (component.base_fee, component.envelopes)
 
-unfoldable pub component_format : SetBounds → Format Component
-component_format limits = headed 0 (via component_of component_fields (pair (optional signed64) (list 4294967295 (envelope_format limits))))
+unfoldable pub component_format : Format Component
+component_format = headed 0 (via component_of component_fields (pair (optional signed64) (list 4294967295 envelope_format)))
 
-pub component_lawful : (limits : SetBounds) → IsFormat (component_format limits)
+pub component_lawful : IsFormat component_format
 unfolding component_format
-component_lawful limits = headed_lawful 0 _ (omega arith) (via_lawful component_of component_fields _ (λ f. refl) (λ component. refl)
-    (pair_lawful _ _ (optional_lawful _ signed64_lawful) (list_lawful 4294967295 _ (envelope_lawful limits))))
+component_lawful = headed_lawful 0 _ (omega arith) (via_lawful component_of component_fields _ (λ f. refl) (λ component. refl)
+    (pair_lawful _ _ (optional_lawful _ signed64_lawful) (list_lawful 4294967295 _ envelope_lawful)))
 
 -- ---- clusters: envelopes
 
@@ -48,12 +45,12 @@ cluster_of envelopes = record { envelopes = envelopes }
 abbrev pub envelopes_of : Cluster → List Envelope
 envelopes_of cluster = cluster.envelopes
 
-unfoldable pub cluster_format : SetBounds → Format Cluster
-cluster_format limits = via cluster_of envelopes_of (list 4294967295 (envelope_format limits))
+unfoldable pub cluster_format : Format Cluster
+cluster_format = via cluster_of envelopes_of (list 4294967295 envelope_format)
 
-pub cluster_lawful : (limits : SetBounds) → IsFormat (cluster_format limits)
+pub cluster_lawful : IsFormat cluster_format
 unfolding cluster_format
-cluster_lawful limits = via_lawful cluster_of envelopes_of _ (λ envelopes. refl) (λ cluster. refl) (list_lawful 4294967295 _ (envelope_lawful limits))
+cluster_lawful = via_lawful cluster_of envelopes_of _ (λ envelopes. refl) (λ cluster. refl) (list_lawful 4294967295 _ envelope_lawful)
 
 -- ---- stages: clusters
 
@@ -63,12 +60,12 @@ stage_of clusters = record { clusters = clusters }
 abbrev pub clusters_of : Stage → List Cluster
 clusters_of stage = stage.clusters
 
-unfoldable pub stage_format : SetBounds → Format Stage
-stage_format limits = via stage_of clusters_of (list limits.parts (cluster_format limits))
+unfoldable pub stage_format : Format Stage
+stage_format = via stage_of clusters_of (list 4294967295 cluster_format)
 
-pub stage_lawful : (limits : SetBounds) → IsFormat (stage_format limits)
+pub stage_lawful : IsFormat stage_format
 unfolding stage_format
-stage_lawful limits = via_lawful stage_of clusters_of _ (λ clusters. refl) (λ stage. refl) (list_lawful limits.parts _ (cluster_lawful limits))
+stage_lawful = via_lawful stage_of clusters_of _ (λ clusters. refl) (λ stage. refl) (list_lawful 4294967295 _ cluster_lawful)
 
 -- ---- phases: 0 and components, or 1, an optional base fee and stages
 
@@ -103,17 +100,12 @@ abbrev pub as_parallel : Phase → Option (Option ℤ × List Stage)
 as_parallel (phases.Parallel base_fee stages) = Some (base_fee, stages)
 as_parallel _ = None
 
-abbrev pub phase_arms : SetBounds → PhaseType → Format Phase
-phase_arms limits types.Components = arm components_phase as_components (list 4294967295 (component_format limits))
-phase_arms limits types.Parallel = arm parallel_phase as_parallel (pair (optional signed64) (list limits.parts (stage_format limits)))
+abbrev pub phase_arms : PhaseType → Format Phase
+phase_arms types.Components = arm components_phase as_components (list 4294967295 component_format)
+phase_arms types.Parallel = arm parallel_phase as_parallel (pair (optional signed64) (list 4294967295 stage_format))
 
-unfoldable pub phase_format : SetBounds → Format Phase
-phase_format limits = union_among (takes_phase limits) phase_number phase_type_of phase_type (phase_arms limits)
-
--- the stages of a parallel phase; a phase of components has none
-abbrev pub parallel_stages : Phase → List Stage
-parallel_stages (phases.Components components) = []
-parallel_stages (phases.Parallel base_fee stages) = stages
+unfoldable pub phase_format : Format Phase
+phase_format = union phase_number phase_type_of phase_type phase_arms
 
 small : (k : PhaseType) → phase_number k < 2 ^ 32
 small types.Components = omega arith
@@ -135,25 +127,25 @@ back_parallel : (v : Phase) (x : Option ℤ × List Stage) → as_parallel v ≡
 back_parallel (phases.Parallel base_fee stages) x e = cc
 back_parallel _ x e = absurd cc
 
-arms_lawful : (limits : SetBounds) (k : PhaseType) → IsFormat (phase_arms limits k)
-arms_lawful limits types.Components = arm_lawful components_phase as_components _ (λ x. refl) back_components (list_lawful 4294967295 _ (component_lawful limits))
-arms_lawful limits types.Parallel = arm_lawful parallel_phase as_parallel _ (λ x. refl) back_parallel
-    (pair_lawful _ _ (optional_lawful _ signed64_lawful) (list_lawful limits.parts _ (stage_lawful limits)))
+arms_lawful : (k : PhaseType) → IsFormat (phase_arms k)
+arms_lawful types.Components = arm_lawful components_phase as_components _ (λ x. refl) back_components (list_lawful 4294967295 _ component_lawful)
+arms_lawful types.Parallel = arm_lawful parallel_phase as_parallel _ (λ x. refl) back_parallel
+    (pair_lawful _ _ (optional_lawful _ signed64_lawful) (list_lawful 4294967295 _ stage_lawful))
 
-coherent : (limits : SetBounds) (k : PhaseType) (v : Phase) → (phase_arms limits k).fits v → phase_type v ≡ k
-coherent limits types.Components v h = arm_kind phase_type types.Components components_phase as_components (list 4294967295 (component_format limits)) (λ x. refl) back_components v h
-coherent limits types.Parallel v h = arm_kind phase_type types.Parallel parallel_phase as_parallel (pair (optional signed64) (list limits.parts (stage_format limits))) (λ x. refl) back_parallel v h
+coherent : (k : PhaseType) (v : Phase) → (phase_arms k).fits v → phase_type v ≡ k
+coherent types.Components v h = arm_kind phase_type types.Components components_phase as_components (list 4294967295 component_format) (λ x. refl) back_components v h
+coherent types.Parallel v h = arm_kind phase_type types.Parallel parallel_phase as_parallel (pair (optional signed64) (list 4294967295 stage_format)) (λ x. refl) back_parallel v h
 
-pub phase_lawful : (limits : SetBounds) → IsFormat (phase_format limits)
+pub phase_lawful : IsFormat phase_format
 unfolding phase_format
-phase_lawful limits = union_among_lawful (takes_phase limits) phase_number phase_type_of phase_type (phase_arms limits) (record {
+phase_lawful = union_lawful phase_number phase_type_of phase_type phase_arms (record {
   some = types.Parallel;
   small = small;
   there = there;
   back = find_kind-back phase_number phase_types;
-  bodies = arms_lawful limits;
-  coherent = coherent limits;
-}) refl
+  bodies = arms_lawful;
+  coherent = coherent;
+})
 
 -- ---- sets: version 1, the hash of the ledger before, and phases
 
@@ -163,10 +155,10 @@ set_of f = record { previous_ledger_hash = f.0; phases = f.1 }
 abbrev pub set_fields : TxSet → Hash × List Phase
 set_fields set = (set.previous_ledger_hash, set.phases)
 
-unfoldable pub set_format : SetBounds → Format TxSet
-set_format limits = headed 1 (via set_of set_fields (pair hash_format (list limits.parts (phase_format limits))))
+unfoldable pub set_format : Format TxSet
+set_format = headed 1 (via set_of set_fields (pair hash_format (list 4294967295 phase_format)))
 
-pub set_lawful : (limits : SetBounds) → IsFormat (set_format limits)
+pub set_lawful : IsFormat set_format
 unfolding set_format
-set_lawful limits = headed_lawful 1 _ (omega arith) (via_lawful set_of set_fields _ (λ f. refl) (λ set. refl)
-    (pair_lawful _ _ hash_lawful (list_lawful limits.parts _ (phase_lawful limits))))
+set_lawful = headed_lawful 1 _ (omega arith) (via_lawful set_of set_fields _ (λ f. refl) (λ set. refl)
+    (pair_lawful _ _ hash_lawful (list_lawful 4294967295 _ phase_lawful)))

@@ -14,7 +14,6 @@ use Rattle.tx_parts.specs.declared.preconditions.Preconditions.{Preconditions}
 use Rattle.tx_parts.specs.declared.memo.Memo.{Memo}
 use Rattle.tx_xdr.specs.Operation.{operation_format, operation_lawful}
 use Rattle.tx_xdr.specs.Ext.{ext_format, ext_lawful}
-use Rattle.tx_xdr.specs.declared.limits.SetBounds.{SetBounds}
 use Rattle.tx_xdr.specs.declared.transaction.Operation.{Operation}
 use Rattle.tx_xdr.specs.declared.transaction.TransactionExt.{TransactionExt}
 use Rattle.tx_xdr.specs.declared.transaction.Transaction.{Transaction}
@@ -30,12 +29,12 @@ transaction_of f = record { source = f.0; fee = f.1.0; seq_num = f.1.1.0; precon
 abbrev pub transaction_fields : Transaction → TransactionFields
 transaction_fields tx = (tx.source, (tx.fee, (tx.seq_num, (tx.preconditions, (tx.memo, (tx.operations, tx.ext))))))
 
-unfoldable pub transaction_format : SetBounds → Format Transaction
-transaction_format limits = via transaction_of transaction_fields
-    (pair account_format (pair number32 (pair signed64 (pair preconditions_format (pair memo_format (pair (list 100 (operation_format limits)) ext_format))))))
+unfoldable pub transaction_format : Format Transaction
+transaction_format = via transaction_of transaction_fields
+    (pair account_format (pair number32 (pair signed64 (pair preconditions_format (pair memo_format (pair (list 100 operation_format) ext_format))))))
 
-pub transaction_lawful : (limits : SetBounds) → IsFormat (transaction_format limits)
+pub transaction_lawful : IsFormat transaction_format
 unfolding transaction_format
-transaction_lawful limits = via_lawful transaction_of transaction_fields _ (λ f. refl) (λ tx. refl)
+transaction_lawful = via_lawful transaction_of transaction_fields _ (λ f. refl) (λ tx. refl)
     (pair_lawful _ _ account_lawful (pair_lawful _ _ number32_lawful (pair_lawful _ _ signed64_lawful (pair_lawful _ _ preconditions_lawful
-    (pair_lawful _ _ memo_lawful (pair_lawful _ _ (list_lawful 100 _ (operation_lawful limits)) ext_lawful))))))
+    (pair_lawful _ _ memo_lawful (pair_lawful _ _ (list_lawful 100 _ operation_lawful) ext_lawful))))))

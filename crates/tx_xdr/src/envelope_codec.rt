@@ -1,43 +1,25 @@
-//! The spelling of envelopes.
+//! The codec of envelopes.
 
 ghost use Rattle.xdr_core.specs.Reads.{Reads};
-ghost use Rattle.tx_xdr.specs.SetBounds.{whole};
 ghost use Rattle.tx_xdr.specs.Envelope.{signed_format, signed_lawful, fee_bump_format, fee_bump_lawful, signed_fee_bump_format, signed_fee_bump_lawful, type_format, type_lawful, arms, envelope_format, envelope_lawful};
 
 use crate::envelope::{Envelope, EnvelopeType, FeeBump, SignedFeeBump, SignedTransaction};
-use crate::limits::SetBounds;
 use crate::numbers::{ENVELOPE_TYPE_TX, NO_EXT};
 use crate::transaction::Transaction;
-use crate::within::ReadWithin;
 use std::alloc::Global;
 use tx_parts::{DecoratedSignature, MuxedAccount};
 use value_types::Items;
 use value_xdr::{Xdr, named, read_head};
 use xdr_core::{Cursor, NoMemory, Out, ReadXdr, add_sizes};
 
-#[tactic(auto, unfolding(crate::specs::Envelope::signed_format))]
-impl ReadWithin for SignedTransaction {
-    ghost format = { signed_format };
-
-    fn read_parts_within(
-        alloc: Global,
-        input: &mut Cursor<'_>,
-        limits: SetBounds,
-    ) -> Result<SignedTransaction, ReadXdr> {
-        let tx = Transaction::read_within(alloc, input, limits)?;
-        let signatures = Items::<DecoratedSignature, 20>::read(alloc, input)?;
-        Ok(SignedTransaction { tx, signatures })
-    }
-
-    ghost lawful = { signed_lawful };
-}
-
 #[tactic(auto, unfolding(crate::specs::Envelope::signed_format, xdr_core::specs::Sizes::capped))]
 impl Xdr for SignedTransaction {
-    ghost format = { signed_format whole };
+    ghost format = { signed_format };
 
     fn read_parts(alloc: Global, input: &mut Cursor<'_>) -> Result<SignedTransaction, ReadXdr> {
-        SignedTransaction::read_within(alloc, input, SetBounds::whole())
+        let tx = Transaction::read(alloc, input)?;
+        let signatures = Items::<DecoratedSignature, 20>::read(alloc, input)?;
+        Ok(SignedTransaction { tx, signatures })
     }
 
     fn write_parts(&self, out: &mut Out) -> Result<(), NoMemory> {
@@ -49,39 +31,24 @@ impl Xdr for SignedTransaction {
         add_sizes(self.tx.size(), self.signatures.size())
     }
 
-    ghost lawful = { signed_lawful whole };
+    ghost lawful = { signed_lawful };
 }
 
 #[tactic(auto, unfolding(crate::specs::Envelope::fee_bump_format))]
-impl ReadWithin for FeeBump {
+impl Xdr for FeeBump {
     ghost format = { fee_bump_format };
 
-    fn read_parts_within(
-        alloc: Global,
-        input: &mut Cursor<'_>,
-        limits: SetBounds,
-    ) -> Result<FeeBump, ReadXdr> {
+    fn read_parts(alloc: Global, input: &mut Cursor<'_>) -> Result<FeeBump, ReadXdr> {
         let fee_source = MuxedAccount::read(alloc, input)?;
         let fee = i64::read(alloc, input)?;
         read_head(input, ENVELOPE_TYPE_TX)?;
-        let inner = SignedTransaction::read_within(alloc, input, limits)?;
+        let inner = SignedTransaction::read(alloc, input)?;
         read_head(input, NO_EXT)?;
         Ok(FeeBump {
             fee_source,
             fee,
             inner,
         })
-    }
-
-    ghost lawful = { fee_bump_lawful };
-}
-
-#[tactic(auto, unfolding(crate::specs::Envelope::fee_bump_format))]
-impl Xdr for FeeBump {
-    ghost format = { fee_bump_format whole };
-
-    fn read_parts(alloc: Global, input: &mut Cursor<'_>) -> Result<FeeBump, ReadXdr> {
-        FeeBump::read_within(alloc, input, SetBounds::whole())
     }
 
     fn write_parts(&self, out: &mut Out) -> Result<(), NoMemory> {
@@ -98,35 +65,20 @@ impl Xdr for FeeBump {
         add_sizes(self.fee_source.size(), self.inner.size()).saturating_add(16)
     }
 
-    ghost lawful = { fee_bump_lawful whole };
+    ghost lawful = { fee_bump_lawful };
 }
 
-#[tactic(auto, unfolding(crate::specs::Envelope::signed_fee_bump_format))]
-impl ReadWithin for SignedFeeBump {
+#[tactic(auto, unfolding(crate::specs::Envelope::signed_fee_bump_format, xdr_core::specs::Sizes::capped))]
+impl Xdr for SignedFeeBump {
     ghost format = { signed_fee_bump_format };
 
-    fn read_parts_within(
-        alloc: Global,
-        input: &mut Cursor<'_>,
-        limits: SetBounds,
-    ) -> Result<SignedFeeBump, ReadXdr> {
-        let fee_bump = FeeBump::read_within(alloc, input, limits)?;
+    fn read_parts(alloc: Global, input: &mut Cursor<'_>) -> Result<SignedFeeBump, ReadXdr> {
+        let fee_bump = FeeBump::read(alloc, input)?;
         let signatures = Items::<DecoratedSignature, 20>::read(alloc, input)?;
         Ok(SignedFeeBump {
             fee_bump,
             signatures,
         })
-    }
-
-    ghost lawful = { signed_fee_bump_lawful };
-}
-
-#[tactic(auto, unfolding(crate::specs::Envelope::signed_fee_bump_format, xdr_core::specs::Sizes::capped))]
-impl Xdr for SignedFeeBump {
-    ghost format = { signed_fee_bump_format whole };
-
-    fn read_parts(alloc: Global, input: &mut Cursor<'_>) -> Result<SignedFeeBump, ReadXdr> {
-        SignedFeeBump::read_within(alloc, input, SetBounds::whole())
     }
 
     fn write_parts(&self, out: &mut Out) -> Result<(), NoMemory> {
@@ -138,7 +90,7 @@ impl Xdr for SignedFeeBump {
         add_sizes(self.fee_bump.size(), self.signatures.size())
     }
 
-    ghost lawful = { signed_fee_bump_lawful whole };
+    ghost lawful = { signed_fee_bump_lawful };
 }
 
 #[tactic(auto, unfolding(crate::specs::Envelope::type_format, xdr_core::specs::Sizes::capped))]
@@ -161,46 +113,24 @@ impl Xdr for EnvelopeType {
     ghost lawful = { type_lawful };
 }
 
-fn read_arm(
-    alloc: Global,
-    input: &mut Cursor<'_>,
-    kind: EnvelopeType,
-    limits: SetBounds,
-) -> Result<Envelope, ReadXdr>
-    ensures { Reads (arms limits kind).read input.old input.new result }
+fn read_arm(alloc: Global, input: &mut Cursor<'_>, kind: EnvelopeType) -> Result<Envelope, ReadXdr>
+    ensures { Reads (arms kind).read input.old input.new result }
 {
     match kind {
-        EnvelopeType::Transaction => Ok(Envelope::Transaction(SignedTransaction::read_within(
-            alloc, input, limits,
+        EnvelopeType::Transaction => Ok(Envelope::Transaction(SignedTransaction::read(
+            alloc, input,
         )?)),
-        EnvelopeType::FeeBump => {
-            Ok(Envelope::FeeBump(SignedFeeBump::read_within(alloc, input, limits)?))
-        }
+        EnvelopeType::FeeBump => { Ok(Envelope::FeeBump(SignedFeeBump::read(alloc, input)?)) }
     }
-}
-
-#[tactic(auto, unfolding(crate::specs::Envelope::envelope_format, crate::specs::Envelope::type_format))]
-impl ReadWithin for Envelope {
-    ghost format = { envelope_format };
-
-    fn read_parts_within(
-        alloc: Global,
-        input: &mut Cursor<'_>,
-        limits: SetBounds,
-    ) -> Result<Envelope, ReadXdr> {
-        let kind = EnvelopeType::read(alloc, input)?;
-        read_arm(alloc, input, kind, limits)
-    }
-
-    ghost lawful = { envelope_lawful };
 }
 
 #[tactic(auto, unfolding(crate::specs::Envelope::envelope_format, crate::specs::Envelope::type_format, xdr_core::specs::Sizes::capped))]
 impl Xdr for Envelope {
-    ghost format = { envelope_format whole };
+    ghost format = { envelope_format };
 
     fn read_parts(alloc: Global, input: &mut Cursor<'_>) -> Result<Envelope, ReadXdr> {
-        Envelope::read_within(alloc, input, SetBounds::whole())
+        let kind = EnvelopeType::read(alloc, input)?;
+        read_arm(alloc, input, kind)
     }
 
     fn write_parts(&self, out: &mut Out) -> Result<(), NoMemory> {
@@ -219,5 +149,5 @@ impl Xdr for Envelope {
         add_sizes(self.kind().size(), body)
     }
 
-    ghost lawful = { envelope_lawful whole };
+    ghost lawful = { envelope_lawful };
 }

@@ -5,8 +5,8 @@ ghost use Rattle.tx_xdr.specs.Ext.{type_format, type_lawful, arms, ext_format, e
 
 use crate::transaction::{SorobanData, TransactionExt, TransactionExtType};
 use std::alloc::Global;
-use value_xdr::Xdr;
-use xdr_core::{Cursor, NoMemory, Out, ReadXdr, Why, XdrErr, add_sizes};
+use value_xdr::{Xdr, named};
+use xdr_core::{Cursor, NoMemory, Out, ReadXdr, add_sizes};
 
 #[tactic(auto, unfolding(crate::specs::Ext::type_format, xdr_core::specs::Sizes::capped))]
 impl Xdr for TransactionExtType {
@@ -14,11 +14,7 @@ impl Xdr for TransactionExtType {
 
     fn read_parts(_alloc: Global, input: &mut Cursor<'_>) -> Result<TransactionExtType, ReadXdr> {
         let place = input.place();
-        let number = input.u32()?;
-        TransactionExtType::from_number(number).ok_or(ReadXdr::Bad(XdrErr {
-            at: place,
-            why: Why::Tag,
-        }))
+        named(TransactionExtType::from_number(input.u32()?), place)
     }
 
     fn write_parts(&self, out: &mut Out) -> Result<(), NoMemory> {

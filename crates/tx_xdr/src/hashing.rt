@@ -3,7 +3,6 @@
 ghost use Rattle.std.specs.Prelude.{IfOk, ◌≡◌};
 ghost use Rattle.sha2.specs.Sha256.{sha256};
 ghost use Rattle.value_types.specs.Hash.{hash_of, hash_format};
-ghost use Rattle.tx_xdr.specs.SetBounds.{whole};
 ghost use Rattle.tx_xdr.specs.Transaction.{transaction_format};
 ghost use Rattle.tx_xdr.specs.Envelope.{fee_bump_format, envelope_format};
 ghost use Rattle.tx_xdr.specs.Hashes.{transaction_hash, fee_bump_hash as hash_of_fee_bump, envelope_hash as hash_of_envelope};
@@ -29,7 +28,7 @@ fn sha256_of(bytes: &[u8]) -> Hash
 /// The hash that a transaction's signatures sign: the SHA-256 of the network's id, the envelope type and the transaction.
 #[tactic(auto, unfolding(value_types::specs::Hash::hash_format, xdr_spec::specs::Format::number32))]
 pub fn tx_hash(alloc: Global, network: &Hash, tx: &Transaction) -> Result<Hash, NoMemory>
-    requires { (transaction_format whole).fits tx.now }
+    requires { transaction_format.fits tx.now }
     ensures value { IfOk result (λ hash. hash ≡ transaction_hash network.now tx.now) }
     ensures fits { IfOk result hash_format.fits }
 {
@@ -43,7 +42,7 @@ pub fn tx_hash(alloc: Global, network: &Hash, tx: &Transaction) -> Result<Hash, 
 
 #[tactic(auto, unfolding(value_types::specs::Hash::hash_format, xdr_spec::specs::Format::number32))]
 fn fee_bump_hash(alloc: Global, network: &Hash, fee_bump: &FeeBump) -> Result<Hash, NoMemory>
-    requires { (fee_bump_format whole).fits fee_bump.now }
+    requires { fee_bump_format.fits fee_bump.now }
     ensures value { IfOk result (λ hash. hash ≡ hash_of_fee_bump network.now fee_bump.now) }
     ensures fits { IfOk result hash_format.fits }
 {
@@ -59,7 +58,7 @@ fn fee_bump_hash(alloc: Global, network: &Hash, fee_bump: &FeeBump) -> Result<Ha
 /// the fee bump.
 #[tactic(auto, unfolding(crate::specs::Envelope::envelope_format, crate::specs::Envelope::signed_format, crate::specs::Envelope::signed_fee_bump_format))]
 pub fn envelope_hash(alloc: Global, network: &Hash, envelope: &Envelope) -> Result<Hash, NoMemory>
-    requires { (envelope_format whole).fits envelope.now }
+    requires { envelope_format.fits envelope.now }
     ensures value { IfOk result (λ hash. hash ≡ hash_of_envelope network.now envelope.now) }
     ensures fits { IfOk result hash_format.fits }
 {

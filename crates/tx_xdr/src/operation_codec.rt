@@ -1,20 +1,17 @@
-//! The spelling of operations.
+//! The codec of operations.
 
 ghost use Rattle.xdr_core.specs.Reads.{Reads};
-ghost use Rattle.tx_xdr.specs.SetBounds.{whole};
 ghost use Rattle.tx_xdr.specs.Operation.{type_format, type_lawful, arms, body_format, body_lawful, operation_format, operation_lawful};
 
-use crate::limits::SetBounds;
 use crate::numbers::NO_EXT;
 use crate::transaction::{Operation, OperationBody, OperationType};
-use crate::within::ReadWithin;
 use auth_types::AuthEntry;
 use invoke_types::HostFunction;
 use std::alloc::Global;
 use tx_parts::MuxedAccount;
 use value_types::Items;
-use value_xdr::{Xdr, read_head};
-use xdr_core::{Cursor, NoMemory, Out, ReadXdr, Why, XdrErr, add_sizes};
+use value_xdr::{Xdr, named, read_head};
+use xdr_core::{Cursor, NoMemory, Out, ReadXdr, add_sizes};
 
 #[tactic(auto, unfolding(crate::specs::Operation::type_format, xdr_core::specs::Sizes::capped))]
 impl Xdr for OperationType {
@@ -22,11 +19,7 @@ impl Xdr for OperationType {
 
     fn read_parts(_alloc: Global, input: &mut Cursor<'_>) -> Result<OperationType, ReadXdr> {
         let place = input.place();
-        let number = input.u32()?;
-        OperationType::from_number(number).ok_or(ReadXdr::Bad(XdrErr {
-            at: place,
-            why: Why::Tag,
-        }))
+        named(OperationType::from_number(input.u32()?), place)
     }
 
     fn write_parts(&self, out: &mut Out) -> Result<(), NoMemory> {
@@ -80,35 +73,13 @@ fn read_arm(
     }
 }
 
-#[tactic(auto, unfolding(crate::specs::Operation::body_format, crate::specs::Operation::type_format))]
-impl ReadWithin for OperationBody {
-    ghost format = { body_format };
-
-    fn read_parts_within(
-        alloc: Global,
-        input: &mut Cursor<'_>,
-        limits: SetBounds,
-    ) -> Result<OperationBody, ReadXdr> {
-        let place = input.place();
-        let kind = OperationType::read(alloc, input)?;
-        if !limits.takes_operation(kind) {
-            return Err(ReadXdr::Bad(XdrErr {
-                at: place,
-                why: Why::Tag,
-            }));
-        }
-        read_arm(alloc, input, kind)
-    }
-
-    ghost lawful = { body_lawful };
-}
-
 #[tactic(auto, unfolding(crate::specs::Operation::body_format, crate::specs::Operation::type_format, xdr_core::specs::Sizes::capped))]
 impl Xdr for OperationBody {
-    ghost format = { body_format whole };
+    ghost format = { body_format };
 
     fn read_parts(alloc: Global, input: &mut Cursor<'_>) -> Result<OperationBody, ReadXdr> {
-        OperationBody::read_within(alloc, input, SetBounds::whole())
+        let kind = OperationType::read(alloc, input)?;
+        read_arm(alloc, input, kind)
     }
 
     fn write_parts(&self, out: &mut Out) -> Result<(), NoMemory> {
@@ -141,32 +112,17 @@ impl Xdr for OperationBody {
         add_sizes(self.kind().size(), body)
     }
 
-    ghost lawful = { body_lawful whole };
-}
-
-#[tactic(auto, unfolding(crate::specs::Operation::operation_format))]
-impl ReadWithin for Operation {
-    ghost format = { operation_format };
-
-    fn read_parts_within(
-        alloc: Global,
-        input: &mut Cursor<'_>,
-        limits: SetBounds,
-    ) -> Result<Operation, ReadXdr> {
-        let source = Option::<MuxedAccount>::read(alloc, input)?;
-        let body = OperationBody::read_within(alloc, input, limits)?;
-        Ok(Operation { source, body })
-    }
-
-    ghost lawful = { operation_lawful };
+    ghost lawful = { body_lawful };
 }
 
 #[tactic(auto, unfolding(crate::specs::Operation::operation_format, xdr_core::specs::Sizes::capped))]
 impl Xdr for Operation {
-    ghost format = { operation_format whole };
+    ghost format = { operation_format };
 
     fn read_parts(alloc: Global, input: &mut Cursor<'_>) -> Result<Operation, ReadXdr> {
-        Operation::read_within(alloc, input, SetBounds::whole())
+        let source = Option::<MuxedAccount>::read(alloc, input)?;
+        let body = OperationBody::read(alloc, input)?;
+        Ok(Operation { source, body })
     }
 
     fn write_parts(&self, out: &mut Out) -> Result<(), NoMemory> {
@@ -178,5 +134,5 @@ impl Xdr for Operation {
         add_sizes(self.source.size(), self.body.size())
     }
 
-    ghost lawful = { operation_lawful whole };
+    ghost lawful = { operation_lawful };
 }

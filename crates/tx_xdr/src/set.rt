@@ -1,7 +1,7 @@
 //! Transaction sets (`GeneralizedTransactionSet`).
 
 ghost use Rattle.std.specs.Prelude.{◌≡◌};
-ghost use Rattle.tx_xdr.specs.Set.{phase_number, phase_type_of, phase_type, parallel_stages};
+ghost use Rattle.tx_xdr.specs.Set.{phase_number, phase_type_of, phase_type};
 
 use crate::envelope::Envelope;
 use value_types::{Hash, Items};
@@ -76,16 +76,6 @@ impl Phase {
         match self {
             Phase::Components(_) => PhaseType::Components,
             Phase::Parallel { .. } => PhaseType::Parallel,
-        }
-    }
-
-    /// The stages in their order; none if the phase has components.
-    pub fn stages(&self) -> &[Stage]
-        ensures { result.now ≡ parallel_stages self.now }
-    {
-        match self {
-            Phase::Components(_) => &[],
-            Phase::Parallel { stages, .. } => stages.as_slice(),
         }
     }
 }

@@ -1,11 +1,8 @@
-//! The spelling of transactions.
+//! The codec of transactions.
 
-ghost use Rattle.tx_xdr.specs.SetBounds.{whole};
 ghost use Rattle.tx_xdr.specs.Transaction.{transaction_format, transaction_lawful};
 
-use crate::limits::SetBounds;
 use crate::transaction::{Operation, Transaction, TransactionExt};
-use crate::within::{ReadWithin, read_list_within};
 use std::alloc::Global;
 use tx_parts::{Memo, MuxedAccount, Preconditions};
 use value_types::Items;
@@ -13,20 +10,16 @@ use value_xdr::Xdr;
 use xdr_core::{Cursor, NoMemory, Out, ReadXdr, add_sizes};
 
 #[tactic(auto, unfolding(crate::specs::Transaction::transaction_format))]
-impl ReadWithin for Transaction {
+impl Xdr for Transaction {
     ghost format = { transaction_format };
 
-    fn read_parts_within(
-        alloc: Global,
-        input: &mut Cursor<'_>,
-        limits: SetBounds,
-    ) -> Result<Transaction, ReadXdr> {
+    fn read_parts(alloc: Global, input: &mut Cursor<'_>) -> Result<Transaction, ReadXdr> {
         let source = MuxedAccount::read(alloc, input)?;
         let fee = u32::read(alloc, input)?;
         let seq_num = i64::read(alloc, input)?;
         let preconditions = Preconditions::read(alloc, input)?;
         let memo = Memo::read(alloc, input)?;
-        let operations = read_list_within::<Operation>(alloc, input, 100, limits)?;
+        let operations = Items::<Operation, 100>::read(alloc, input)?;
         let ext = TransactionExt::read(alloc, input)?;
         Ok(Transaction {
             source,
@@ -34,20 +27,9 @@ impl ReadWithin for Transaction {
             seq_num,
             preconditions,
             memo,
-            operations: Items::from_vec(operations),
+            operations,
             ext,
         })
-    }
-
-    ghost lawful = { transaction_lawful };
-}
-
-#[tactic(auto, unfolding(crate::specs::Transaction::transaction_format))]
-impl Xdr for Transaction {
-    ghost format = { transaction_format whole };
-
-    fn read_parts(alloc: Global, input: &mut Cursor<'_>) -> Result<Transaction, ReadXdr> {
-        Transaction::read_within(alloc, input, SetBounds::whole())
     }
 
     fn write_parts(&self, out: &mut Out) -> Result<(), NoMemory> {
@@ -70,5 +52,5 @@ impl Xdr for Transaction {
         size.saturating_add(12)
     }
 
-    ghost lawful = { transaction_lawful whole };
+    ghost lawful = { transaction_lawful };
 }

@@ -1,50 +1,66 @@
-use Rattle.std.specs.List.{flat_map}
-use Rattle.std.proofs.Common.{take, [], List, All, fold, sym, ap, subst, ◌∙◌}
-use Rattle.ledger_types.specs.declared.header.Header.{Header}
-use Rattle.tx_xdr.specs.SetBounds.{today}
-use Rattle.tx_xdr.specs.Set.{phase_format}
-use Rattle.tx_results.specs.Results.{result_set_format}
-use Rattle.tx_results.specs.declared.results.TransactionResultPair.{TransactionResultPair}
-use Rattle.tx_xdr.specs.declared.set.Phase.{Phase}
-use Rattle.tx_xdr.specs.declared.set.Stage.{Stage}
-use Rattle.tx_results.proofs.Fits.{result_set_fits}
-use Rattle.apply_spec.specs.Runs.{RunState, run_stage, running_header}
-use Rattle.tx_xdr.specs.Stages.{stages_in}
-use Rattle.ledger_apply.specs.Spelled.{IsStage}
-use Rattle.ledger_apply.specs.State.{running_of}
-use Rattle.ledger_apply.proofs.On.{on_other, fold_more_of}
-use Rattle.ledger_apply.proofs.Spelling.{set_spelled, phases_fit}
+use Rattle.std.specs.List.{AllByRecursion}
+use Rattle.std.specs.Option.{IfSome, IfNone}
+use Rattle.std.proofs.Common.{◌≡◌, List, Option, All, map, refl, sym, ap, subst, ◌∙◌}
+use Rattle.ledger_spec.specs.LedgerMap.{key_bytes}
+use Rattle.ledger_types.specs.Key.{key_format}
+use Rattle.tx_xdr.specs.Stages.{stages_of}
+use Rattle.stage_runs.specs.Conflicts.{IsFirstConflict}
+use Rattle.stage_runs.specs.Runs.{Stage, clusters_in, HasNoConflict}
+use Rattle.apply_spec.specs.Outputs.{results_of, preimages_of}
+use Rattle.ledger_apply.specs.declared.conflict.SetConflict.{SetConflict}
+use Rattle.ledger_apply.specs.declared.stages.SetStage.{SetStage}
+use Rattle.ledger_apply.specs.Final.{run_stages_over}
+use Rattle.ledger_apply.specs.Stages.{clusters_of, IsSpelled}
+use Rattle.ledger_apply.proofs.Firsts.{clusters_listed}
+use Rattle.ledger_apply.proofs.Spelling.{listed_spelled}
 use Rattle.ledger_apply.proofs.set.apply_set.Goals as goal
 
-pub stages_of-requires : goal.stages_of-requires
-stages_of-requires c =
-    let phases : All (λ (p : Phase). (phase_format today).fits p) c.as_slice-phases.result.now =
-    subst (λ (ps : List Phase). All (λ (p : Phase). (phase_format today).fits p) ps) (sym c.as_slice-phases.ensures) (phases_fit c.args.set.now c.requires.fits) in
-    subst (λ (p : Phase). (phase_format today).fits p) (sym c.phase-item.is) (phases c.loop-phase.phase-index c.phase-item.result c.loop-phase-test.true)
+pub first_conflict-requires : goal.first_conflict-requires
+first_conflict-requires g c =
+    subst (λ (ss : List SetStage). All IsSpelled ss) (sym c.deref.ensures.value) (listed_spelled c.args.set.now c.in_ok-stages.stages.items c.requires.fits c.in_ok-stages.ensures)
 
-pub run_stages-requires-clause-fits : goal.run_stages-requires-clause-fits
-run_stages-requires-clause-fits c =
-    let phases : All (λ (p : Phase). All IsStage (stages_in p)) c.as_slice-phases.result.now =
-    subst (λ (ps : List Phase). All (λ (p : Phase). All IsStage (stages_in p)) ps) (sym c.as_slice-phases.ensures) (set_spelled c.args.set.now c.requires.fits) in
-    let one : All IsStage (stages_in c.phase-item.result) =
-    subst (λ (p : Phase). All IsStage (stages_in p)) (sym c.phase-item.is) (phases c.loop-phase.phase-index c.phase-item.result c.loop-phase-test.true) in
-    subst (λ (ss : List Stage). All IsStage ss) (sym c.stages_of.ensures) one
+pub returns-in-Some-clause-conflict : goal.returns-in-Some-clause-conflict
+returns-in-Some-clause-conflict g c =
+    let lent = c.deref.result.now in
+    let conflict = c.in-Some.conflict in
+    let same : clusters_of lent ≡ map clusters_in (stages_of c.args.set.now) =
+    ap clusters_of c.deref.ensures.value ∙ clusters_listed c.in_ok-stages.stages.items (stages_of c.args.set.now) c.in_ok-stages.ensures in
+    let first : IsFirstConflict (clusters_of lent) conflict.stage conflict.found.a conflict.found.b (key_bytes conflict.found.key.now) =
+    subst (λ (o : Option SetConflict). IfSome o (λ k. IsFirstConflict (clusters_of lent) k.stage k.found.a k.found.b (key_bytes k.found.key.now))) c.in-Some.is c.in_ok-conflict.ensures.some in
+    let fits : key_format.fits conflict.found.key.now =
+    subst (λ (o : Option SetConflict). IfSome o (λ k. key_format.fits k.found.key.now)) c.in-Some.is c.in_ok-conflict.ensures.key in
+    (subst (λ (ss : List Stage). IsFirstConflict ss conflict.stage conflict.found.a conflict.found.b (key_bytes conflict.found.key.now)) same first, refl, fits)
 
-pub loop-phase-preserved : goal.loop-phase-preserved
-loop-phase-preserved c =
-    let h : Header = running_header c.args.ledger.header c.args.close_time in
-    let start : RunState = record { entries = c.args.ledger.entries; pending = []; results = [] } in
-    let before = c.loop-phase.running in
-    let headed = c.loop-phase.invariant.on.headed in
-    record {
-      run = c.in_ok-running.ensures.run ∙ ap (λ (x : Header). fold (run_stage x) (running_of before) c.stages_of.result.now) headed
-          ∙ ap (λ (s : RunState). fold (run_stage h) s c.stages_of.result.now) c.loop-phase.invariant.run
-          ∙ ap (fold (run_stage h) (fold (run_stage h) start (flat_map stages_in (take c.loop-phase.phase-index c.as_slice-phases.result.now)))) c.stages_of.ensures
-          ∙ sym (fold_more_of (run_stage h) start stages_in c.as_slice-phases.result.now c.loop-phase.phase-index c.phase-item.result c.loop-phase-test.true c.phase-item.is);
-      on = on_other before.ledger.header h c.in_ok-running.running headed c.in_ok-running.ensures.on;
-    }
+pub run_on-requires-clause-fits : goal.run_on-requires-clause-fits
+run_on-requires-clause-fits g c =
+    subst (λ (ss : List SetStage). All IsSpelled ss) (sym c.deref-2.ensures.value) (listed_spelled c.args.set.now c.in_ok-stages.stages.items c.requires.fits c.in_ok-stages.ensures)
 
-pub returns-clause-spelled : goal.returns-clause-spelled
-returns-clause-spelled c =
-    subst (λ (pairs : List TransactionResultPair). result_set_format.fits (record { pairs = pairs })) (sym c.from_vec.ensures)
-    (result_set_fits (record { pairs = c.loop-phase.running.results.items }) c.loop-phase.invariant.on.few c.loop-phase.invariant.on.spelled)
+pub returns-clause-free : goal.returns-clause-free
+returns-clause-free g c =
+    let lent = c.deref.result.now in
+    let same : clusters_of lent ≡ map clusters_in (stages_of c.args.set.now) =
+    ap clusters_of c.deref.ensures.value ∙ clusters_listed c.in_ok-stages.stages.items (stages_of c.args.set.now) c.in_ok-stages.ensures in
+    let free : AllByRecursion HasNoConflict (clusters_of lent) =
+    subst (λ (o : Option SetConflict). IfNone o (AllByRecursion HasNoConflict (clusters_of lent))) c.in_default.is c.in_ok-conflict.ensures.none in
+    subst (λ (ss : List Stage). AllByRecursion HasNoConflict ss) same free
+
+pub returns-clause-entries : goal.returns-clause-entries
+returns-clause-entries g c =
+    let same : clusters_of c.deref-2.result.now ≡ map clusters_in (stages_of c.args.set.now) =
+    ap clusters_of c.deref-2.ensures.value ∙ clusters_listed c.in_ok-stages.stages.items (stages_of c.args.set.now) c.in_ok-stages.ensures in
+    c.in_ok-applied.ensures.entries
+    ∙ ap (λ (ss : List Stage). (run_stages_over c.args.ledger.header c.args.verdicts.now c.args.ledger.entries ss c.args.close_time).entries) same
+
+pub returns-clause-results : goal.returns-clause-results
+returns-clause-results g c =
+    let same : clusters_of c.deref-2.result.now ≡ map clusters_in (stages_of c.args.set.now) =
+    ap clusters_of c.deref-2.ensures.value ∙ clusters_listed c.in_ok-stages.stages.items (stages_of c.args.set.now) c.in_ok-stages.ensures in
+    c.in_ok-applied.ensures.results
+    ∙ ap (λ (ss : List Stage). results_of (run_stages_over c.args.ledger.header c.args.verdicts.now c.args.ledger.entries ss c.args.close_time)) same
+
+pub returns-clause-successes : goal.returns-clause-successes
+returns-clause-successes g c =
+    let same : clusters_of c.deref-2.result.now ≡ map clusters_in (stages_of c.args.set.now) =
+    ap clusters_of c.deref-2.ensures.value ∙ clusters_listed c.in_ok-stages.stages.items (stages_of c.args.set.now) c.in_ok-stages.ensures in
+    c.in_ok-applied.ensures.successes
+    ∙ ap (λ (ss : List Stage). preimages_of (run_stages_over c.args.ledger.header c.args.verdicts.now c.args.ledger.entries ss c.args.close_time)) same

@@ -1,19 +1,23 @@
-use Rattle.std.proofs.Common.{sym, ap, ◌∙◌}
-use Rattle.ledger_types.specs.declared.header.Header.{Header}
-use Rattle.apply_spec.specs.Runs.{RunState, run_stage}
-use Rattle.ledger_apply.specs.State.{running_of}
-use Rattle.ledger_apply.proofs.On.{on_other, fold_more}
+use Rattle.std.proofs.Common.{sym, ap₂, ◌∙◌}
+use Rattle.ledger_spec.specs.LedgerMap.{LedgerMap}
+use Rattle.stage_runs.specs.Runs.{RunState, run_stage, clusters_in}
+use Rattle.apply_spec.specs.Enforced.{enforced}
+use Rattle.ledger_apply.specs.Seen.{shown_step}
+use Rattle.ledger_apply.specs.State.{between}
+use Rattle.ledger_apply.specs.Stages.{stage_of}
+use Rattle.ledger_apply.specs.declared.stages.SetStage.{SetStage}
+use Rattle.ledger_apply.proofs.Lists.{fold_more_of}
 use Rattle.ledger_apply.proofs.set.run_stages.Goals as goal
 
 pub loop-stage-preserved : goal.loop-stage-preserved
-loop-stage-preserved c =
-    let h : Header = c.args.running.ledger.header in
-    let start : RunState = running_of c.args.running in
-    let before = c.loop-stage.running in
+loop-stage-preserved g c =
+    let old = g.E.Entries.own c.args.entries.now in
+    let shown = g.E.Entries.shown c.args.entries.now in
+    let step = enforced c.args.header.now c.args.verdicts.now in
     let item = c.stage-item.result in
-    let headed = c.loop-stage.invariant.on.headed in
     record {
-      run = c.in_ok-running.ensures.run ∙ ap (λ (x : Header). run_stage x (running_of before) item) headed ∙ ap (λ (s : RunState). run_stage h s item) c.loop-stage.invariant.run
-          ∙ sym (fold_more (run_stage h) start c.args.stages.now c.loop-stage.stage-index item c.loop-stage-test.true c.stage-item.is);
-      on = on_other before.ledger.header h c.in_ok-running.running headed c.in_ok-running.ensures.on;
+      run = c.in_ok-run_one.ensures.run
+          ∙ ap₂ (λ (s : LedgerMap → LedgerMap) (r : RunState). run_stage (shown_step s step) r (clusters_in (stage_of item))) c.loop-stage.invariant.shown c.loop-stage.invariant.run
+          ∙ sym (fold_more_of (run_stage (shown_step shown step)) (λ (s : SetStage). clusters_in (stage_of s)) (between old c.args.reports.now) c.args.stages.now c.loop-stage.stage-index item c.loop-stage-test.true c.stage-item.is);
+      shown = c.in_ok-run_one.ensures.shown ∙ c.loop-stage.invariant.shown;
     }

@@ -1,4 +1,4 @@
-use Rattle.std.proofs.Common.{◌≡◌, ◌∙◌, ◌++◌, ap}
+use Rattle.std.proofs.Common.{◌∙◌, ◌++◌, ap}
 use Rattle.std.specs.FinMap.{entries}
 use Rattle.ledger_types.specs.Entry.{key_of}
 use Rattle.ledger_spec.specs.LedgerMap.{key_bytes}

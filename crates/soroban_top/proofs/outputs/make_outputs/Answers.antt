@@ -1,25 +1,25 @@
-use Rattle.std.proofs.Common.{◌≡◌, ◌∙◌, ap₂, arith}
+use Rattle.std.proofs.Common.{◌∙◌, arith}
 use Rattle.apply_spec.specs.Runs.{new_header, run_set}
-use Rattle.ledger_spec.specs.LedgerFile.{ledger_bytes}
 use Rattle.soroban_top.specs.Outcome.{outputs_of}
-use Rattle.soroban_top.proofs.Made.{lines_made, new_header_fits, report_made}
+use Rattle.soroban_top.proofs.Made.{conflict_is, free_is, new_header_fits, outputs_applied}
 use Rattle.soroban_top.proofs.outputs.make_outputs.Goals as goal
 
-pub write_ledger-requires : goal.write_ledger-requires
-write_ledger-requires c =
-    rw c.in_ok-applied.ensures.header (new_header_fits c.args.ledger.header c.args.close_time c.requires.header c.requires.next (omega arith))
+pub written-requires-clause-header : goal.written-requires-clause-header
+written-requires-clause-header g c =
+    rw c.in-Ok.ensures.header (new_header_fits c.args.ledger.header c.args.run.now.close_time c.requires.header c.requires.next (omega arith))
 
-pub returns-clause-report : goal.returns-clause-report
-unfolding outputs_of
-returns-clause-report c =
-    report_made (run_set c.args.ledger.header c.args.ledger.entries c.args.set.now c.args.close_time) c.in_ok-applied.applied.results c.as_slice-successes.result.now c.into_vec-report.result.items c.in_ok-applied.ensures.results (c.as_slice-successes.ensures ∙ c.in_ok-applied.ensures.successes) (c.into_vec-report.ensures ∙ c.in_ok-write_report.ensures)
+pub returns-in-Ok-clause-free : goal.returns-in-Ok-clause-free
+returns-in-Ok-clause-free g c = free_is c.args.run.now.set.now c.in-Ok.ensures.free
 
-pub returns-clause-lines : goal.returns-clause-lines
+pub returns-in-Ok-clause-outputs : goal.returns-in-Ok-clause-outputs
 unfolding outputs_of
-returns-clause-lines c =
-    let running = run_set c.args.ledger.header c.args.ledger.entries c.args.set.now c.args.close_time in
-    let header = new_header c.args.ledger.header c.args.close_time in
-    let report = report_made running c.in_ok-applied.applied.results c.as_slice-successes.result.now c.into_vec-report.result.items c.in_ok-applied.ensures.results (c.as_slice-successes.ensures ∙ c.in_ok-applied.ensures.successes) (c.into_vec-report.ensures ∙ c.in_ok-write_report.ensures) in
-    let ledger : c.into_vec-ledger.result.items ≡ ledger_bytes header running.entries = c.into_vec-ledger.ensures ∙ c.in_ok-write_ledger.ensures ∙ ap₂ (λ h e. ledger_bytes h e) c.in_ok-applied.ensures.header c.in_ok-applied.ensures.entries in
-    lines_made header c.in_ok-applied.applied.ledger.header running c.in_ok-applied.applied.results.pairs c.into_vec-report.result.items c.into_vec-ledger.result.items c.in_ok-lines.lines.items c.in_ok-applied.ensures.header c.in_ok-applied.ensures.results report ledger
-    (rw (c.as_slice.ensures, c.deref.ensures.value, c.deref-2.ensures.value) at c.in_ok-lines.ensures)
+returns-in-Ok-clause-outputs g c =
+    let run = c.args.run.now in
+    c.in_ok-outputs-in-Ok.ensures
+    ∙ outputs_applied (new_header c.args.ledger.header run.close_time) c.in-Ok.applied.ledger.header (run_set c.args.ledger.header run.verdicts.now c.args.ledger.entries run.set.now run.close_time) c.in-Ok.applied.ledger.entries
+    c.in-Ok.applied.results.pairs c.in-Ok.applied.successes c.in-Ok.ensures.header c.in-Ok.ensures.entries c.in-Ok.ensures.results c.in-Ok.ensures.successes
+
+pub returns-in-Err-Conflict-clause-refused : goal.returns-in-Err-Conflict-clause-refused
+returns-in-Err-Conflict-clause-refused g c =
+    let refused = rw c.in-Err-Conflict.field-0-is at c.in-Err-Conflict.ensures.conflict in
+    rw c.in_ok-key-in-Err-Conflict.ensures (conflict_is c.args.run.now.set.now c.in-Err-Conflict.stage c.in-Err-Conflict.found.a c.in-Err-Conflict.found.b _ refused.0)

@@ -1,18 +1,17 @@
 use Rattle.std.proofs.Common.{arith, refl}
 use Rattle.std.proofs.lemmas.Result.{err_from_is_err_and}
-use Rattle.tx_xdr.specs.SetBounds.{whole}
 use Rattle.tx_xdr.specs.Envelope.{envelope_format, envelope_lawful}
 use Rattle.xdr_spec.proofs.Decoding.{spells_decoded}
-use Rattle.soroban_top.specs.Shown.{any_envelope_in}
+use Rattle.soroban_top.specs.Shown.{envelope_in}
 use Rattle.soroban_top.proofs.Decoding.{unread_due}
 use Rattle.soroban_top.proofs.spelled.envelope_in.Goals as goal
 
 pub returns-in_err-envelope-clause-given : goal.returns-in_err-envelope-clause-given
-unfolding any_envelope_in
+unfolding envelope_in
 returns-in_err-envelope-clause-given c =
     let p = err_from_is_err_and c.from_residual.result c.from_residual.ensures.1 in
-    rw (p.1, p.2) (unread_due (envelope_format whole) (envelope_lawful whole) c.args.bytes.now c.in_err-envelope.field-0.0 (λ i. let fits = c.type_inv.bytes i in omega arith) c.in_err-envelope.ensures.refused)
+    rw (p.1, p.2) (unread_due envelope_format envelope_lawful c.args.bytes.now c.in_err-envelope.field-0.0 (λ i. let fits = c.type_inv.bytes i in omega arith) c.in_err-envelope.ensures.refused)
 
 pub returns-clause-given : goal.returns-clause-given
-unfolding any_envelope_in
-returns-clause-given c = rw (spells_decoded (envelope_format whole) (envelope_lawful whole) c.in_ok-envelope.envelope c.args.bytes.now c.in_ok-envelope.ensures.found) refl
+unfolding envelope_in
+returns-clause-given c = rw (spells_decoded envelope_format envelope_lawful c.in_ok-envelope.envelope c.args.bytes.now c.in_ok-envelope.ensures.found) refl

@@ -1,5 +1,4 @@
 use Rattle.std.proofs.Common.{sym, subst}
-use Rattle.tx_xdr.specs.SetBounds.{whole}
 use Rattle.tx_xdr.specs.Transaction.{transaction_format}
 use Rattle.tx_xdr.specs.declared.transaction.Transaction.{Transaction}
 use Rattle.tx_xdr.proofs.Fits.{transaction_in_fits}
@@ -11,4 +10,4 @@ returns-in-Transaction-clause-fits c = transaction_alone_fits c.args.outcome c.r
 
 pub tx_hash-requires : goal.tx_hash-requires
 tx_hash-requires c =
-    subst (λ (tx : Transaction). (transaction_format whole).fits tx) (sym c.transaction.ensures) (transaction_in_fits whole c.args.envelope.now c.requires.envelope)
+    subst (λ (tx : Transaction). transaction_format.fits tx) (sym c.transaction.ensures) (transaction_in_fits c.args.envelope.now c.requires.envelope)

@@ -1,6 +1,6 @@
 use Rattle.std.proofs.Common.{[], ◌∷◌, ◌++◌, ap, ◌∙◌}
 use Rattle.ledger_types.specs.declared.key.LedgerKey.{LedgerKey}
-use Rattle.apply_spec.specs.declared.Extension.{Extension}
+use Rattle.stage_runs.specs.declared.Extension.{Extension}
 use Rattle.tx_apply.proofs.Extending.{one_more, none_more}
 use Rattle.tx_apply.proofs.extend.extensions.Goals as goal
 use Rattle.tx_apply.proofs.extend.extensions.Goals.{then-ends_before+in_ok-key+in_ok-push, else-ends_before}

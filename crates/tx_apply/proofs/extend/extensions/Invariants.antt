@@ -1,5 +1,5 @@
 use Rattle.std.proofs.Common.{◌≡◌, take}
-use Rattle.apply_spec.specs.Enforced.{extensions_of}
+use Rattle.apply_spec.specs.Extending.{extensions_of}
 use Rattle.tx_apply.proofs.extend.extensions.Given as goal
 
 abbrev pub invariant-loop-key : goal.invariant-loop-key

@@ -1,6 +1,7 @@
 use Rattle.std.proofs.Common.{◌≡◌, ◌++◌, Bool, true, false, ◌&&◌, sym, ap, ◌∙◌}
 use Rattle.std.specs.List.{list_all}
-use Rattle.apply_spec.specs.Checks.{has_twice, may_be_declared}
+use Rattle.stage_runs.specs.Whole.{has_twice}
+use Rattle.apply_spec.specs.Checks.{may_be_declared}
 use Rattle.list_laws.specs.Twice.{stand_twice}
 use Rattle.tx_apply.specs.Spellings.{bytes_of}
 use Rattle.tx_apply.proofs.Keys.{twice_declared, refused_twice, judged_each}

@@ -3,9 +3,10 @@ use Rattle.std.proofs.lemmas.List.{length_push}
 use Rattle.std.proofs.lemmas.List.Elements.{All-nil}
 use Rattle.ledger_types.specs.Key.{key_format}
 use Rattle.ledger_spec.specs.LedgerMap.{key_bytes}
-use Rattle.apply_spec.specs.declared.Extension.{Extension}
+use Rattle.stage_runs.specs.declared.Extension.{Extension}
 use Rattle.ledger_apply.specs.Pending.{awaiting, is_awaited}
-use Rattle.ledger_apply.proofs.Waiting.{pending_more, next_of, rest_of, each_where}
+use Rattle.ledger_apply.proofs.Lists.{next_of, rest_of}
+use Rattle.ledger_apply.proofs.Waiting.{pending_more, each_where}
 use Rattle.ledger_apply.proofs.pending.Pending.into_vec.Goals as goal
 
 abbrev Spelled : Extension → Type 0

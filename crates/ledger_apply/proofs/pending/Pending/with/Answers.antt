@@ -2,7 +2,7 @@ use Rattle.std.specs.Option.{option_map_or}
 use Rattle.std.specs.Str.{bytes_eq}
 use Rattle.std.proofs.Common.{◌≡◌, ℕ, cond, ◌∷◌, [], ◌++◌, List, length, Some, vec_len, sym, ap, subst, ◌∙◌, arith}
 use Rattle.ledger_spec.specs.LedgerMap.{key_bytes}
-use Rattle.apply_spec.specs.declared.Extension.{Extension}
+use Rattle.stage_runs.specs.declared.Extension.{Extension}
 use Rattle.ledger_apply.specs.Pending.{awaiting, still_pending, IsAwaiting}
 use Rattle.ledger_apply.proofs.Waiting.{Joins, changed, joins_with, joined, joined_awaiting}
 use Rattle.ledger_apply.proofs.pending.Pending.with.Goals as goal

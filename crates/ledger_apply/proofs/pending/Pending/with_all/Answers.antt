@@ -1,8 +1,8 @@
 use Rattle.std.proofs.Common.{◌∷◌, [], ◌++◌, All, List, sym, ap, subst, ◌∙◌}
 use Rattle.std.proofs.lemmas.List.{append-nil, append_assoc}
 use Rattle.ledger_types.specs.Key.{key_format}
-use Rattle.apply_spec.specs.declared.Extension.{Extension}
-use Rattle.ledger_apply.proofs.Waiting.{next_of, rest_of}
+use Rattle.stage_runs.specs.declared.Extension.{Extension}
+use Rattle.ledger_apply.proofs.Lists.{next_of, rest_of}
 use Rattle.ledger_apply.proofs.pending.Pending.with_all.Goals as goal
 
 abbrev Spelled : Extension → Type 0

@@ -1,0 +1,3 @@
+pub mod Lengthened
+pub mod Exact
+pub mod Framed

@@ -1,0 +1,13 @@
+use Rattle.std.proofs.Common.{◌≡◌, take}
+use Rattle.stage_runs.specs.Runs.{run_all}
+use Rattle.apply_spec.specs.Enforced.{enforced}
+use Rattle.ledger_apply.specs.Seen.{shown_step}
+use Rattle.ledger_apply.specs.State.{running_in}
+use Rattle.ledger_apply.proofs.cluster.run_all.Given as goal
+
+abbrev pub invariant-loop-envelope : goal.invariant-loop-envelope
+invariant-loop-envelope g l = record {
+  run : running_in (g.E.Entries.own l.entries) l.running
+      ≡ run_all (shown_step (g.E.Entries.shown l.initial.entries) (enforced l.header l.verdicts)) (running_in (g.E.Entries.own l.initial.entries) l.initial.running) (take l.envelope-index l.envelopes);
+  shown : g.E.Entries.shown l.entries ≡ g.E.Entries.shown l.initial.entries;
+}

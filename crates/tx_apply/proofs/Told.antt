@@ -1,0 +1,83 @@
+-- The effect of an envelope is that of the outcome and the extensions that the code makes.
+use Rattle.std.specs.Option.{option_map}
+use Rattle.std.proofs.Common.{◌≡◌, ℕ, Bool, true, false, List, [], ◌∷◌, Option, Some, None, if◌then◌else◌, refl, sym, ap, ap₂, ◌∙◌}
+use Rattle.ledger_types.specs.declared.header.Header.{Header}
+use Rattle.ledger_types.specs.declared.verdicts.Verdicts.{Verdicts}
+use Rattle.tx_xdr.specs.declared.transaction.Operation.{Operation}
+use Rattle.tx_xdr.specs.declared.transaction.OperationBody.{OperationBody}
+use Rattle.tx_xdr.specs.declared.transaction.OperationBody.TheVariants.{InvokeHostFunction, ExtendFootprintTtl, RestoreFootprint}
+use Rattle.tx_xdr.specs.declared.envelope.Envelope.{Envelope}
+use Rattle.tx_xdr.specs.declared.envelope.Envelope.TheVariants as envelopes
+use Rattle.tx_xdr.specs.Envelope.{transaction_in}
+use Rattle.tx_results.specs.Report.{has_preimage}
+use Rattle.tx_results.specs.Results.{outcome_in}
+use Rattle.tx_results.specs.declared.results.EnvelopeOutcome.TheVariants as outcomes
+use Rattle.tx_results.specs.declared.results.TransactionOutcome.{TransactionOutcome}
+use Rattle.tx_results.specs.declared.results.TransactionResultPair.{TransactionResultPair}
+use Rattle.stage_runs.specs.declared.Change.{Change}
+use Rattle.stage_runs.specs.Maps.{LedgerMap}
+use Rattle.stage_runs.specs.Transactions.{Effect, declared_by}
+use Rattle.stage_runs.specs.Whole as runs
+use Rattle.apply_spec.specs.Checks.{refusal_of}
+use Rattle.apply_spec.specs.Enforced as whole
+use Rattle.apply_spec.proofs.Exact.{extended_effect}
+use Rattle.tx_apply.specs.Outcomes.{Ended, extended, performed, first_performed, unless_refused, ended}
+
+-- the effect of an outcome with these extensions
+abbrev pub told : Header → Envelope → Ended → Effect
+told header envelope done = record {
+  result = whole.result_pair header.network_id envelope done.outcome;
+  success = None;
+  changes = [];
+  extensions = done.extensions;
+  used = runs.nothing_used;
+}
+
+module _ (header : Header) (entries : LedgerMap) (envelope : Envelope) where
+  abbrev effect_after : whole.Performed → Effect
+  effect_after run = runs.effect_of entries envelope (whole.judged header envelope run)
+
+  told_extended : (extend_to : ℕ) (allowed : Bool) → whole.may_extend header.settings (declared_by envelope) extend_to ≡ allowed
+      → effect_after (whole.extended header entries (declared_by envelope) extend_to) ≡ told header envelope (extended header entries (declared_by envelope) extend_to)
+  told_extended extend_to true e =
+      extended_effect header entries envelope extend_to e
+      ∙ sym (rw e refl)
+  told_extended extend_to false e = rw e refl
+
+  told_performed : (body : OperationBody) → effect_after (whole.performed header entries (transaction_in envelope) body) ≡ told header envelope (performed header entries (transaction_in envelope) body)
+  told_performed (ExtendFootprintTtl extend_to) = told_extended extend_to (whole.may_extend header.settings (declared_by envelope) extend_to) refl
+  told_performed RestoreFootprint = refl
+  told_performed (InvokeHostFunction host_function auth) = refl
+
+  told_first : (operations : List Operation)
+      → effect_after (whole.first_performed header entries (transaction_in envelope) operations) ≡ told header envelope (first_performed header entries (transaction_in envelope) operations)
+  told_first [] = refl
+  told_first (operation ∷ rest) = told_performed operation.body
+
+  told_unless : (o : Option TransactionOutcome) (effect : Effect) (done : Ended) → effect ≡ told header envelope done
+      → runs.unless_refused (option_map (whole.result_pair header.network_id envelope) o) effect ≡ told header envelope (unless_refused o done)
+  told_unless (Some outcome) effect done e = refl
+  told_unless None effect done e = e
+
+  pub told_enforced : (verdicts : Verdicts) → whole.enforced header verdicts entries envelope ≡ told header envelope (ended header entries (transaction_in envelope))
+  told_enforced verdicts =
+      told_unless (refusal_of header (transaction_in envelope)) (effect_after (whole.first_performed header entries (transaction_in envelope) (transaction_in envelope).operations))
+      (first_performed header entries (transaction_in envelope) (transaction_in envelope).operations)
+      (told_first (transaction_in envelope).operations)
+
+-- an envelope's result tells of a call exactly if that of its transaction does
+pub told_quiet : (header : Header) (envelope : Envelope) (outcome : TransactionOutcome) → has_preimage outcome ≡ false
+    → has_preimage (outcome_in (whole.envelope_outcome header.network_id envelope outcome)) ≡ false
+told_quiet header (envelopes.Transaction signed) outcome h = h
+told_quiet header (envelopes.FeeBump signed) outcome h =
+    let inner = whole.inner_pair header.network_id signed.fee_bump.inner.tx outcome in
+    elim (whole.is_success outcome) as (λ (b : Bool). has_preimage (outcome_in (if b then outcomes.FeeBumpInnerSuccess inner else outcomes.FeeBumpInnerFailed inner)) ≡ false) [ true ↦ h | false ↦ h ]
+
+-- what is returned is the effect
+pub told_done : (header : Header) (verdicts : Verdicts) (entries : LedgerMap) (envelope : Envelope) (done : Ended) (pair : TransactionResultPair) (changes : List Change)
+    → done ≡ ended header entries (transaction_in envelope) → pair ≡ whole.result_pair header.network_id envelope done.outcome → changes ≡ []
+    → record { result = pair; success = None; changes = changes; extensions = done.extensions; used = runs.nothing_used } ≡ whole.enforced header verdicts entries envelope
+told_done header verdicts entries envelope done pair changes is paired unchanged =
+    ap₂ (λ (p : TransactionResultPair) (cs : List Change). let e : Effect = record { result = p; success = None; changes = cs; extensions = done.extensions; used = runs.nothing_used } in e) paired unchanged
+    ∙ ap (told header envelope) is
+    ∙ sym (told_enforced header entries envelope verdicts)
