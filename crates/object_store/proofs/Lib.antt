@@ -1,3 +1,4 @@
 pub mod Resolving
 pub mod Showing
 pub mod SmallForms
+pub mod SmallHosted

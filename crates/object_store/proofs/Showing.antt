@@ -14,7 +14,7 @@ address_has_tag (addresses.MuxedAccount id ed25519) h = omega arith
 address_has_tag (addresses.ClaimableBalance x) h = absurd cc
 address_has_tag (addresses.LiquidityPool x) h = absurd cc
 
-type_has_tag : (d : Datum) → has_host_types d ≡ true → small_word d ≡ None → 0 < object_tag d
+pub type_has_tag : (d : Datum) → has_host_types d ≡ true → small_word d ≡ None → 0 < object_tag d
 type_has_tag (boolean false) h e = absurd cc
 type_has_tag (boolean true) h e = absurd cc
 type_has_tag void h e = absurd cc

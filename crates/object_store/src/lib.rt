@@ -6,4 +6,5 @@ mod small;
 mod words;
 
 pub use objects::{Objects, ShowErr, Shown};
+pub use small::small_value;
 pub use words::{Bad, Ref, TakeErr};

@@ -1,10 +1,11 @@
 //! Small forms as values.
 
-ghost use Rattle.std.specs.Prelude.{◌≡◌, ◌≤◌, Some, None, is_some, take, MatchOption, MatchResult};
+ghost use Rattle.std.specs.Prelude.{◌≡◌, ◌≤◌, Some, None, is_some, take, MatchOption, MatchResult, IfOk};
 ghost use Rattle.value_types.specs.Datum.{symbol};
 ghost use Rattle.value_types.specs.Views.{datum};
 ghost use Rattle.host_spec.specs.Tags.{tag_of};
 ghost use Rattle.host_spec.specs.Words.{tag_bits, small_meaning};
+ghost use Rattle.host_spec.specs.Hosted.{IsHosted};
 ghost use Rattle.object_store.specs.Refs.{IsBadOnly};
 
 use crate::words::TakeErr;
@@ -40,7 +41,8 @@ pub fn is_small(val: Val) -> bool
 /// The value of a word with the tag of small symbols.
 fn symbol_value(alloc: Global, val: Val) -> Result<ScVal, TakeErr>
     requires { tag_of (tag_bits val.0) ≡ Some Tag.SymbolSmall }
-    ensures { MatchResult result (λ v. small_meaning val.0 ≡ Some (datum v)) (IsBadOnly (small_meaning val.0)) }
+    ensures means { MatchResult result (λ v. small_meaning val.0 ≡ Some (datum v)) (IsBadOnly (small_meaning val.0)) }
+    ensures hosted { IfOk result (λ v. IsHosted (datum v)) }
 {
     let mut buffer = [0; 9];
     let Some(len) = symbol_text(val, &mut buffer) else {
@@ -53,9 +55,10 @@ fn symbol_value(alloc: Global, val: Val) -> Result<ScVal, TakeErr>
 }
 
 /// The value of a small form.
-#[tactic(auto, using(crate::proofs::SmallForms::no_tag, crate::proofs::SmallForms::with_tag))]
+#[tactic(auto, using(crate::proofs::SmallForms::no_tag, crate::proofs::SmallForms::with_tag, crate::proofs::SmallHosted::scalar_hosted))]
 pub fn small_value(alloc: Global, val: Val) -> Result<ScVal, TakeErr>
-    ensures { MatchResult result (λ v. small_meaning val.0 ≡ Some (datum v)) (IsBadOnly (small_meaning val.0)) }
+    ensures means { MatchResult result (λ v. small_meaning val.0 ≡ Some (datum v)) (IsBadOnly (small_meaning val.0)) }
+    ensures hosted { IfOk result (λ v. IsHosted (datum v)) }
 {
     let Some(tag) = val.tag() else {
         return Err(TakeErr::Bad);

@@ -1,6 +1,6 @@
 //! What the words of a frame mean.
 
-ghost use Rattle.std.specs.Prelude.{◌≡◌, Some, None, MatchOption, MatchResult};
+ghost use Rattle.std.specs.Prelude.{◌≡◌, Some, None, MatchOption, MatchResult, IfOk};
 ghost use Rattle.value_types.specs.Views.{datum};
 ghost use Rattle.host_spec.specs.Words.{meaning, object_of};
 ghost use Rattle.host_spec.specs.Hosted.{IsHosted};
@@ -35,7 +35,7 @@ pub enum TakeErr {
 
 impl Objects {
     /// The object of a word with an object's tag. O(1).
-    fn object(&self, shown: &Shown, word: Val) -> Option<&ScVal>
+    pub fn object(&self, shown: &Shown, word: Val) -> Option<&ScVal>
         requires { AreIndices self.now shown.now }
         ensures { MatchOption result (object_of (shown_of self.now shown.now) word.0 ≡ None)
             (λ v. (object_of (shown_of self.now shown.now) word.0 ≡ Some (datum v.now)) × IsHosted (datum v.now)) }
@@ -79,7 +79,8 @@ impl Objects {
     #[tactic(auto, using(crate::proofs::Resolving::meaning_object, crate::proofs::Resolving::meaning_small))]
     pub fn take(&self, shown: &Shown, word: Val) -> Result<ScVal, TakeErr>
         requires { AreIndices self.now shown.now }
-        ensures { MatchResult result (λ v. meaning (shown_of self.now shown.now) word.0 ≡ Some (datum v)) (IsBadOnly (meaning (shown_of self.now shown.now) word.0)) }
+        ensures means { MatchResult result (λ v. meaning (shown_of self.now shown.now) word.0 ≡ Some (datum v)) (IsBadOnly (meaning (shown_of self.now shown.now) word.0)) }
+        ensures hosted { IfOk result (λ v. IsHosted (datum v)) }
     {
         match self.resolve(shown, word) {
             Err(_) => Err(TakeErr::Bad),

@@ -41,7 +41,7 @@ fn terms(constant: u32) -> KindTerms
 }
 
 /// Returns a budget of the largest limits, in which an instruction costs 1 and everything else 0.
-fn ample() -> Budget {
+pub fn ample() -> Budget {
     let nothing = terms(0);
     let all = Terms {
         wasm_insn_exec: terms(1),

@@ -1,6 +1,7 @@
 //! Runs parts of the host, so that their time can be measured from outside.
 #![tactic(auto)]
 
+mod calls;
 mod entries;
 mod export;
 mod set;
@@ -14,7 +15,8 @@ const USAGE: &str = "usage: part_bench PART..
 PART is one of
   set FILE TIMES           reads and writes a transaction set
   entries LEDGER COUNT     makes new entries in a ledger
-  export MODULE NAME       calls an export without parameters";
+  export MODULE NAME       calls an export without parameters
+  calls VALUE NAME         calls a function of the host on a value, 100,000 times";
 
 fn main(rt: HostRuntime) -> ExitCode {
     match run(&rt) {
@@ -63,6 +65,10 @@ fn measured<R: Runtime>(
         "export" => {
             let (number, instructions) = export::called(alloc, &file, how.as_bytes())?;
             format!(in alloc; "result {number}, {instructions} instructions\n").ok()
+        }
+        "calls" => {
+            let calls = calls::called(alloc, &file, how)?;
+            format!(in alloc; "{calls} calls\n").ok()
         }
         _ => None,
     }

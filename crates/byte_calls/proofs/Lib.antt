@@ -1,0 +1,4 @@
+pub mod Editing
+pub mod Fitting
+pub mod Hashing
+pub mod Reading

@@ -1,0 +1,223 @@
+-- Failures that leave the world as it was, caught calls, frames and runs of code, under a judge and under none.
+use Rattle.std.proofs.Common.{◌≡◌, ℕ, ◌+◌, List, [], ◌∷◌, Option, Some, None, Bool, true, false, refl, sym, ap, subst}
+use Rattle.std.specs.FinMap.{get}
+use Rattle.budget_meter.specs.Meter.{Meter}
+use Rattle.value_types.specs.Datum.{Datum, error}
+use Rattle.value_types.specs.declared.hash.Hash.{Hash}
+use Rattle.ledger_types.specs.declared.header.Header.{Header}
+use Rattle.ledger_spec.specs.declared.Kept.{Kept}
+use Rattle.ledger_spec.specs.LedgerMap.{LedgerMap}
+use Rattle.wasm_spec.specs.declared.types.ResizableLimits.{ResizableLimits}
+use Rattle.wasm_spec.specs.declared.module.Module.{Module}
+use Rattle.wasm_spec.specs.declared.values.Value.{Value}
+use Rattle.wasm_spec.specs.declared.values.Value.TheVariants.{I32, I64}
+use Rattle.wasm_spec.specs.Runs.{Run, Normal, Branch, Return, Trap, Spent as SpentRun, Stuck, Ask}
+use Rattle.wasm_spec.specs.Meaning.{meaning}
+use Rattle.host_spec.specs.Words.{meaning as word_meaning}
+use Rattle.host_spec.specs.VecRows.{all_given}
+use Rattle.call_spec.specs.World.{Write, Judge, Frame, World}
+use Rattle.call_spec.specs.Acts.{Failure, Failed, Spent, Archived, Out, Good, Bad, Undeclared, Act, world_of, after, fails, lift}
+use Rattle.call_spec.specs.Accesses.{puts}
+use Rattle.call_spec.specs.Keys.{instance_key, instance_entry}
+use Rattle.call_spec.specs.Frames.{HostCalls, metered, asking, returned, runs, Entered, frame_of, paying_pages, runs_from, started, returned_value, writes_if, finished, with_frames, closed, in_frame, framed, Opener, with_opener}
+use Rattle.call_spec.specs.Calling.{undone, undoing, caught, catching}
+use Rattle.call_spec.specs.Laws.{Maps, writes_in, IsExtended}
+use Rattle.call_spec.proofs.Acts.{Continues, Sound, Alike, Stopped, Same, Local, extended_refl, Besides, good_local, bad_local, fails_local, after_local, with_local, frame_local, changed_local, lift_local, paying_local}
+use Rattle.call_spec.proofs.Accesses.{free, held, access_local}
+
+-- ---- failures that leave the world as it was
+
+undone_trace : {A : Type 0} (w : World) (o : Out A) → (world_of (undone w o)).trace ≡ (world_of o).trace
+undone_trace w (Good v u) = refl
+undone_trace w (Bad (Failed e) u) = refl
+undone_trace w (Bad Spent u) = refl
+undone_trace w (Bad (Archived key) u) = refl
+undone_trace w (Undeclared a u) = refl
+
+undone_quiet : {A : Type 0} (w : World) (o : Out A) (key : List ℕ) → (writes_in (world_of o).trace key ≡ false → IsExtended (get w.entries key) (get (world_of o).entries key))
+    → writes_in (world_of (undone w o)).trace key ≡ false → IsExtended (get w.entries key) (get (world_of (undone w o)).entries key)
+undone_quiet w (Good v u) key h none = h none
+undone_quiet w (Bad (Failed e) u) key h none = extended_refl (get w.entries key)
+undone_quiet w (Bad Spent u) key h none = h none
+undone_quiet w (Bad (Archived k) u) key h none = h none
+undone_quiet w (Undeclared a u) key h none = h none
+
+module _ (may : Judge) (m n : LedgerMap) where
+  undone_bad : (A : Type 0) (w : World) (q : LedgerMap) → Maps may m n w.entries q → (d : Failure) (u v : World) → Alike may m n u v → Same {A = A} may m n (undone w (Bad d u)) (undone (record w { entries = q }) (Bad d v))
+  undone_bad A w q maps (Failed e) u v h = (refl, (ap (λ (x : World). record x { entries = q; events = w.events; pairs = w.pairs }) h.0, maps, h.2))
+  undone_bad A w q maps Spent u v h = (refl, h)
+  undone_bad A w q maps (Archived key) u v h = (refl, h)
+
+  undone_same : {A : Type 0} (w : World) (q : LedgerMap) → Maps may m n w.entries q → (o c : Out A) → Same may m n o c → Same may m n (undone w o) (undone (record w { entries = q }) c)
+  undone_same w q maps o (Undeclared a v) h = subst (λ t. Stopped may a v t) (sym (undone_trace w o)) h
+  undone_same w q maps (Good a u) (Good b v) h = h
+  undone_same w q maps (Good a u) (Bad e v) h = absurd h
+  undone_same w q maps (Bad d u) (Good b v) h = absurd h
+  undone_same {A} w q maps (Bad d u) (Bad e v) h =
+      subst (λ x. Same {A = A} may m n (undone w (Bad d u)) (undone (record w { entries = q }) (Bad x v))) h.0 (undone_bad A w q maps d u v h.1)
+  undone_same w q maps (Undeclared c u) (Good b v) h = absurd h
+  undone_same w q maps (Undeclared c u) (Bad e v) h = absurd h
+
+  pub undoing_local : {A : Type 0} (act act' : Act A) → Local may m n act act' → Local may m n (undoing act) (undoing act')
+  undoing_local act act' h = record {
+    same = λ w q maps clean. undone_same w q maps (act w) (act' (record w { entries = q })) (h.same w q maps clean);
+    grows = λ w. subst (λ t. Continues w.trace t) (sym (undone_trace w (act w))) (h.grows w);
+    quiet = λ w key none. undone_quiet w (act w) key (h.quiet w key) none;
+  }
+
+-- ---- caught calls
+
+caught_trace : (w : World) (o : Out Datum) → (world_of (caught w o)).trace ≡ (world_of o).trace
+caught_trace w (Good v u) = refl
+caught_trace w (Bad (Failed e) u) = refl
+caught_trace w (Bad Spent u) = refl
+caught_trace w (Bad (Archived key) u) = refl
+caught_trace w (Undeclared a u) = refl
+
+-- what a caught failure leaves is what was there before
+caught_quiet : (w : World) (o : Out Datum) (key : List ℕ) → (writes_in (world_of o).trace key ≡ false → IsExtended (get w.entries key) (get (world_of o).entries key))
+    → writes_in (world_of (caught w o)).trace key ≡ false → IsExtended (get w.entries key) (get (world_of (caught w o)).entries key)
+caught_quiet w (Good v u) key h none = h none
+caught_quiet w (Bad (Failed e) u) key h none = extended_refl (get w.entries key)
+caught_quiet w (Bad Spent u) key h none = h none
+caught_quiet w (Bad (Archived k) u) key h none = h none
+caught_quiet w (Undeclared a u) key h none = h none
+
+module _ (may : Judge) (m n : LedgerMap) where
+  caught_bad : (w : World) (q : LedgerMap) → Maps may m n w.entries q → (d : Failure) (u v : World) → Alike may m n u v → Same may m n (caught w (Bad d u)) (caught (record w { entries = q }) (Bad d v))
+  caught_bad w q maps (Failed e) u v h = (refl, (ap (λ (x : World). record x { entries = q; events = w.events; pairs = w.pairs }) h.0, maps, h.2))
+  caught_bad w q maps Spent u v h = (refl, h)
+  caught_bad w q maps (Archived key) u v h = (refl, h)
+
+  caught_same : (w : World) (q : LedgerMap) → Maps may m n w.entries q → (o c : Out Datum) → Same may m n o c → Same may m n (caught w o) (caught (record w { entries = q }) c)
+  caught_same w q maps o (Undeclared a v) h = subst (λ t. Stopped may a v t) (sym (caught_trace w o)) h
+  caught_same w q maps (Good a u) (Good b v) h = h
+  caught_same w q maps (Good a u) (Bad e v) h = absurd h
+  caught_same w q maps (Bad d u) (Good b v) h = absurd h
+  caught_same w q maps (Bad d u) (Bad e v) h =
+      subst (λ x. Same may m n (caught w (Bad d u)) (caught (record w { entries = q }) (Bad x v))) h.0 (caught_bad w q maps d u v h.1)
+  caught_same w q maps (Undeclared c u) (Good b v) h = absurd h
+  caught_same w q maps (Undeclared c u) (Bad e v) h = absurd h
+
+  pub catching_local : (act act' : Act Datum) → Local may m n act act' → Local may m n (catching act) (catching act')
+  catching_local act act' h = record {
+    same = λ w q maps clean. caught_same w q maps (act w) (act' (record w { entries = q })) (h.same w q maps clean);
+    grows = λ w. subst (λ t. Continues w.trace t) (sym (caught_trace w (act w))) (h.grows w);
+    quiet = λ w key none. caught_quiet w (act w) key (h.quiet w key) none;
+  }
+
+-- ---- frames
+
+closed_trace : {A : Type 0} (f : Frame) (cs : List Hash) (o : Out A) → (world_of (closed f cs o)).trace ≡ (world_of o).trace
+closed_trace f cs (Good v u) = refl
+closed_trace f cs (Bad e u) = refl
+closed_trace f cs (Undeclared a u) = refl
+
+closed_quiet : {A : Type 0} (f : Frame) (cs : List Hash) (old : Option Kept) (o : Out A) (key : List ℕ) → (writes_in (world_of o).trace key ≡ false → IsExtended old (get (world_of o).entries key))
+    → writes_in (world_of (closed f cs o)).trace key ≡ false → IsExtended old (get (world_of (closed f cs o)).entries key)
+closed_quiet f cs old (Good v u) key h none = h none
+closed_quiet f cs old (Bad e u) key h none = h none
+closed_quiet f cs old (Undeclared a u) key h none = h none
+
+module _ (may : Judge) (m n : LedgerMap) where
+  closed_same : {A : Type 0} (f : Frame) (cs : List Hash) (o c : Out A) → Same may m n o c → Same may m n (closed f cs o) (closed f cs c)
+  closed_same f cs o (Undeclared a v) h = subst (λ t. Stopped may a v t) (sym (closed_trace f cs o)) h
+  closed_same f cs (Good a u) (Good b v) h = (h.0, (ap (with_frames f cs) h.1.0, h.1.1, h.1.2))
+  closed_same f cs (Good a u) (Bad e v) h = absurd h
+  closed_same f cs (Bad d u) (Good b v) h = absurd h
+  closed_same f cs (Bad d u) (Bad e v) h = (h.0, (ap (with_frames f cs) h.1.0, h.1.1, h.1.2))
+  closed_same f cs (Undeclared c u) (Good b v) h = absurd h
+  closed_same f cs (Undeclared c u) (Bad e v) h = absurd h
+
+  pub in_frame_local : {A : Type 0} (e : Entered) (act act' : Act A) → Local may m n act act' → Local may m n (in_frame e act) (in_frame e act')
+  in_frame_local e act act' h = record {
+    same = λ w q maps clean. closed_same w.frame w.contracts (act (with_frames (frame_of e) (e.contract ∷ w.contracts) w)) (act' (with_frames (frame_of e) (e.contract ∷ w.contracts) (record w { entries = q })))
+        (h.same (with_frames (frame_of e) (e.contract ∷ w.contracts) w) q maps clean);
+    grows = λ w. subst (λ t. Continues w.trace t) (sym (closed_trace w.frame w.contracts (act (with_frames (frame_of e) (e.contract ∷ w.contracts) w))))
+        (h.grows (with_frames (frame_of e) (e.contract ∷ w.contracts) w));
+    quiet = λ w key none. closed_quiet w.frame w.contracts (get w.entries key) (act (with_frames (frame_of e) (e.contract ∷ w.contracts) w)) key (h.quiet (with_frames (frame_of e) (e.contract ∷ w.contracts) w) key) none;
+  }
+
+-- ---- runs of code
+
+pub metered_besides : (meter : Meter) → Besides (metered meter)
+metered_besides meter = record { apart = λ w q. refl; map = λ w. refl; trace = λ w. refl }
+
+asking_besides : (memory : List ℕ) (meter : Meter) → Besides (asking memory meter)
+asking_besides memory meter = record { apart = λ w q. refl; map = λ w. refl; trace = λ w. refl }
+
+-- each function of the host is under the judge what it is under none
+abbrev pub HostsLocal : Judge → LedgerMap → LedgerMap → HostCalls → HostCalls → Type 0
+HostsLocal may m n host host' = (f : ℕ) (words : List ℕ) → Local may m n (host f words) (host' f words)
+
+module _ (may : Judge) (m n : LedgerMap) where
+  returned_local : (vs : List Value) → Local may m n (returned vs) (returned vs)
+  returned_local [] = fails_local may m n _
+  returned_local (I32 x ∷ vs) = fails_local may m n _
+  returned_local (I64 x ∷ []) = good_local may m n x
+  returned_local (I64 x ∷ v ∷ vs) = fails_local may m n _
+
+  pub runs_local : (host host' : HostCalls) → HostsLocal may m n host host' → (run : Run) → Local may m n (runs host run) (runs host' run)
+  runs_local host host' h (Normal vs s) = changed_local may m n (metered s.meter) (returned vs) (returned vs) (metered_besides s.meter) (returned_local vs)
+  runs_local host host' h (Branch depth vs s) = fails_local may m n _
+  runs_local host host' h (Return vs s) = fails_local may m n _
+  runs_local host host' h (Trap kind meter) = changed_local may m n (metered meter) (fails _) (fails _) (metered_besides meter) (fails_local may m n _)
+  runs_local host host' h (SpentRun meter) = changed_local may m n (metered meter) (λ w. Bad Spent w) (λ w. Bad Spent w) (metered_besides meter) (bad_local may m n Spent)
+  runs_local host host' h Stuck = fails_local may m n _
+  runs_local host host' h (Ask f words memory meter on) =
+      let next : ℕ → Act ℕ = λ v u. runs host (on v u.frame.memory u.meter) u in
+      let next' : ℕ → Act ℕ = λ v u. runs host' (on v u.frame.memory u.meter) u in
+      let goes : (v : ℕ) → Local may m n (next v) (next' v) = λ v. record {
+        same = λ w q maps clean. (runs_local host host' h (on v w.frame.memory w.meter)).same w q maps clean;
+        grows = λ w. (runs_local host host' h (on v w.frame.memory w.meter)).grows w;
+        quiet = λ w key none. (runs_local host host' h (on v w.frame.memory w.meter)).quiet w key none;
+      } in
+      changed_local may m n (asking memory meter) (after (host f words) next) (after (host' f words) next') (asking_besides memory meter) (after_local may m n (host f words) (host' f words) next next' (h f words) goes)
+
+  pages_local : {A : Type 0} (limits : List ResizableLimits) (act act' : Act A) → Local may m n act act' → Local may m n (paying_pages limits act) (paying_pages limits act')
+  pages_local [] act act' h = h
+  pages_local (x ∷ xs) act act' h = paying_local may m n _ _ act act' h
+
+  started_local : (host host' : HostCalls) → HostsLocal may m n host host' → (e : Entered) → Local may m n (started host e) (started host' e)
+  started_local host host' h e =
+      pages_local e.module_.memories _ _ (paying_local may m n _ _ _ _ (after_local may m n (lift (all_given e.args)) (lift (all_given e.args)) (runs_from host e) (runs_from host' e) (lift_local may m n (all_given e.args))
+      (λ words. with_local may m n (λ w. w.meter) (λ meter. runs host (meaning e.module_ e.index words e.store meter)) (λ meter. runs host' (meaning e.module_ e.index words e.store meter)) (λ w q. refl)
+      (λ meter. runs_local host host' h (meaning e.module_ e.index words e.store meter)))))
+
+  value_local : (o : Option Datum) → Local may m n (returned_value o) (returned_value o)
+  value_local None = fails_local may m n _
+  value_local (Some d) = at d
+    where
+      at : (d : Datum) → Local may m n (returned_value (Some d)) (returned_value (Some d))
+      at (error e) = fails_local may m n _
+      at _ = good_local may m n _
+
+  module _ (sound : Sound may) (header : Header) where
+    writes_local : (b : Bool) (f : Frame) → Local may m n (writes_if b (free header) f) (writes_if b (held may header) f)
+    writes_local false f = good_local may m n tt
+    writes_local true f = access_local may m n sound header Write (instance_key f.contract) (puts (free header) (instance_entry (header.seq + 1) f.contract f.copy) tt) tt
+
+    finished_local : (word : ℕ) → Local may m n (finished (free header) word) (finished (held may header) word)
+    finished_local word =
+        after_local may m n _ _ _ _ (frame_local may m n _ _ (λ f. value_local (word_meaning f.shown word)))
+        (λ d. after_local may m n _ _ _ _ (frame_local may m n _ _ (λ f. writes_local _ f)) (λ _. good_local may m n d))
+
+    pub framed_local : (host host' : Module → HostCalls) → ((x : Module) → HostsLocal may m n (host x) (host' x)) → (e : Entered)
+        → Local may m n (framed (free header) host e) (framed (held may header) host' e)
+    framed_local host host' h e = in_frame_local may m n e _ _ (after_local may m n _ _ _ _ (started_local (host e.module_) (host' e.module_) (h e.module_) e) finished_local)
+
+-- ---- what opens frames
+
+abbrev pub OpenersLocal : Judge → LedgerMap → LedgerMap → Opener → Opener → Type 0
+OpenersLocal may m n None None = Unit {0}
+OpenersLocal may m n None (Some g) = ⊥
+OpenersLocal may m n (Some f) None = ⊥
+OpenersLocal may m n (Some f) (Some g) = (e : Entered) → Local may m n (f e) (g e)
+
+module _ (may : Judge) (m n : LedgerMap) where
+  pub opener_local : {A : Type 0} (opener opener' : Opener) → OpenersLocal may m n opener opener' → (next next' : (Entered → Act Datum) → Act A)
+      → ((f g : Entered → Act Datum) → ((e : Entered) → Local may m n (f e) (g e)) → Local may m n (next f) (next' g)) → Local may m n (with_opener opener next) (with_opener opener' next')
+  opener_local None None h next next' l = fails_local may m n _
+  opener_local None (Some g) h next next' l = absurd h
+  opener_local (Some f) None h next next' l = absurd h
+  opener_local (Some f) (Some g) h next next' l = l f g h

@@ -1,0 +1,13 @@
+pub mod Acts
+pub mod Accesses
+pub mod Frames
+pub mod Rows
+pub mod HostFunctions
+pub mod Stopping
+pub mod Framed
+pub mod Examples
+pub mod Each
+pub mod Written
+pub mod Folding
+pub mod Changed
+mod Ran

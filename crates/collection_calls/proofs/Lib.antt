@@ -1,0 +1,6 @@
+pub mod KeyLaws
+pub mod MapLaws
+pub mod MemoryLaws
+pub mod SeekLaws
+pub mod VecLaws
+pub mod WordLaws

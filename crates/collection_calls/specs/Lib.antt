@@ -1,0 +1,4 @@
+pub mod Found
+pub mod KeyIndex
+pub mod Parts
+pub mod Unpacked

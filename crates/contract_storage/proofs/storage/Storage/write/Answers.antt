@@ -1,0 +1,13 @@
+use Rattle.std.proofs.Common.{arith, sym, subst}
+use Rattle.ledger_spec.specs.declared.Kept.{Kept}
+use Rattle.ledger_spec.specs.LedgerMap.{key_bytes, IsKeptAt}
+use Rattle.contract_storage.proofs.Doing.{fits_key, written_kept}
+use Rattle.contract_storage.proofs.storage.Storage.write.Goals as goal
+
+pub settle-requires-clause-fits : goal.settle-requires-clause-fits
+settle-requires-clause-fits g c = fits_key c.args.key.now c.args.entry c.requires.key c.requires.fits
+
+pub settle-requires-clause-kept : goal.settle-requires-clause-kept
+settle-requires-clause-kept g c =
+    subst (λ (k : Kept). IsKeptAt (key_bytes c.args.key.now) k) (sym c.written-kept.ensures)
+    (written_kept _ c.args.key.now c.args.entry _ c.requires.key c.requires.fits c.requires.hashed (omega arith) (omega arith))

@@ -1,0 +1,31 @@
+-- A map of ledger entries under writes that can be undone (own).
+use Rattle.std.specs.Prelude.{ℕ, List, [], ◌∷◌, ◌++◌, Option, Some, None, refl}
+use Rattle.std.specs.Coded.{Coded, code_by, coded×, coded_list}
+use Rattle.std.specs.FinMap.{insert, remove}
+use Rattle.ledger_spec.specs.declared.Kept.{Kept}
+use Rattle.ledger_spec.specs.LedgerMap.{LedgerMap}
+
+-- the map without writes, the map after all writes, and the maps before each write, the oldest first
+pub record Layered : Type 0 where
+  pub base : LedgerMap
+  pub map : LedgerMap
+  pub past : List LedgerMap
+
+-- how the logic stores it
+abbrev pub layered_code : Coded LedgerMap → Coded Layered
+layered_code c =
+    code_by (LedgerMap × (LedgerMap × List LedgerMap)) (coded× c (coded× c (coded_list c))) (λ s. (s.base, (s.map, s.past)))
+    (λ p. record { base = p.0; map = p.1.0; past = p.1.1 }) (λ _. refl)
+
+-- all maps so far, the present one last
+abbrev pub history : Layered → List LedgerMap
+history s = s.past ++ s.map ∷ []
+
+-- the map with this entry at a key's bytes; `None` removes the entry there
+abbrev pub set_at : LedgerMap → List ℕ → Option Kept → LedgerMap
+set_at map bytes None = remove map bytes
+set_at map bytes (Some kept) = insert map bytes kept
+
+-- the same after one more write
+abbrev pub with_write : Layered → List ℕ → Option Kept → Layered
+with_write s bytes now = record { base = s.base; map = set_at s.map bytes now; past = s.past ++ s.map ∷ [] }

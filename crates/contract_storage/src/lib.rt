@@ -1,0 +1,16 @@
+//! The storage of a contract's run: what a transaction sees and changes of the entries of a ledger, within its footprint.
+#![tactic(auto)]
+
+mod access;
+mod calls;
+mod changes;
+mod footprint;
+mod laws;
+mod layer;
+mod sight;
+mod storage;
+
+pub use access::{Access, StoErr};
+pub use changes::Change;
+pub use laws::{later_is_later, restore_goes_back};
+pub use storage::{Point, Storage};

@@ -1,0 +1,231 @@
+//! The storage: its footprint, its snapshots and what it changed. Its calls are in `calls`.
+
+ghost use Rattle.std.specs.Prelude.{◌≡◌, ◌≤◌, ◌<◌, ◌-◌, ◌^◌, ◌&&◌, All, Some, length, nat_lt, nat_le, IfOk, IfErr, IfSome, OnOk, OnErr};
+ghost use Rattle.std.specs.Option.{option_map};
+ghost use Rattle.ledger_types.specs.Key.{key_format};
+ghost use Rattle.ledger_types.specs.Entry.{entry_format, key_of as key_of_entry};
+ghost use Rattle.ledger_spec.specs.LedgerMap.{key_bytes, IsKeptAt, HasCodeHash};
+ghost use Rattle.ledger_spec.specs.Seen.{seen};
+ghost use Rattle.ledger_spec.specs.Changes.{asked_life, furthest as furthest_in, written as written_in};
+ghost use Rattle.contract_storage.specs.Layered.{set_at};
+ghost use Rattle.contract_storage.specs.Overlays.{unboxed};
+ghost use Rattle.contract_storage.specs.Differences.{AreDifferences};
+ghost use Rattle.contract_storage.specs.Stored.{HasBounds, starting, with_map, IsRestored};
+ghost use Rattle.contract_storage.specs.Footprint.{allows as allows_in, IsFootprint};
+ghost use Rattle.contract_storage.specs.Acts.{sight_seen, life_of_put, IsSeenAt};
+
+use crate::access::{Access, StoErr};
+use crate::changes::Change;
+use crate::footprint::{allows, declared_keys};
+use crate::layer::Layer;
+use crate::sight::{Sight, sight_of};
+use entry_lookup::Ground;
+use ledger_spec::{Kept, first_life, is_temporary};
+use ledger_types::{LedgerEntry, LedgerKey, Settings};
+use std::alloc::Global;
+use std::collections::BTreeMap;
+use std::marker::Model;
+use xdr_core::NoMemory;
+
+/// A snapshot of a storage.
+#[derive(Clone, Copy, Debug, PartialEq, Eq)]
+pub struct Point {
+    /// The number of writes before it.
+    pub writes: usize,
+}
+
+/// The entries of a ledger as one transaction sees and changes them. The footprint of the transaction decides which accesses
+/// are allowed. Changes can be undone.
+#[derive(Drop)]
+pub struct Storage<'a, G: Ground> {
+    layer: Layer<'a, G>,
+    declared: BTreeMap<LedgerKey, bool>,
+    n: u32,
+    lives: Settings,
+    alloc: Global,
+}
+
+impl<'a, G: Ground> Model for Storage<'a, G> {
+    ghost use Rattle.std.specs.FinMap.{code};
+    ghost use Rattle.std.specs.Coded.{coded_list, coded_ℕ};
+    ghost use Rattle.ledger_spec.specs.contracts.Kept as kept;
+    ghost use Rattle.ledger_types.specs.contracts.header.Settings as settings;
+    ghost use Rattle.ledger_types.specs.contracts.key.LedgerKey as key;
+    ghost use Rattle.contract_storage.specs.Stored.{Stored, stored_code, HasBounds};
+
+    ghost Value = { Stored };
+
+    ghost coded = { stored_code (code (coded_list coded_ℕ) kept.the_row.coded) settings.the_row.coded key.the_row.coded };
+
+    ghost view = { λ s. record { base = s.layer.base; map = s.layer.map; past = s.layer.past; declared = s.declared.entries; n = s.n; lives = s.lives } };
+
+    ghost invariant = { λ s. HasBounds s.n s.lives };
+}
+
+// Returns an entry as it is written in ledger `n`.
+fn written(n: u32, entry: LedgerEntry, live_until: u32) -> Kept
+    ensures { result ≡ record { entry = written_in n entry; live_until = live_until } }
+{
+    let LedgerEntry { data, .. } = entry;
+    Kept {
+        entry: LedgerEntry {
+            last_modified_ledger_seq: n,
+            data,
+        },
+        live_until,
+    }
+}
+
+// Returns the last ledger that an extension may reach.
+fn furthest(settings: &Settings, n: u32) -> u32
+    requires { furthest_in settings.now n < 2 ^ 32 }
+    ensures { result ≡ furthest_in settings.now n }
+{
+    (u64::from(n) + u64::from(settings.max_entry_ttl)).saturating_sub(1) as u32
+}
+
+// Puts an entry into a box.
+fn boxed(alloc: Global, now: Option<Kept>) -> Result<Option<Box<Kept>>, NoMemory>
+    ensures { IfOk result (λ made. option_map unboxed made ≡ now) }
+{
+    match now {
+        None => Ok(None),
+        Some(kept) => Ok(Some(Box::new(alloc, kept)?)),
+    }
+}
+
+impl<'a, G: Ground> Storage<'a, G> {
+    /// Makes the storage of a transaction in ledger `n`, which allows the accesses that a footprint declares.
+    pub fn enforcing(
+        alloc: Global,
+        base: &'a G,
+        n: u32,
+        lives: &Settings,
+        read_only: &[LedgerKey],
+        read_write: &[LedgerKey],
+    ) -> Result<Storage<'a, G>, NoMemory>
+        requires bounds { HasBounds n lives.now }
+        requires read_only { All (λ key. key_format.fits key) read_only.now }
+        requires read_write { All (λ key. key_format.fits key) read_write.now }
+        ensures starts { IfOk result (λ s. s ≡ starting (G.map base.now) n lives.now s.declared) }
+        ensures declared { IfOk result (λ s. IsFootprint read_only.now read_write.now s.declared) }
+    {
+        let declared = declared_keys(alloc, read_only, read_write)?;
+        Ok(Storage {
+            layer: Layer::new(alloc, base),
+            declared,
+            n,
+            lives: *lives,
+            alloc,
+        })
+    }
+
+    /// Whether the footprint allows an access. It takes no memory.
+    pub(crate) fn allows(&self, access: Access, key: &LedgerKey) -> bool
+        ensures { result ≡ allows_in self.now.declared access key.now }
+    {
+        allows(&self.declared, access, key)
+    }
+
+    /// Returns what an access finds at a key. It takes no memory.
+    pub(crate) fn sight(&self, key: &LedgerKey) -> Sight<'_>
+        requires { key_format.fits key.now }
+        ensures seen { sight_seen result ≡ seen self.now.n self.now.map key.now }
+        ensures kept { IsSeenAt (key_bytes key.now) (sight_seen result) }
+    {
+        sight_of(self.n, self.layer.find(key))
+    }
+
+    /// Returns the live-until ledger of an entry that is put, or `None` if the key is archived.
+    pub(crate) fn life_of_put(&self, key: &LedgerKey, entry: &LedgerEntry) -> Option<u32>
+        requires { key_format.fits key.now }
+        ensures { result ≡ life_of_put (seen self.now.n self.now.map key.now) self.now.lives self.now.n entry.now }
+    {
+        match self.sight(key) {
+            Sight::Live(found) => Some(found.live_until),
+            Sight::Absent => Some(first_life(&self.lives, self.n, entry)),
+            Sight::Archived => None,
+        }
+    }
+
+    /// Returns the live-until ledger that an extension asks for, or `None` if it is too far for a temporary entry.
+    pub(crate) fn life_asked(&self, entry: &LedgerEntry, extend_to: u32) -> Option<u32>
+        ensures { result ≡ asked_life self.now.lives self.now.n entry.now extend_to }
+    {
+        let furthest = furthest(&self.lives, self.n);
+        let asked = u64::from(self.n) + u64::from(extend_to);
+        if asked <= u64::from(furthest) {
+            Some(asked as u32)
+        } else if is_temporary(&entry.data) {
+            None
+        } else {
+            Some(furthest)
+        }
+    }
+
+    /// Whether an extension to the ledger `life` lengthens a life.
+    pub(crate) fn is_longer(&self, live_until: u32, threshold: u32, life: u32) -> bool
+        ensures { result ≡ (nat_lt live_until life && nat_le (live_until - self.now.n) threshold) }
+    {
+        live_until < life && live_until.saturating_sub(self.n) <= threshold
+    }
+
+    /// Writes an entry at its key, with the ledger that is made as its last modified ledger.
+    pub(crate) fn write(
+        &mut self,
+        key: &LedgerKey,
+        entry: LedgerEntry,
+        live_until: u32,
+    ) -> Result<(), StoErr>
+        requires key { key.now ≡ key_of_entry entry }
+        requires fits { entry_format.fits entry }
+        requires hashed { HasCodeHash entry.data }
+        ensures ok { OnOk result (self.new ≡ with_map self.old (set_at self.old.map (key_bytes key.now) (Some (record { entry = written_in self.old.n entry; live_until = live_until })))) }
+        ensures err { IfErr result (λ e. e ≡ StoErr.NoMemory) }
+        ensures stays { OnErr result (self.new ≡ self.old) }
+    {
+        let kept = written(self.n, entry, live_until);
+        self.settle(key, Some(kept))
+    }
+
+    /// Writes an entry at a key, or removes the entry there.
+    pub(crate) fn settle(&mut self, key: &LedgerKey, now: Option<Kept>) -> Result<(), StoErr>
+        requires fits { key_format.fits key.now }
+        requires kept { IfSome now (IsKeptAt (key_bytes key.now)) }
+        ensures ok { OnOk result (self.new ≡ with_map self.old (set_at self.old.map (key_bytes key.now) now)) }
+        ensures err { IfErr result (λ e. e ≡ StoErr.NoMemory) }
+        ensures stays { OnErr result (self.new ≡ self.old) }
+    {
+        let Ok(now) = boxed(self.alloc, now) else {
+            return Err(StoErr::NoMemory);
+        };
+        match self.layer.write(key, now) {
+            Ok(()) => Ok(()),
+            Err(_) => Err(StoErr::NoMemory),
+        }
+    }
+
+    /// Takes a snapshot, in O(1). `restore` goes back to it.
+    pub fn snapshot(&self) -> Point
+        ensures { result.writes ≡ length self.now.past }
+    {
+        Point {
+            writes: self.layer.mark(),
+        }
+    }
+
+    /// Undoes all writes since a snapshot, in O(log n) each. It takes no memory.
+    pub fn restore(&mut self, to: Point)
+        requires { to.writes ≤ length self.old.past }
+        ensures { IsRestored to.writes self.old self.new }
+    {
+        self.layer.back(to.writes);
+    }
+
+    /// Returns the changes from the ground's map to the present one: the keys at which they differ, sorted by their XDR bytes.
+    pub fn changes(&self) -> Result<Vec<Change>, NoMemory>
+        ensures { IfOk result (λ changes. AreDifferences self.now.base self.now.map changes.items) }
+    {
+        self.layer.changes(self.alloc)
+    }
+}

@@ -1,0 +1,76 @@
+//! The parts of an outcome.
+
+ghost use Rattle.value_types.specs.Views.{datum};
+ghost use Rattle.host_spec.specs.Hosted.{IsHosted};
+ghost use Rattle.object_store.specs.Shown.{AreIndices};
+
+use crate::errors::made;
+use case_text::CaseErr;
+use host_frame::size_of;
+use host_spec::ValueErr;
+use object_store::{Objects, Shown};
+use std::alloc::Global;
+use std::fmt::Write;
+use value_types::ScVal;
+use value_xdr::value_to_bytes;
+
+/// Appends the objects that the frame has shown after so many.
+pub fn push_shown(
+    alloc: Global,
+    line: &mut String,
+    objects: &Objects,
+    shown: &Shown,
+    before: usize,
+) -> Result<(), CaseErr>
+    requires { AreIndices objects.now shown.now }
+{
+    for handle in before..1_000_000 {
+        match objects.shown(shown, handle) {
+            None => return Ok(()),
+            Some(value) => {
+                line.push_str(if handle == before { " shows " } else { " " })?;
+                push_value(alloc, line, value)?;
+            }
+        }
+    }
+    Ok(())
+}
+
+/// Appends a value's XDR, or the number of its bytes if there are more than 1000.
+#[tactic(auto, using(byte_calls::proofs::Fitting::hosted_fits))]
+fn push_value(alloc: Global, line: &mut String, value: &ScVal) -> Result<(), CaseErr>
+    requires { IsHosted (datum value.now) }
+{
+    let size = size_of(value);
+    if size > 1000 {
+        write!(line, "[{size} bytes]")?;
+    } else {
+        let bytes = made(value_to_bytes(alloc, value))?;
+        line.push_str(hex::encode(alloc, &bytes)?.as_str())?;
+    }
+    Ok(())
+}
+
+/// Appends the linear memory if it is not what it was before.
+pub fn push_memory(
+    alloc: Global,
+    line: &mut String,
+    before: &[u8],
+    memory: &[u8],
+) -> Result<(), CaseErr> {
+    if memory != before {
+        line.push_str(" memory ")?;
+        line.push_str(hex::encode(alloc, memory)?.as_str())?;
+    }
+    Ok(())
+}
+
+/// Appends how a function ended that returned no word.
+pub fn push_error(line: &mut String, error: ValueErr) -> Result<(), CaseErr> {
+    match error {
+        ValueErr::Failed(error) => write!(line, "fails {error:?}")?,
+        ValueErr::Spent => line.push_str("spent")?,
+        ValueErr::NoMemory => return Err(CaseErr::NoMemory),
+    }
+    Ok(())
+}

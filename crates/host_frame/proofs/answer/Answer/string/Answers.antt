@@ -1,0 +1,6 @@
+use Rattle.host_frame.proofs.Making.{string_made}
+use Rattle.host_frame.proofs.answer.Answer.string.Goals as goal
+
+pub returns-clause-made : goal.returns-clause-made
+returns-clause-made c =
+    rw (c.from_vec.ensures, ← c.deref.ensures.value) (string_made c.deref.result.now c.hold_bytes.ensures (rw c.deref.ensures.value c.requires))

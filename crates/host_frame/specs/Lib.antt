@@ -1,0 +1,4 @@
+pub mod Resolved
+pub mod Held
+pub mod Answered
+pub mod Made
