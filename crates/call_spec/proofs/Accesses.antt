@@ -1,25 +1,29 @@
 -- Accesses that are judged, over one map, beside the same accesses that are not, over another map.
 use Rattle.std.proofs.Common.{◌≡◌, ℕ, ◌+◌, List, [], ◌∷◌, Option, Some, None, Bool, true, false, cond, refl, sym, ap, ◌∙◌, subst}
-use Rattle.std.specs.Prelude.{if◌then◌else◌, ◌&&◌, nat_le}
+use Rattle.std.specs.Prelude.{if◌then◌else◌, ◌&&◌, ◌≤◌, nat_le}
 use Rattle.std.specs.Option.{option_or}
 use Rattle.std.specs.Str.{bytes_eq}
 use Rattle.std.specs.FinMap.{get}
+use Rattle.std.proofs.lemmas.Bool.{leb-true}
 use Rattle.std.proofs.lemmas.Slice.Eq.{bytes_eq-Decides}
+use Rattle.ledger_types.specs.Entry.{key_of}
+use Rattle.ledger_types.specs.declared.entry.LedgerEntry.{LedgerEntry}
 use Rattle.ledger_types.specs.declared.key.LedgerKey.{LedgerKey}
 use Rattle.ledger_types.specs.declared.header.Header.{Header}
 use Rattle.ledger_spec.specs.declared.Kept.{Kept}
-use Rattle.ledger_spec.specs.LedgerMap.{LedgerMap, key_bytes}
+use Rattle.ledger_spec.specs.LedgerMap.{LedgerMap, key_bytes, HasCodeHash}
 use Rattle.ledger_spec.specs.Seen.{Seen, live, absent, archived, seen, seen_of, is_temporary}
+use Rattle.ledger_spec.specs.Changes.{asked_life, longer as longer_by}
 use Rattle.stage_runs.specs.Maps.{set_at}
 use Rattle.stage_runs.proofs.Points.{left_false, found_set}
 use Rattle.call_spec.specs.World.{AccessKind, Read, Extend, Write, Judge, Access, World, Env}
 use Rattle.host_spec.specs.Acts as values
 use Rattle.call_spec.specs.Acts.{Act, world_of, then_do, with_state, state_of, lifted, lift}
-use Rattle.call_spec.specs.Accesses.{Effect, answers, leaves, refuses, costs, effected, access_of, noted, by_seen, judged, access}
-use Rattle.call_spec.specs.Footprints.{allows}
+use Rattle.call_spec.specs.Accesses.{put_kept, Effect, answers, leaves, refuses, costs, effected, access_of, noted, by_seen, judged, access}
+use Rattle.call_spec.specs.Footprints.{allows, first_rejected}
 use Rattle.call_spec.specs.WholeRuns.{all_allowed}
 use Rattle.call_spec.specs.Laws.{Maps, is_write, writes_in, IsExtended}
-use Rattle.call_spec.proofs.Acts.{Continues, continues_refl, continues_trans, Sound, Clean, Same, Local, not_before, extended_refl, stays, then_grows, lift_local}
+use Rattle.call_spec.proofs.Acts.{Continues, continues_refl, continues_trans, Sound, Clean, Same, Watch, Fine, Leaves, Local, then_fine, not_before, extended_refl, stays, then_grows, lift_local}
 
 -- ---- the two runs' surroundings
 
@@ -57,11 +61,65 @@ Gentle (Some kept) (leaves now a) = IsExtended (Some kept) now
 Gentle found (refuses e) = Unit {0}
 Gentle found (costs kind input effect) = Gentle found effect
 
--- only a write may have another effect
+-- the effect leaves the entry as it is
+abbrev pub Still : {A : Type 0} → Effect A → Type 0
+Still (answers a) = Unit {0}
+Still (leaves now a) = ⊥
+Still (refuses e) = Unit {0}
+Still (costs kind input effect) = Still effect
+
+still_gentle : {A : Type 0} (found : Option Kept) (effect : Effect A) → Still effect → Gentle found effect
+still_gentle found (answers a) h = tt
+still_gentle found (leaves now a) h = absurd h
+still_gentle found (refuses e) h = tt
+still_gentle found (costs kind input effect) h = still_gentle found effect h
+
+-- a read leaves the entry, an extension leaves all but its life
 abbrev pub GentleUnless : {A : Type 0} → AccessKind → (Option Kept → Effect A) → Type 0
 GentleUnless Write effect = Unit {0}
-GentleUnless Read effect = (found : Option Kept) → Gentle found (effect found)
+GentleUnless Read effect = (found : Option Kept) → Still (effect found)
 GentleUnless Extend effect = (found : Option Kept) → Gentle found (effect found)
+
+-- ---- what is watched
+
+-- the live entry that an access finds is one of those that are watched
+abbrev pub IsFineAt : Watch → LedgerKey → Option Kept → Type 0
+IsFineAt P key None = Unit {0}
+IsFineAt P key (Some kept) = P.is (key_bytes key) kept × (P.number ≤ kept.live_until)
+
+-- the effect leaves an entry as it has to be
+abbrev pub Puts : {A : Type 0} → Watch → LedgerKey → Effect A → Type 0
+Puts P key (answers a) = Unit {0}
+Puts P key (leaves None a) = Unit {0}
+Puts P key (leaves (Some kept) a) = P.is (key_bytes key) kept
+Puts P key (refuses e) = Unit {0}
+Puts P key (costs kind input effect) = Puts P key effect
+
+-- a read leaves no entry
+abbrev pub PutsFound : {A : Type 0} → Watch → LedgerKey → AccessKind → (Option Kept → Effect A) → Type 0
+PutsFound P key Read effect = Unit {0}
+PutsFound P key Extend effect = (found : Option Kept) → IsFineAt P key found → Puts P key (effect found)
+PutsFound P key Write effect = (found : Option Kept) → IsFineAt P key found → Puts P key (effect found)
+
+-- what is watched holds of entries that are extended and of those that are put
+pub record Fair (header : Header) (P : Watch) : Type 0 where
+  pub numbered : P.number ≡ header.seq + 1
+  pub longer : (q : List ℕ) (kept : Kept) (threshold extend_to life : ℕ) → asked_life header.settings (header.seq + 1) kept.entry extend_to ≡ Some life
+      → P.is q kept → P.is q (longer_by (header.seq + 1) kept threshold life)
+  pub put : (entry : LedgerEntry) (found : Option Kept) → HasCodeHash entry.data → IsFineAt P (key_of entry) found
+      → P.is (key_bytes (key_of entry)) (put_kept header.settings (header.seq + 1) entry found)
+
+still_puts : {A : Type 0} (P : Watch) (key : LedgerKey) (effect : Effect A) → Still effect → Puts P key effect
+still_puts P key (answers a) h = tt
+still_puts P key (leaves now a) h = absurd h
+still_puts P key (refuses e) h = tt
+still_puts P key (costs kind input effect) h = still_puts P key effect h
+
+kind_puts : {A : Type 0} (P : Watch) (key : LedgerKey) (kind : AccessKind) (effect : Option Kept → Effect A) → GentleUnless kind effect → PutsFound P key kind effect
+    → (found : Option Kept) → IsFineAt P key found → Puts P key (effect found)
+kind_puts P key Read effect g k found f = still_puts P key (effect found) (g found)
+kind_puts P key Extend effect g k found f = k found f
+kind_puts P key Write effect g k found f = k found f
 
 -- what holds of the entries after an act without accesses that is charged
 paid_then : {A : Type 0} (R : Option Kept → Type 0) (w : World) (s : values.Out (Unit {0})) (next : Act A) (q : List ℕ)
@@ -104,6 +162,35 @@ effected_gentle key q found (costs kind input effect) g w is =
     (λ u e. subst (λ p. IsExtended (get p q) (get (world_of (effected key effect u)).entries q)) e (effected_gentle key q found effect g u (subst (λ p. IsFoundAt found p key) (sym e) is)))
     (extended_refl (get w.entries q))
 
+pub newest_allowed : (may : Judge) (a : Access) (older : List Access) → option_or (first_rejected may older) (if allows may a then None else Some a) ≡ None → allows may a ≡ true
+newest_allowed may a older e = at (first_rejected may older) (allows may a) e
+  where
+    at : (x : Option Access) (b : Bool) → option_or x (if b then None else Some a) ≡ None → b ≡ true
+    at x true h = refl
+    at None false h = absurd cc
+    at (Some y) false h = absurd cc
+
+some_same : {A : Type 0} (a b : A) → ◌≡◌ {A = Option A} (Some a) (Some b) → a ≡ b
+some_same a b e = cc
+
+none_is : {A : Type 0} (a : A) → ◌≡◌ {A = Option A} None (Some a) → ⊥
+none_is a e = cc
+
+absent_is : absent ≡ archived → ⊥
+absent_is e = cc
+
+live_same : (a b : Kept) → live a ≡ live b → a ≡ b
+live_same a b e = cc
+
+live_until_later : (number : ℕ) (o : Option Kept) (kept : Kept) → seen_of number o ≡ live kept → number ≤ kept.live_until
+live_until_later number None kept e = absurd cc
+live_until_later number (Some k) kept e = at (nat_le number k.live_until) (is_temporary k.entry.data) refl e
+  where
+    at : (b c : Bool) → nat_le number k.live_until ≡ b → (if b then live k else if c then absent else archived) ≡ live kept → number ≤ kept.live_until
+    at true c is e = subst (λ x. number ≤ x.live_until) (live_same k kept e) (leb-true number k.live_until is)
+    at false true is e = absurd cc
+    at false false is e = absurd cc
+
 live_found : (number : ℕ) (o : Option Kept) (kept : Kept) → seen_of number o ≡ live kept → o ≡ Some kept
 live_found number None kept e = absurd cc
 live_found number (Some k) kept e = at (nat_le number k.live_until) (is_temporary k.entry.data) e
@@ -127,12 +214,12 @@ seen_gentle key effect q g number archived w e = extended_refl (get w.entries q)
 by_kind : {A : Type 0} (kind : AccessKind) (key : LedgerKey) (effect : Option Kept → Effect A) → GentleUnless kind effect → (number : ℕ) (w : World) (q : List ℕ) → (is_write kind && bytes_eq q (key_bytes key)) ≡ false
     → IsExtended (get w.entries q) (get (world_of (judged true number kind key effect w)).entries q)
 by_kind Write key effect g number w q apart = seen_other key effect q apart (seen number w.entries key) (noted Write key w)
-by_kind Read key effect g number w q apart = seen_gentle key effect q g number (seen number w.entries key) (noted Read key w) refl
+by_kind Read key effect g number w q apart = seen_gentle key effect q (λ found. still_gentle found (effect found) (g found)) number (seen number w.entries key) (noted Read key w) refl
 by_kind Extend key effect g number w q apart = seen_gentle key effect q g number (seen number w.entries key) (noted Extend key w) refl
 
 -- ---- effects
 
-module _ (may : Judge) (m n : LedgerMap) where
+module _ (may : Judge) (m n : LedgerMap) (P : Watch) where
   paid_same : {A : Type 0} (w : World) (q : LedgerMap) (s : values.Out (Unit {0})) (next : Act A) → Maps may m n w.entries q → Clean may w.trace
       → ((u : World) → u.trace ≡ w.trace → Maps may m n u.entries q → Same may m n (next u) (next (record u { entries = q })))
       → Same may m n (then_do (lifted w s) (λ _. next)) (then_do (lifted (record w { entries = q }) s) (λ _. next))
@@ -160,8 +247,8 @@ module _ (may : Judge) (m n : LedgerMap) where
   effected_grows key (leaves now a) w = continues_refl w.trace
   effected_grows key (refuses e) w = continues_refl w.trace
   effected_grows key (costs kind input effect) w =
-      continues_trans _ _ _ ((lift_local may m n (values.charged kind input)).grows w)
-      (then_grows may m n (lift (values.charged kind input) w) (λ _. effected key effect) (λ _ u. effected_grows key effect u))
+      continues_trans _ _ _ ((lift_local may m n P (values.charged kind input)).grows w)
+      (then_grows may m n P (lift (values.charged kind input) w) (λ _. effected key effect) (λ _ u. effected_grows key effect u))
 
   by_seen_grows : {A : Type 0} (key : LedgerKey) (effect : Option Kept → Effect A) (s : Seen) (w : World) → Continues w.trace (world_of (by_seen key effect s w)).trace
   by_seen_grows key effect (live kept) w = effected_grows key (effect (Some kept)) w
@@ -170,6 +257,39 @@ module _ (may : Judge) (m n : LedgerMap) where
 
   clean_more : (t : List Access) (a : Access) → Clean may t → allows may a ≡ true → Clean may (a ∷ t)
   clean_more t a clean e = ap (λ x. option_or x (if allows may a then None else Some a)) clean ∙ ap (λ (b : Bool). if b then None else Some a) e
+
+  -- ---- what is watched
+
+  fine_set : (key : LedgerKey) (now : Option Kept) (map : LedgerMap) → Fine P map → ((kept : Kept) → now ≡ Some kept → P.is (key_bytes key) kept) → Fine P (set_at map key now)
+  fine_set key now map f h q kept e = at (bytes_eq q (key_bytes key)) refl (sym (found_set map key now q) ∙ e)
+    where
+      at : (b : Bool) → bytes_eq q (key_bytes key) ≡ b → cond b now (get map q) ≡ Some kept → P.is q kept
+      at true is found = subst (λ x. P.is x kept) (sym ((bytes_eq-Decides q (key_bytes key)).0 is)) (h kept found)
+      at false is found = f q kept found
+
+  put_alone : (key : LedgerKey) (new kept : Kept) → P.is (key_bytes key) new → ◌≡◌ {A = Option Kept} (Some new) (Some kept) → P.is (key_bytes key) kept
+  put_alone key new kept h e = subst (λ x. P.is (key_bytes key) x) (some_same new kept e) h
+
+  effected_fine : {A : Type 0} (key : LedgerKey) (effect : Effect A) → Puts P key effect → (w : World) → Fine P w.entries → Leaves may P (effected key effect w)
+  effected_fine key (answers a) h w f = (f, tt)
+  effected_fine key (leaves None a) h w f = (fine_set key None w.entries f (λ kept e. absurd (none_is kept e)), tt)
+  effected_fine key (leaves (Some new) a) h w f = (fine_set key (Some new) w.entries f (λ kept e. put_alone key new kept h e), tt)
+  effected_fine key (refuses e) h w f = (f, tt)
+  effected_fine key (costs kind input effect) h w f =
+      then_fine may m n P (lift (values.charged kind input) w) (λ _. effected key effect) (λ _ u g. effected_fine key effect h u g) ((lift_local may m n P (values.charged kind input)).fine w f)
+
+  seen_fine : {A : Type 0} (header : Header) → Fair header P → (kind : AccessKind) (key : LedgerKey) (effect : Option Kept → Effect A) → Sound may → ((found : Option Kept) → IsFineAt P key found → Puts P key (effect found))
+      → (w : World) → Fine P w.entries → (o : Option Kept) → get w.entries (key_bytes key) ≡ o → (s : Seen) → seen_of (header.seq + 1) o ≡ s → Leaves may P (by_seen key effect s (noted kind key w))
+  seen_fine header fair kind key effect sound k w f o is (live kept) e =
+      let found : get w.entries (key_bytes key) ≡ Some kept = is ∙ live_found (header.seq + 1) o kept e in
+      effected_fine key (effect (Some kept)) (k (Some kept) (f (key_bytes key) kept found, subst (λ x. x ≤ kept.live_until) (sym fair.numbered) (live_until_later (header.seq + 1) o kept e))) (noted kind key w) f
+  seen_fine header fair kind key effect sound k w f o is absent e = effected_fine key (effect None) (k None tt) (noted kind key w) f
+  seen_fine header fair kind key effect sound k w f None is archived e = absurd (absent_is e)
+  seen_fine header fair kind key effect sound k w f (Some kept) is archived e = (
+    f,
+    λ clean.
+        (kept, f (key_bytes key) kept is, sound kind (key_bytes key) (newest_allowed may (access_of kind key w) w.trace clean), subst (λ x. seen_of x (Some kept) ≡ archived) (sym fair.numbered) e),
+  )
 
   -- ---- accesses
 
@@ -195,10 +315,11 @@ module _ (may : Judge) (m n : LedgerMap) where
       not_before (access_of kind key w ∷ w.trace) (world_of (judged true number kind key effect w)).trace q (noted_grows kind key effect (seen number w.entries key) w) none in
       by_kind kind key effect g number w q (left_false (is_write kind && bytes_eq q (key_bytes key)) (writes_in w.trace q) before)
 
-  pub access_local : {A : Type 0} → Sound may → (header : Header) (kind : AccessKind) (key : LedgerKey) (effect : Option Kept → Effect A) → GentleUnless kind effect
-      → Local may m n (access (free header) kind key effect) (access (held may header) kind key effect)
-  access_local sound header kind key effect g = record {
+  pub access_local : {A : Type 0} → Sound may → (header : Header) → Fair header P → (kind : AccessKind) (key : LedgerKey) (effect : Option Kept → Effect A) → GentleUnless kind effect → PutsFound P key kind effect
+      → Local may m n P (access (free header) kind key effect) (access (held may header) kind key effect)
+  access_local sound header fair kind key effect g k = record {
     same = λ w q maps clean. access_same sound (header.seq + 1) kind key effect w q maps clean (may kind (key_bytes key)) refl;
     grows = λ w. continues_trans _ _ _ (access_of kind key w ∷ [], refl) (noted_grows kind key effect (seen (header.seq + 1) w.entries key) w);
     quiet = λ w q none. access_quiet kind key effect g (header.seq + 1) w q none;
+    fine = λ w f. seen_fine header fair kind key effect sound (kind_puts P key kind effect g k) w f (get w.entries (key_bytes key)) refl (seen (header.seq + 1) w.entries key) refl;
   }

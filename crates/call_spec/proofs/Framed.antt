@@ -141,43 +141,43 @@ written_same may n p q u v agree maps =
 -- ---- the outcome
 
 module _ (may : Judge) (n : ℕ) (resources : SorobanData) (one other : LedgerMap) (agree : Agree may one other) where
-  nothing_same : (result : InvokeResult) (a b : Used) → a ≡ b → AlikeInvoked may (unsuccessful result one a) (unsuccessful result other b)
-  nothing_same result a b e = record { result = refl; success = refl; agree = agree; used = e }
+  nothing_same : (result : InvokeResult) (a b : Used) → a ≡ b → AlikeInvoked may one other (unsuccessful result one a) (unsuccessful result other b)
+  nothing_same result a b e = record { result = refl; success = refl; maps = record { agree = agree; left = λ k hidden. refl; right = λ k hidden. refl }; used = e }
 
   used_same : (w v : World) → AlikeWorlds may one other w v → w.meter.used ≡ v.meter.used
   used_same w v h = sym (ap (λ (x : World). x.meter.used) h.rest)
 
-  success_same : (d : Datum) (w v : World) → AlikeWorlds may one other w v → AlikeInvoked may (successful (record { return_value = scval d; events = w.events }) w) (successful (record { return_value = scval d; events = v.events }) v)
+  success_same : (d : Datum) (w v : World) → AlikeWorlds may one other w v → AlikeInvoked may one other (successful (record { return_value = scval d; events = w.events }) w) (successful (record { return_value = scval d; events = v.events }) v)
   success_same d w v h =
       let events : w.events ≡ v.events = sym (ap (λ (x : World). x.events) h.rest) in
       record {
         result = ap (λ (es : List ContractEvent). Success (hash_of (sha256 (success_format.spell (record { return_value = scval d; events = es }))))) events;
         success = ap (λ (es : List ContractEvent). Some (let s : SuccessPreimage = record { return_value = scval d; events = es } in s)) events;
-        agree = h.maps.agree;
+        maps = h.maps;
         used = used_same w v h;
       }
 
-  writes_same : (d : Datum) (w v : World) → AlikeWorlds may one other w v → AlikeInvoked may (by_writes n resources one d w) (by_writes n resources other d v)
+  writes_same : (d : Datum) (w v : World) → AlikeWorlds may one other w v → AlikeInvoked may one other (by_writes n resources one d w) (by_writes n resources other d v)
   writes_same d w v h =
-      subst (λ x. AlikeInvoked may (at (nat_lt resources.write_bytes (written_bytes n one w.entries)) one w) (at (nat_lt resources.write_bytes x) other v))
+      subst (λ x. AlikeInvoked may one other (at (nat_lt resources.write_bytes (written_bytes n one w.entries)) one w) (at (nat_lt resources.write_bytes x) other v))
       (written_same may n one other w.entries v.entries agree h.maps)
       (by_test (nat_lt resources.write_bytes (written_bytes n one w.entries)))
     where
       at : Bool → LedgerMap → World → Invoked
       at b m x = if b then unsuccessful ResourceLimitExceeded m x.meter.used else successful (record { return_value = scval d; events = x.events }) x
 
-      by_test : (b : Bool) → AlikeInvoked may (at b one w) (at b other v)
+      by_test : (b : Bool) → AlikeInvoked may one other (at b one w) (at b other v)
       by_test true = nothing_same ResourceLimitExceeded w.meter.used v.meter.used (used_same w v h)
       by_test false = success_same d w v h
 
-  bad_same : (d : Failure) (w v : World) → AlikeWorlds may one other w v → AlikeInvoked may (by_end n resources one (Bad d w)) (by_end n resources other (Bad d v))
+  bad_same : (d : Failure) (w v : World) → AlikeWorlds may one other w v → AlikeInvoked may one other (by_end n resources one (Bad d w)) (by_end n resources other (Bad d v))
   bad_same (Failed e) w v h = nothing_same Trapped w.meter.used v.meter.used (used_same w v h)
   bad_same Spent w v h = nothing_same ResourceLimitExceeded w.meter.used v.meter.used (used_same w v h)
   bad_same (Archived key) w v h = nothing_same Trapped w.meter.used v.meter.used (used_same w v h)
 
-  end_same : (o p : Out Datum) → AlikeEnds may one other o p → AlikeInvoked may (by_end n resources one o) (by_end n resources other p)
-  end_same (Good a w) (Good b v) h = subst (λ x. AlikeInvoked may (by_writes n resources one a w) (by_writes n resources other x v)) h.0 (writes_same a w v h.1)
-  end_same (Bad d w) (Bad e v) h = subst (λ x. AlikeInvoked may (by_end n resources one (Bad d w)) (by_end n resources other (Bad x v))) h.0 (bad_same d w v h.1)
+  end_same : (o p : Out Datum) → AlikeEnds may one other o p → AlikeInvoked may one other (by_end n resources one o) (by_end n resources other p)
+  end_same (Good a w) (Good b v) h = subst (λ x. AlikeInvoked may one other (by_writes n resources one a w) (by_writes n resources other x v)) h.0 (writes_same a w v h.1)
+  end_same (Bad d w) (Bad e v) h = subst (λ x. AlikeInvoked may one other (by_end n resources one (Bad d w)) (by_end n resources other (Bad x v))) h.0 (bad_same d w v h.1)
   end_same (Good a w) (Bad e v) h = absurd h
   end_same (Good a w) (Undeclared c v) h = absurd h
   end_same (Bad d w) (Good b v) h = absurd h
@@ -185,7 +185,7 @@ module _ (may : Judge) (n : ℕ) (resources : SorobanData) (one other : LedgerMa
   end_same (Undeclared c w) p h = absurd h
 
   -- the first rejected accesses of two runs are the same, since the traces are up to there
-  trace_same : (x y : Option Access) (o p : Out Datum) → x ≡ y → (x ≡ None → AlikeEnds may one other o p) → AlikeInvoked may (by_trace n resources one x o) (by_trace n resources other y p)
+  trace_same : (x y : Option Access) (o p : Out Datum) → x ≡ y → (x ≡ None → AlikeEnds may one other o p) → AlikeInvoked may one other (by_trace n resources one x o) (by_trace n resources other y p)
   trace_same (Some a) (Some b) o p e h = nothing_same Trapped a.used b.used (ap (λ (z : Option Access). used_in z) e)
     where
       used_in : Option Access → Used
@@ -195,15 +195,15 @@ module _ (may : Judge) (n : ℕ) (resources : SorobanData) (one other : LedgerMa
   trace_same None (Some b) o p e h = absurd cc
   trace_same None None o p e h = end_same o p (h refl)
 
-  run_same : (o p : Out Datum) → by_footprint resources.footprint ≡ may → AlikeRuns may one other o p → AlikeInvoked may (by_run n resources one o) (by_run n resources other p)
+  run_same : (o p : Out Datum) → by_footprint resources.footprint ≡ may → AlikeRuns may one other o p → AlikeInvoked may one other (by_run n resources one o) (by_run n resources other p)
   run_same o p is h =
       trace_same (first_rejected (by_footprint resources.footprint) (world_of o).trace) (first_rejected (by_footprint resources.footprint) (world_of p).trace) o p
       (ap (λ j. first_rejected j (world_of o).trace) is ∙ sym (first_up_to may (world_of o).trace) ∙ ap (first_rejected may) h.traces ∙ first_up_to may (world_of p).trace ∙ sym (ap (λ j. first_rejected j (world_of p).trace) is))
       (λ e. h.ends (sym (ap (λ j. first_rejected j (world_of o).trace) is) ∙ e))
 
   -- the tests before the run decide alike
-  tests_same : (archived there : Bool) (o p : Out Datum) → AlikeInvoked may (by_run n resources one o) (by_run n resources other p)
-      → AlikeInvoked may
+  tests_same : (archived there : Bool) (o p : Out Datum) → AlikeInvoked may one other (by_run n resources one o) (by_run n resources other p)
+      → AlikeInvoked may one other
       (if archived then unsuccessful EntryArchived one nothing_used else if there then unsuccessful ResourceLimitExceeded one nothing_used else by_run n resources one o)
       (if archived then unsuccessful EntryArchived other nothing_used else if there then unsuccessful ResourceLimitExceeded other nothing_used else by_run n resources other p)
   tests_same true there o p h = nothing_same EntryArchived nothing_used nothing_used refl
@@ -211,7 +211,7 @@ module _ (may : Judge) (n : ℕ) (resources : SorobanData) (one other : LedgerMa
   tests_same false false o p h = h
 
 work_same : (header : Header) (resources : SorobanData) (one other : LedgerMap) (work : Option Work) → Agree (by_footprint resources.footprint) one other
-    → AlikeInvoked (by_footprint resources.footprint) (by_work header resources one work) (by_work header resources other work)
+    → AlikeInvoked (by_footprint resources.footprint) one other (by_work header resources one work) (by_work header resources other work)
 work_same header resources one other None agree = nothing_same (by_footprint resources.footprint) (next_seq header) resources one other agree Malformed nothing_used nothing_used refl
 work_same header resources one other (Some work) agree =
     let n : ℕ = next_seq header in
@@ -220,9 +220,9 @@ work_same header resources one other (Some work) agree =
     let p : Out Datum = whole header resources.instructions work other in
     let same = declared_same one other resources.footprint agree in
     let after : Bool → ℕ → LedgerMap → Out Datum → Invoked = λ b r m x. if b then unsuccessful EntryArchived m nothing_used else if nat_lt resources.disk_read_bytes r then unsuccessful ResourceLimitExceeded m nothing_used else by_run n resources m x in
-    subst (λ b. AlikeInvoked may (after (declares_archived n one resources.footprint) (read_bytes n one resources.footprint) one o) (after b (read_bytes n other resources.footprint) other p))
+    subst (λ b. AlikeInvoked may one other (after (declares_archived n one resources.footprint) (read_bytes n one resources.footprint) one o) (after b (read_bytes n other resources.footprint) other p))
     (same_archived n one other (declared resources.footprint) same)
-    (subst (λ r. AlikeInvoked may (after (declares_archived n one resources.footprint) (read_bytes n one resources.footprint) one o) (after (declares_archived n one resources.footprint) r other p))
+    (subst (λ r. AlikeInvoked may one other (after (declares_archived n one resources.footprint) (read_bytes n one resources.footprint) one o) (after (declares_archived n one resources.footprint) r other p))
     (same_read n one other 0 (declared resources.footprint) same)
     (tests_same may n resources one other agree (declares_archived n one resources.footprint) (nat_lt resources.disk_read_bytes (read_bytes n one resources.footprint)) o p
     (run_same may n resources one other agree o p refl (local_law header resources.instructions work resources.footprint one other agree))))

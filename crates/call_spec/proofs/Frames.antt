@@ -22,8 +22,16 @@ use Rattle.call_spec.specs.Keys.{instance_key, instance_entry}
 use Rattle.call_spec.specs.Frames.{HostCalls, metered, asking, returned, runs, Entered, frame_of, paying_pages, runs_from, started, returned_value, writes_if, finished, with_frames, closed, in_frame, framed, Opener, with_opener}
 use Rattle.call_spec.specs.Calling.{undone, undoing, caught, catching}
 use Rattle.call_spec.specs.Laws.{Maps, writes_in, IsExtended}
-use Rattle.call_spec.proofs.Acts.{Continues, Sound, Alike, Stopped, Same, Local, extended_refl, Besides, good_local, bad_local, fails_local, after_local, with_local, frame_local, changed_local, lift_local, paying_local}
-use Rattle.call_spec.proofs.Accesses.{free, held, access_local}
+use Rattle.call_spec.proofs.Acts.{Continues, Sound, Alike, Stopped, Same, Watch, Fine, Leaves, Local, extended_refl, Besides, good_local, bad_local, fails_local, after_local, with_local, frame_local, changed_local, lift_local, paying_local}
+use Rattle.call_spec.proofs.Accesses.{free, held, Fair, access_local}
+
+-- ---- nothing is watched
+
+abbrev pub unwatched : Header → Watch
+unwatched header = record { number = header.seq + 1; is = λ q kept. Unit {0} }
+
+pub unwatched_fair : (header : Header) → Fair header (unwatched header)
+unwatched_fair header = record { numbered = refl; longer = λ q kept threshold extend_to life asked f. tt; put = λ entry found hash f. tt }
 
 -- ---- failures that leave the world as it was
 
@@ -42,7 +50,7 @@ undone_quiet w (Bad Spent u) key h none = h none
 undone_quiet w (Bad (Archived k) u) key h none = h none
 undone_quiet w (Undeclared a u) key h none = h none
 
-module _ (may : Judge) (m n : LedgerMap) where
+module _ (may : Judge) (m n : LedgerMap) (P : Watch) where
   undone_bad : (A : Type 0) (w : World) (q : LedgerMap) → Maps may m n w.entries q → (d : Failure) (u v : World) → Alike may m n u v → Same {A = A} may m n (undone w (Bad d u)) (undone (record w { entries = q }) (Bad d v))
   undone_bad A w q maps (Failed e) u v h = (refl, (ap (λ (x : World). record x { entries = q; events = w.events; pairs = w.pairs }) h.0, maps, h.2))
   undone_bad A w q maps Spent u v h = (refl, h)
@@ -58,11 +66,19 @@ module _ (may : Judge) (m n : LedgerMap) where
   undone_same w q maps (Undeclared c u) (Good b v) h = absurd h
   undone_same w q maps (Undeclared c u) (Bad e v) h = absurd h
 
-  pub undoing_local : {A : Type 0} (act act' : Act A) → Local may m n act act' → Local may m n (undoing act) (undoing act')
+  undone_fine : {A : Type 0} (w : World) → Fine P w.entries → (o : Out A) → Leaves may P o → Leaves may P (undone w o)
+  undone_fine w f (Good a u) h = h
+  undone_fine w f (Bad (Failed e) u) h = (f, tt)
+  undone_fine w f (Bad Spent u) h = h
+  undone_fine w f (Bad (Archived key) u) h = h
+  undone_fine w f (Undeclared a u) h = h
+
+  pub undoing_local : {A : Type 0} (act act' : Act A) → Local may m n P act act' → Local may m n P (undoing act) (undoing act')
   undoing_local act act' h = record {
     same = λ w q maps clean. undone_same w q maps (act w) (act' (record w { entries = q })) (h.same w q maps clean);
     grows = λ w. subst (λ t. Continues w.trace t) (sym (undone_trace w (act w))) (h.grows w);
     quiet = λ w key none. undone_quiet w (act w) key (h.quiet w key) none;
+    fine = λ w f. undone_fine w f (act w) (h.fine w f);
   }
 
 -- ---- caught calls
@@ -83,7 +99,7 @@ caught_quiet w (Bad Spent u) key h none = h none
 caught_quiet w (Bad (Archived k) u) key h none = h none
 caught_quiet w (Undeclared a u) key h none = h none
 
-module _ (may : Judge) (m n : LedgerMap) where
+module _ (may : Judge) (m n : LedgerMap) (P : Watch) where
   caught_bad : (w : World) (q : LedgerMap) → Maps may m n w.entries q → (d : Failure) (u v : World) → Alike may m n u v → Same may m n (caught w (Bad d u)) (caught (record w { entries = q }) (Bad d v))
   caught_bad w q maps (Failed e) u v h = (refl, (ap (λ (x : World). record x { entries = q; events = w.events; pairs = w.pairs }) h.0, maps, h.2))
   caught_bad w q maps Spent u v h = (refl, h)
@@ -99,11 +115,19 @@ module _ (may : Judge) (m n : LedgerMap) where
   caught_same w q maps (Undeclared c u) (Good b v) h = absurd h
   caught_same w q maps (Undeclared c u) (Bad e v) h = absurd h
 
-  pub catching_local : (act act' : Act Datum) → Local may m n act act' → Local may m n (catching act) (catching act')
+  caught_fine : (w : World) → Fine P w.entries → (o : Out Datum) → Leaves may P o → Leaves may P (caught w o)
+  caught_fine w f (Good a u) h = h
+  caught_fine w f (Bad (Failed e) u) h = (f, tt)
+  caught_fine w f (Bad Spent u) h = h
+  caught_fine w f (Bad (Archived key) u) h = h
+  caught_fine w f (Undeclared a u) h = h
+
+  pub catching_local : (act act' : Act Datum) → Local may m n P act act' → Local may m n P (catching act) (catching act')
   catching_local act act' h = record {
     same = λ w q maps clean. caught_same w q maps (act w) (act' (record w { entries = q })) (h.same w q maps clean);
     grows = λ w. subst (λ t. Continues w.trace t) (sym (caught_trace w (act w))) (h.grows w);
     quiet = λ w key none. caught_quiet w (act w) key (h.quiet w key) none;
+    fine = λ w f. caught_fine w f (act w) (h.fine w f);
   }
 
 -- ---- frames
@@ -119,7 +143,7 @@ closed_quiet f cs old (Good v u) key h none = h none
 closed_quiet f cs old (Bad e u) key h none = h none
 closed_quiet f cs old (Undeclared a u) key h none = h none
 
-module _ (may : Judge) (m n : LedgerMap) where
+module _ (may : Judge) (m n : LedgerMap) (P : Watch) where
   closed_same : {A : Type 0} (f : Frame) (cs : List Hash) (o c : Out A) → Same may m n o c → Same may m n (closed f cs o) (closed f cs c)
   closed_same f cs o (Undeclared a v) h = subst (λ t. Stopped may a v t) (sym (closed_trace f cs o)) h
   closed_same f cs (Good a u) (Good b v) h = (h.0, (ap (with_frames f cs) h.1.0, h.1.1, h.1.2))
@@ -129,13 +153,21 @@ module _ (may : Judge) (m n : LedgerMap) where
   closed_same f cs (Undeclared c u) (Good b v) h = absurd h
   closed_same f cs (Undeclared c u) (Bad e v) h = absurd h
 
-  pub in_frame_local : {A : Type 0} (e : Entered) (act act' : Act A) → Local may m n act act' → Local may m n (in_frame e act) (in_frame e act')
+  closed_fine : {A : Type 0} (f : Frame) (cs : List Hash) (o : Out A) → Leaves may P o → Leaves may P (closed f cs o)
+  closed_fine f cs (Good a u) h = h
+  closed_fine f cs (Bad (Failed e) u) h = h
+  closed_fine f cs (Bad Spent u) h = h
+  closed_fine f cs (Bad (Archived key) u) h = h
+  closed_fine f cs (Undeclared a u) h = h
+
+  pub in_frame_local : {A : Type 0} (e : Entered) (act act' : Act A) → Local may m n P act act' → Local may m n P (in_frame e act) (in_frame e act')
   in_frame_local e act act' h = record {
     same = λ w q maps clean. closed_same w.frame w.contracts (act (with_frames (frame_of e) (e.contract ∷ w.contracts) w)) (act' (with_frames (frame_of e) (e.contract ∷ w.contracts) (record w { entries = q })))
         (h.same (with_frames (frame_of e) (e.contract ∷ w.contracts) w) q maps clean);
     grows = λ w. subst (λ t. Continues w.trace t) (sym (closed_trace w.frame w.contracts (act (with_frames (frame_of e) (e.contract ∷ w.contracts) w))))
         (h.grows (with_frames (frame_of e) (e.contract ∷ w.contracts) w));
     quiet = λ w key none. closed_quiet w.frame w.contracts (get w.entries key) (act (with_frames (frame_of e) (e.contract ∷ w.contracts) w)) key (h.quiet (with_frames (frame_of e) (e.contract ∷ w.contracts) w) key) none;
+    fine = λ w f. closed_fine w.frame w.contracts (act (with_frames (frame_of e) (e.contract ∷ w.contracts) w)) (h.fine (with_frames (frame_of e) (e.contract ∷ w.contracts) w) f);
   }
 
 -- ---- runs of code
@@ -147,77 +179,78 @@ asking_besides : (memory : List ℕ) (meter : Meter) → Besides (asking memory 
 asking_besides memory meter = record { apart = λ w q. refl; map = λ w. refl; trace = λ w. refl }
 
 -- each function of the host is under the judge what it is under none
-abbrev pub HostsLocal : Judge → LedgerMap → LedgerMap → HostCalls → HostCalls → Type 0
-HostsLocal may m n host host' = (f : ℕ) (words : List ℕ) → Local may m n (host f words) (host' f words)
+abbrev pub HostsLocal : Judge → LedgerMap → LedgerMap → Watch → HostCalls → HostCalls → Type 0
+HostsLocal may m n P host host' = (f : ℕ) (words : List ℕ) → Local may m n P (host f words) (host' f words)
 
-module _ (may : Judge) (m n : LedgerMap) where
-  returned_local : (vs : List Value) → Local may m n (returned vs) (returned vs)
-  returned_local [] = fails_local may m n _
-  returned_local (I32 x ∷ vs) = fails_local may m n _
-  returned_local (I64 x ∷ []) = good_local may m n x
-  returned_local (I64 x ∷ v ∷ vs) = fails_local may m n _
+module _ (may : Judge) (m n : LedgerMap) (P : Watch) where
+  returned_local : (vs : List Value) → Local may m n P (returned vs) (returned vs)
+  returned_local [] = fails_local may m n P _
+  returned_local (I32 x ∷ vs) = fails_local may m n P _
+  returned_local (I64 x ∷ []) = good_local may m n P x
+  returned_local (I64 x ∷ v ∷ vs) = fails_local may m n P _
 
-  pub runs_local : (host host' : HostCalls) → HostsLocal may m n host host' → (run : Run) → Local may m n (runs host run) (runs host' run)
-  runs_local host host' h (Normal vs s) = changed_local may m n (metered s.meter) (returned vs) (returned vs) (metered_besides s.meter) (returned_local vs)
-  runs_local host host' h (Branch depth vs s) = fails_local may m n _
-  runs_local host host' h (Return vs s) = fails_local may m n _
-  runs_local host host' h (Trap kind meter) = changed_local may m n (metered meter) (fails _) (fails _) (metered_besides meter) (fails_local may m n _)
-  runs_local host host' h (SpentRun meter) = changed_local may m n (metered meter) (λ w. Bad Spent w) (λ w. Bad Spent w) (metered_besides meter) (bad_local may m n Spent)
-  runs_local host host' h Stuck = fails_local may m n _
+  pub runs_local : (host host' : HostCalls) → HostsLocal may m n P host host' → (run : Run) → Local may m n P (runs host run) (runs host' run)
+  runs_local host host' h (Normal vs s) = changed_local may m n P (metered s.meter) (returned vs) (returned vs) (metered_besides s.meter) (returned_local vs)
+  runs_local host host' h (Branch depth vs s) = fails_local may m n P _
+  runs_local host host' h (Return vs s) = fails_local may m n P _
+  runs_local host host' h (Trap kind meter) = changed_local may m n P (metered meter) (fails _) (fails _) (metered_besides meter) (fails_local may m n P _)
+  runs_local host host' h (SpentRun meter) = changed_local may m n P (metered meter) (λ w. Bad Spent w) (λ w. Bad Spent w) (metered_besides meter) (bad_local may m n P Spent (λ w. tt))
+  runs_local host host' h Stuck = fails_local may m n P _
   runs_local host host' h (Ask f words memory meter on) =
       let next : ℕ → Act ℕ = λ v u. runs host (on v u.frame.memory u.meter) u in
       let next' : ℕ → Act ℕ = λ v u. runs host' (on v u.frame.memory u.meter) u in
-      let goes : (v : ℕ) → Local may m n (next v) (next' v) = λ v. record {
+      let goes : (v : ℕ) → Local may m n P (next v) (next' v) = λ v. record {
         same = λ w q maps clean. (runs_local host host' h (on v w.frame.memory w.meter)).same w q maps clean;
         grows = λ w. (runs_local host host' h (on v w.frame.memory w.meter)).grows w;
         quiet = λ w key none. (runs_local host host' h (on v w.frame.memory w.meter)).quiet w key none;
+        fine = λ w f. (runs_local host host' h (on v w.frame.memory w.meter)).fine w f;
       } in
-      changed_local may m n (asking memory meter) (after (host f words) next) (after (host' f words) next') (asking_besides memory meter) (after_local may m n (host f words) (host' f words) next next' (h f words) goes)
+      changed_local may m n P (asking memory meter) (after (host f words) next) (after (host' f words) next') (asking_besides memory meter) (after_local may m n P (host f words) (host' f words) next next' (h f words) goes)
 
-  pages_local : {A : Type 0} (limits : List ResizableLimits) (act act' : Act A) → Local may m n act act' → Local may m n (paying_pages limits act) (paying_pages limits act')
+  pages_local : {A : Type 0} (limits : List ResizableLimits) (act act' : Act A) → Local may m n P act act' → Local may m n P (paying_pages limits act) (paying_pages limits act')
   pages_local [] act act' h = h
-  pages_local (x ∷ xs) act act' h = paying_local may m n _ _ act act' h
+  pages_local (x ∷ xs) act act' h = paying_local may m n P _ _ act act' h
 
-  started_local : (host host' : HostCalls) → HostsLocal may m n host host' → (e : Entered) → Local may m n (started host e) (started host' e)
+  started_local : (host host' : HostCalls) → HostsLocal may m n P host host' → (e : Entered) → Local may m n P (started host e) (started host' e)
   started_local host host' h e =
-      pages_local e.module_.memories _ _ (paying_local may m n _ _ _ _ (after_local may m n (lift (all_given e.args)) (lift (all_given e.args)) (runs_from host e) (runs_from host' e) (lift_local may m n (all_given e.args))
-      (λ words. with_local may m n (λ w. w.meter) (λ meter. runs host (meaning e.module_ e.index words e.store meter)) (λ meter. runs host' (meaning e.module_ e.index words e.store meter)) (λ w q. refl)
+      pages_local e.module_.memories _ _ (paying_local may m n P _ _ _ _ (after_local may m n P (lift (all_given e.args)) (lift (all_given e.args)) (runs_from host e) (runs_from host' e) (lift_local may m n P (all_given e.args))
+      (λ words. with_local may m n P (λ w. w.meter) (λ meter. runs host (meaning e.module_ e.index words e.store meter)) (λ meter. runs host' (meaning e.module_ e.index words e.store meter)) (λ w q. refl)
       (λ meter. runs_local host host' h (meaning e.module_ e.index words e.store meter)))))
 
-  value_local : (o : Option Datum) → Local may m n (returned_value o) (returned_value o)
-  value_local None = fails_local may m n _
+  value_local : (o : Option Datum) → Local may m n P (returned_value o) (returned_value o)
+  value_local None = fails_local may m n P _
   value_local (Some d) = at d
     where
-      at : (d : Datum) → Local may m n (returned_value (Some d)) (returned_value (Some d))
-      at (error e) = fails_local may m n _
-      at _ = good_local may m n _
+      at : (d : Datum) → Local may m n P (returned_value (Some d)) (returned_value (Some d))
+      at (error e) = fails_local may m n P _
+      at _ = good_local may m n P _
 
-  module _ (sound : Sound may) (header : Header) where
-    writes_local : (b : Bool) (f : Frame) → Local may m n (writes_if b (free header) f) (writes_if b (held may header) f)
-    writes_local false f = good_local may m n tt
-    writes_local true f = access_local may m n sound header Write (instance_key f.contract) (puts (free header) (instance_entry (header.seq + 1) f.contract f.copy) tt) tt
+  module _ (sound : Sound may) (header : Header) (fair : Fair header P) where
+    writes_local : (b : Bool) (f : Frame) → Local may m n P (writes_if b (free header) f) (writes_if b (held may header) f)
+    writes_local false f = good_local may m n P tt
+    writes_local true f = access_local may m n P sound header fair Write (instance_key f.contract) (puts (free header) (instance_entry (header.seq + 1) f.contract f.copy) tt) tt (λ found. fair.put (instance_entry (header.seq + 1) f.contract f.copy) found tt)
 
-    finished_local : (word : ℕ) → Local may m n (finished (free header) word) (finished (held may header) word)
+    finished_local : (word : ℕ) → Local may m n P (finished (free header) word) (finished (held may header) word)
     finished_local word =
-        after_local may m n _ _ _ _ (frame_local may m n _ _ (λ f. value_local (word_meaning f.shown word)))
-        (λ d. after_local may m n _ _ _ _ (frame_local may m n _ _ (λ f. writes_local _ f)) (λ _. good_local may m n d))
+        after_local may m n P _ _ _ _ (frame_local may m n P _ _ (λ f. value_local (word_meaning f.shown word)))
+        (λ d. after_local may m n P _ _ _ _ (frame_local may m n P _ _ (λ f. writes_local _ f)) (λ _. good_local may m n P d))
 
-    pub framed_local : (host host' : Module → HostCalls) → ((x : Module) → HostsLocal may m n (host x) (host' x)) → (e : Entered)
-        → Local may m n (framed (free header) host e) (framed (held may header) host' e)
-    framed_local host host' h e = in_frame_local may m n e _ _ (after_local may m n _ _ _ _ (started_local (host e.module_) (host' e.module_) (h e.module_) e) finished_local)
+    pub framed_local : (host host' : Module → HostCalls) → ((x : Module) → HostsLocal may m n P (host x) (host' x)) → (e : Entered)
+        → Local may m n P (framed (free header) host e) (framed (held may header) host' e)
+    framed_local host host' h e = in_frame_local may m n P e _ _ (after_local may m n P _ _ _ _ (started_local (host e.module_) (host' e.module_) (h e.module_) e) finished_local)
 
 -- ---- what opens frames
 
-abbrev pub OpenersLocal : Judge → LedgerMap → LedgerMap → Opener → Opener → Type 0
-OpenersLocal may m n None None = Unit {0}
-OpenersLocal may m n None (Some g) = ⊥
-OpenersLocal may m n (Some f) None = ⊥
-OpenersLocal may m n (Some f) (Some g) = (e : Entered) → Local may m n (f e) (g e)
+abbrev pub OpenersLocal : Judge → LedgerMap → LedgerMap → Watch → Opener → Opener → Type 0
+OpenersLocal may m n P None None = Unit {0}
+OpenersLocal may m n P None (Some g) = ⊥
+OpenersLocal may m n P (Some f) None = ⊥
+OpenersLocal may m n P (Some f) (Some g) = (e : Entered) → Local may m n P (f e) (g e)
 
-module _ (may : Judge) (m n : LedgerMap) where
-  pub opener_local : {A : Type 0} (opener opener' : Opener) → OpenersLocal may m n opener opener' → (next next' : (Entered → Act Datum) → Act A)
-      → ((f g : Entered → Act Datum) → ((e : Entered) → Local may m n (f e) (g e)) → Local may m n (next f) (next' g)) → Local may m n (with_opener opener next) (with_opener opener' next')
-  opener_local None None h next next' l = fails_local may m n _
+module _ (may : Judge) (m n : LedgerMap) (P : Watch) where
+  pub opener_local : {A : Type 0} (opener opener' : Opener) → OpenersLocal may m n P opener opener' → (next next' : (Entered → Act Datum) → Act A)
+      → ((f g : Entered → Act Datum) → ((e : Entered) → Local may m n P (f e) (g e)) → Local may m n P (next f) (next' g)) → Local may m n P (with_opener opener next) (with_opener opener' next')
+  opener_local None None h next next' l = fails_local may m n P _
   opener_local None (Some g) h next next' l = absurd h
   opener_local (Some f) None h next next' l = absurd h
   opener_local (Some f) (Some g) h next next' l = l f g h

@@ -8,6 +8,8 @@ pub mod Framed
 pub mod Examples
 pub mod Each
 pub mod Written
+pub mod Kept
+pub mod Archives
 pub mod Folding
 pub mod Changed
 mod Ran

@@ -13,6 +13,7 @@ use Rattle.call_spec.specs.Footprints.{by_footprint, allows, first_rejected, unl
 use Rattle.call_spec.specs.WholeRuns.{all_allowed, done_under}
 use Rattle.call_spec.specs.Laws.{AlikeWorlds, AlikeRuns, LocalLaw, LocalFromLaw, Stops, StopLaw, EndToEndLaw}
 use Rattle.call_spec.proofs.Acts.{Continues, Sound, Clean, Alike, Stopped, Same}
+use Rattle.call_spec.proofs.Frames.{unwatched, unwatched_fair}
 use Rattle.call_spec.proofs.HostFunctions.{run_same, done_local}
 
 -- ---- the first rejected access
@@ -128,17 +129,17 @@ footprint_sound footprint Write key e = right_true (has_bytes footprint.read_onl
 
 pub stop_law : StopLaw
 stop_law header instructions work footprint m n agree =
-    stops (by_footprint footprint) m n _ _ (run_same (by_footprint footprint) m n (footprint_sound footprint) header instructions work agree)
+    stops (by_footprint footprint) m n _ _ (run_same (by_footprint footprint) m n (unwatched header) (footprint_sound footprint) header (unwatched_fair header) instructions work agree)
 
 pub end_to_end_law : EndToEndLaw
 end_to_end_law header work footprint w n agree clean =
     stops (by_footprint footprint) w.entries n _ _
-    ((done_local (by_footprint footprint) w.entries n (footprint_sound footprint) header work).same w n (record { agree = agree; left = λ k e. refl; right = λ k e. refl }) clean)
+    ((done_local (by_footprint footprint) w.entries n (unwatched header) (footprint_sound footprint) header (unwatched_fair header) work).same w n (record { agree = agree; left = λ k e. refl; right = λ k e. refl }) clean)
 
 pub local_law : LocalLaw
 local_law header instructions work footprint m n agree =
-    both (by_footprint footprint) m n _ _ _ (run_same (by_footprint footprint) m n (footprint_sound footprint) header instructions work agree)
-    (run_same (by_footprint footprint) n n (footprint_sound footprint) header instructions work (λ k e. refl))
+    both (by_footprint footprint) m n _ _ _ (run_same (by_footprint footprint) m n (unwatched header) (footprint_sound footprint) header (unwatched_fair header) instructions work agree)
+    (run_same (by_footprint footprint) n n (unwatched header) (footprint_sound footprint) header (unwatched_fair header) instructions work (λ k e. refl))
 
 pub local_from_law : LocalFromLaw
 local_from_law header work footprint w n agree = at (first_rejected may w.trace) refl
@@ -154,8 +155,8 @@ local_from_law header work footprint w n agree = at (first_rejected may w.trace)
 
     at : (x : Option Access) → first_rejected may w.trace ≡ x → AlikeRuns may w.entries n one other
     at None clean = both may w.entries n one other (done_under may header work (record w { entries = n }))
-        ((done_local may w.entries n (footprint_sound footprint) header work).same w n (record { agree = agree; left = λ k e. refl; right = λ k e. refl }) clean)
-        ((done_local may n n (footprint_sound footprint) header work).same (record w { entries = n }) n (record { agree = λ k e. refl; left = λ k e. refl; right = λ k e. refl }) clean)
+        ((done_local may w.entries n (unwatched header) (footprint_sound footprint) header (unwatched_fair header) work).same w n (record { agree = agree; left = λ k e. refl; right = λ k e. refl }) clean)
+        ((done_local may n n (unwatched header) (footprint_sound footprint) header (unwatched_fair header) work).same (record w { entries = n }) n (record { agree = λ k e. refl; left = λ k e. refl; right = λ k e. refl }) clean)
     at (Some a) e = both_later may w.entries n w.trace a e one other
-        ((done_local may w.entries n (footprint_sound footprint) header work).grows w)
-        ((done_local may n n (footprint_sound footprint) header work).grows (record w { entries = n }))
+        ((done_local may w.entries n (unwatched header) (footprint_sound footprint) header (unwatched_fair header) work).grows w)
+        ((done_local may n n (unwatched header) (footprint_sound footprint) header (unwatched_fair header) work).grows (record w { entries = n }))

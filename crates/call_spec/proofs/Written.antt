@@ -13,10 +13,12 @@ use Rattle.call_spec.specs.Acts.{world_of}
 use Rattle.call_spec.specs.WholeRuns.{all_allowed, whole}
 use Rattle.call_spec.specs.Footprints.{by_footprint, allows, first_rejected}
 use Rattle.call_spec.specs.Laws.{is_write, writes_in, WrittenLaw, ReadOnlyLaw}
+use Rattle.call_spec.proofs.Accesses.{newest_allowed}
+use Rattle.call_spec.proofs.Frames.{unwatched, unwatched_fair}
 use Rattle.call_spec.proofs.HostFunctions.{run_quiet}
 
 pub written_law : WrittenLaw
-written_law header instructions work entries key = run_quiet all_allowed entries entries (λ kind k e. refl) header instructions work key
+written_law header instructions work entries key = run_quiet all_allowed entries entries (unwatched header) (λ kind k e. refl) header (unwatched_fair header) instructions work key
 
 -- ---- the accesses that a footprint allows
 
@@ -26,14 +28,6 @@ older_clean may a older e = at (first_rejected may older) e
     at : (x : Option Access) → option_or x (if allows may a then None else Some a) ≡ None → x ≡ None
     at None h = refl
     at (Some b) h = absurd cc
-
-newest_allowed : (may : Judge) (a : Access) (older : List Access) → option_or (first_rejected may older) (if allows may a then None else Some a) ≡ None → allows may a ≡ true
-newest_allowed may a older e = at (first_rejected may older) (allows may a) e
-  where
-    at : (x : Option Access) (b : Bool) → option_or x (if b then None else Some a) ≡ None → b ≡ true
-    at x true h = refl
-    at None false h = absurd cc
-    at (Some y) false h = absurd cc
 
 -- an allowed write is one of a key that is declared read-write
 no_write : (footprint : Footprint) (kind : AccessKind) (written key : List ℕ) → by_footprint footprint kind written ≡ true → has_bytes footprint.read_write key ≡ false → (is_write kind && bytes_eq key written) ≡ false

@@ -1,24 +1,26 @@
 -- Laws of runs: what a run does depends on the entries at declared keys alone, up to its first undeclared access (own, after CAP-0046-05).
-use Rattle.std.specs.Prelude.{◌≡◌, ◌≤◌, ◌&&◌, ℕ, List, Bool, true, false, not, Option, Some, None, is_some}
+use Rattle.std.specs.Prelude.{◌≡◌, ◌≤◌, ◌<◌, ◌+◌, ◌^◌, ◌&&◌, ℕ, List, Bool, true, false, not, Option, Some, None, is_some}
 use Rattle.std.specs.List.{list_any}
 use Rattle.std.specs.Str.{bytes_eq}
 use Rattle.std.specs.FinMap.{get}
+use Rattle.ledger_types.specs.Entry.{key_of}
+use Rattle.ledger_types.specs.declared.key.LedgerKey.{LedgerKey}
 use Rattle.ledger_types.specs.declared.header.Header.{Header}
 use Rattle.invoke_types.specs.declared.host_function.HostFunction.{HostFunction}
 use Rattle.tx_xdr.specs.declared.transaction.Footprint.{Footprint}
 use Rattle.tx_xdr.specs.declared.transaction.SorobanData.{SorobanData}
 use Rattle.ledger_spec.specs.declared.Kept.{Kept}
-use Rattle.ledger_spec.specs.LedgerMap.{LedgerMap, key_bytes}
+use Rattle.ledger_spec.specs.LedgerMap.{LedgerMap, key_bytes, HasCodeHash}
 use Rattle.stage_runs.specs.Maps.{AgreeOn, has_bytes}
 use Rattle.host_interface.specs.declared.import.HostImport.{HostImport}
 use Rattle.host_spec.specs.ValueFunctions.{value_rule}
-use Rattle.call_spec.specs.World.{AccessKind, Read, Extend, Write, Judge, Access, World, Env}
-use Rattle.call_spec.specs.Acts.{Out, Good, Bad, Undeclared, world_of}
+use Rattle.call_spec.specs.World.{AccessKind, Read, Extend, Write, Judge, Access, World, Env, next_seq}
+use Rattle.call_spec.specs.Acts.{Archived, Out, Good, Bad, Undeclared, world_of}
 use Rattle.call_spec.specs.Footprints.{by_footprint, first_rejected, up_to}
 use Rattle.call_spec.specs.Frames.{Opener}
 use Rattle.call_spec.specs.HostFunctions.{world_rule}
 use Rattle.call_spec.specs.WholeRuns.{Work, all_allowed, done_under, whole, run_under}
-use Rattle.call_spec.specs.Invoked.{Invoked, invoked}
+use Rattle.call_spec.specs.Invoked.{declares_archived, Invoked, invoked}
 
 -- ---- maps
 
@@ -121,20 +123,57 @@ ReadOnlyLaw = (header : Header) (instructions : ℕ) (work : Work) (footprint : 
     first_rejected (by_footprint footprint) w.trace ≡ None → has_bytes footprint.read_write key ≡ false
     → IsExtended (get entries key) (get w.entries key))
 
+-- ---- what a run leaves at every key
+
+-- The bytes are those of the entry's key, its live-until ledger has 32 bits, and a code entry's hash is right.
+pub record IsWellKept (bytes : List ℕ) (kept : Kept) : Type 0 where
+  pub numbered : kept.live_until < 2 ^ 32
+  pub keyed : bytes ≡ key_bytes (key_of kept.entry)
+  pub hashed : HasCodeHash kept.entry.data
+
+abbrev pub AreWellKept : LedgerMap → Type 0
+AreWellKept map = (bytes : List ℕ) (kept : Kept) → get map bytes ≡ Some kept → IsWellKept bytes kept
+
+-- the live-until ledgers of new entries, and the furthest of extended ones, have 32 bits
+pub record AreNumberedLives (header : Header) : Type 0 where
+  pub temporary : next_seq header + header.settings.min_temporary_ttl ≤ 2 ^ 32
+  pub persistent : next_seq header + header.settings.min_persistent_ttl ≤ 2 ^ 32
+  pub furthest : next_seq header + header.settings.max_entry_ttl ≤ 2 ^ 32
+
+-- However a whole run ends, it leaves each entry at its own key, each life in 32 bits and each code at its hash.
+abbrev pub KeptLaw : Type 0
+KeptLaw = (header : Header) (instructions : ℕ) (work : Work) (entries : LedgerMap) → AreNumberedLives header → AreWellKept entries
+    → AreWellKept (world_of (whole header instructions work entries)).entries
+
+-- The same holds of a call, an upload or a create from any world.
+abbrev pub KeptFromLaw : Type 0
+KeptFromLaw = (header : Header) (work : Work) (w : World) → AreNumberedLives header → AreWellKept w.entries
+    → AreWellKept (world_of (done_under all_allowed header work w)).entries
+
+-- ---- archived entries
+
+-- If a persistent entry lives one ledger at least, no declared key is archived, and no access is undeclared, then the run does not end at an
+-- archived entry.
+abbrev pub NeverArchivedLaw : Type 0
+NeverArchivedLaw = (header : Header) (instructions : ℕ) (work : Work) (footprint : Footprint) (entries : LedgerMap) (key : LedgerKey) (w : World)
+    → 1 ≤ header.settings.min_persistent_ttl → declares_archived (next_seq header) entries footprint ≡ false
+    → first_rejected (by_footprint footprint) (world_of (whole header instructions work entries)).trace ≡ None
+    → whole header instructions work entries ≡ Bad (Archived key) w → ⊥
+
 -- ---- operations
 
--- two outcomes that differ in nothing but what their maps have at other keys
-pub record AlikeInvoked (may : Judge) (one other : Invoked) : Type 0 where
+-- two outcomes, over m and over n, that differ in nothing but what their maps have at other keys, which is what m and n have there
+pub record AlikeInvoked (may : Judge) (m n : LedgerMap) (one other : Invoked) : Type 0 where
   pub result : one.result ≡ other.result
   pub success : one.success ≡ other.success
-  pub agree : Agree may one.entries other.entries
+  pub maps : Maps may m n one.entries other.entries
   pub used : one.used ≡ other.used
 
--- What becomes of an operation depends on the entries at its declared keys alone.
+-- What becomes of an operation depends on the entries at its declared keys alone. All other entries stay as they were.
 abbrev pub FrameLaw : Type 0
 FrameLaw = (header : Header) (resources : SorobanData) (function : HostFunction) (one other : LedgerMap)
     → Agree (by_footprint resources.footprint) one other
-    → AlikeInvoked (by_footprint resources.footprint) (invoked header resources one function) (invoked header resources other function)
+    → AlikeInvoked (by_footprint resources.footprint) one other (invoked header resources one function) (invoked header resources other function)
 
 -- ---- host functions
 

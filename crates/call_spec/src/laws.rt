@@ -3,7 +3,7 @@
 ghost use Rattle.host_spec.specs.Answers.{Answer};
 ghost use Rattle.call_spec.specs.Changed.{PutLaw, DeleteLaw, MakeLaw, ExtendLaw};
 ghost use Rattle.call_spec.specs.Folding.{FoldLaw};
-ghost use Rattle.call_spec.specs.Laws.{LocalLaw, LocalFromLaw, StopLaw, EndToEndLaw, WrittenLaw, ReadOnlyLaw, FrameLaw, EachHasRule};
+ghost use Rattle.call_spec.specs.Laws.{LocalLaw, LocalFromLaw, StopLaw, EndToEndLaw, WrittenLaw, ReadOnlyLaw, KeptLaw, KeptFromLaw, NeverArchivedLaw, FrameLaw, EachHasRule};
 
 /// What a run does depends on the entries at declared keys alone, up to its first undeclared access.
 pub fn runs_are_local()
@@ -19,7 +19,18 @@ pub fn runs_keep_what_they_do_not_write()
     ensures read_only { ReadOnlyLaw }
 {}
 
-/// What becomes of an operation depends on the entries at its declared keys alone.
+/// A run leaves each entry at its own key, each life in 32 bits and each code at its hash.
+pub fn runs_keep_entries_well()
+    ensures kept { KeptLaw }
+    ensures kept_from { KeptFromLaw }
+{}
+
+/// A run whose accesses are all declared meets no archived entry, if no declared key is archived.
+pub fn runs_meet_no_archived_entry()
+    ensures { NeverArchivedLaw }
+{}
+
+/// What becomes of an operation depends on the entries at its declared keys alone. All other entries stay as they were.
 pub fn operations_are_framed()
     ensures { FrameLaw }
 {}

@@ -6,5 +6,6 @@ mod laws;
 
 pub use laws::{
     accesses_change_the_map, functions_have_rules, operations_are_framed, runs_are_local,
-    runs_fold, runs_keep_what_they_do_not_write,
+    runs_fold, runs_keep_entries_well, runs_keep_what_they_do_not_write,
+    runs_meet_no_archived_entry,
 };
