@@ -17,13 +17,16 @@ use Rattle.ledger_spec.specs.Changes.{asked_life, longer as longer_by}
 use Rattle.stage_runs.specs.Maps.{set_at}
 use Rattle.stage_runs.proofs.Points.{left_false, found_set}
 use Rattle.call_spec.specs.World.{AccessKind, Read, Extend, Write, Judge, Access, World, Env}
+use Rattle.wasm_machine.specs.Spending.{IsLater}
+use Rattle.wasm_machine.proofs.Spends.{same}
 use Rattle.host_spec.specs.Acts as values
+use Rattle.call_spec.proofs.Sums.{charged_rises}
 use Rattle.call_spec.specs.Acts.{Act, world_of, then_do, with_state, state_of, lifted, lift}
 use Rattle.call_spec.specs.Accesses.{put_kept, Effect, answers, leaves, refuses, costs, effected, access_of, noted, by_seen, judged, access}
 use Rattle.call_spec.specs.Footprints.{allows, first_rejected}
 use Rattle.call_spec.specs.WholeRuns.{all_allowed}
 use Rattle.call_spec.specs.Laws.{Maps, is_write, writes_in, IsExtended}
-use Rattle.call_spec.proofs.Acts.{Continues, continues_refl, continues_trans, Sound, Clean, Same, Watch, Fine, Leaves, Local, then_fine, not_before, extended_refl, stays, then_grows, lift_local}
+use Rattle.call_spec.proofs.Acts.{Continues, continues_refl, continues_trans, Sound, Clean, Same, Watch, Fine, Leaves, Local, then_fine, then_later, lifted_later, not_before, extended_refl, stays, then_grows, lift_local}
 
 -- ---- the two runs' surroundings
 
@@ -247,7 +250,7 @@ module _ (may : Judge) (m n : LedgerMap) (P : Watch) where
   effected_grows key (leaves now a) w = continues_refl w.trace
   effected_grows key (refuses e) w = continues_refl w.trace
   effected_grows key (costs kind input effect) w =
-      continues_trans _ _ _ ((lift_local may m n P (values.charged kind input)).grows w)
+      continues_trans _ _ _ ((lift_local may m n P (values.charged kind input) (λ q. charged_rises kind input)).grows w)
       (then_grows may m n P (lift (values.charged kind input) w) (λ _. effected key effect) (λ _ u. effected_grows key effect u))
 
   by_seen_grows : {A : Type 0} (key : LedgerKey) (effect : Option Kept → Effect A) (s : Seen) (w : World) → Continues w.trace (world_of (by_seen key effect s w)).trace
@@ -257,6 +260,20 @@ module _ (may : Judge) (m n : LedgerMap) (P : Watch) where
 
   clean_more : (t : List Access) (a : Access) → Clean may t → allows may a ≡ true → Clean may (a ∷ t)
   clean_more t a clean e = ap (λ x. option_or x (if allows may a then None else Some a)) clean ∙ ap (λ (b : Bool). if b then None else Some a) e
+
+  -- ---- the sums
+
+  effected_later : {A : Type 0} (key : LedgerKey) (effect : Effect A) (w : World) → IsLater w.meter (world_of (effected key effect w)).meter
+  effected_later key (answers a) w = same w.meter
+  effected_later key (leaves now a) w = same w.meter
+  effected_later key (refuses e) w = same w.meter
+  effected_later key (costs kind input effect) w =
+      then_later may m n P w.meter (lift (values.charged kind input) w) (λ _. effected key effect) (lifted_later may m n P w (values.charged kind input (state_of w)) ((charged_rises kind input).at (state_of w))) (λ _ u. effected_later key effect u)
+
+  seen_later : {A : Type 0} (key : LedgerKey) (effect : Option Kept → Effect A) (s : Seen) (w : World) → IsLater w.meter (world_of (by_seen key effect s w)).meter
+  seen_later key effect (live kept) w = effected_later key (effect (Some kept)) w
+  seen_later key effect absent w = effected_later key (effect None) w
+  seen_later key effect archived w = same w.meter
 
   -- ---- what is watched
 
@@ -276,7 +293,7 @@ module _ (may : Judge) (m n : LedgerMap) (P : Watch) where
   effected_fine key (leaves (Some new) a) h w f = (fine_set key (Some new) w.entries f (λ kept e. put_alone key new kept h e), tt)
   effected_fine key (refuses e) h w f = (f, tt)
   effected_fine key (costs kind input effect) h w f =
-      then_fine may m n P (lift (values.charged kind input) w) (λ _. effected key effect) (λ _ u g. effected_fine key effect h u g) ((lift_local may m n P (values.charged kind input)).fine w f)
+      then_fine may m n P (lift (values.charged kind input) w) (λ _. effected key effect) (λ _ u g. effected_fine key effect h u g) ((lift_local may m n P (values.charged kind input) (λ q. charged_rises kind input)).fine w f)
 
   seen_fine : {A : Type 0} (header : Header) → Fair header P → (kind : AccessKind) (key : LedgerKey) (effect : Option Kept → Effect A) → Sound may → ((found : Option Kept) → IsFineAt P key found → Puts P key (effect found))
       → (w : World) → Fine P w.entries → (o : Option Kept) → get w.entries (key_bytes key) ≡ o → (s : Seen) → seen_of (header.seq + 1) o ≡ s → Leaves may P (by_seen key effect s (noted kind key w))
@@ -322,4 +339,5 @@ module _ (may : Judge) (m n : LedgerMap) (P : Watch) where
     grows = λ w. continues_trans _ _ _ (access_of kind key w ∷ [], refl) (noted_grows kind key effect (seen (header.seq + 1) w.entries key) w);
     quiet = λ w q none. access_quiet kind key effect g (header.seq + 1) w q none;
     fine = λ w f. seen_fine header fair kind key effect sound (kind_puts P key kind effect g k) w f (get w.entries (key_bytes key)) refl (seen (header.seq + 1) w.entries key) refl;
+    later = λ q w. seen_later key effect (seen (header.seq + 1) w.entries key) (noted kind key w);
   }

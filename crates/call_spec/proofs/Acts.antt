@@ -10,7 +10,11 @@ use Rattle.ledger_spec.specs.declared.Kept.{Kept}
 use Rattle.ledger_spec.specs.LedgerMap.{LedgerMap, key_bytes}
 use Rattle.ledger_spec.specs.Seen.{archived, seen_of}
 use Rattle.stage_runs.proofs.Points.{right_false}
+use Rattle.budget_meter.specs.Meter.{Meter}
+use Rattle.wasm_machine.specs.Spending.{IsLater}
+use Rattle.wasm_machine.proofs.Spends.{same, later as further}
 use Rattle.host_spec.specs.Acts as values
+use Rattle.call_spec.proofs.Sums.{left, Rising, charged_rises}
 use Rattle.call_spec.specs.World.{AccessKind, Read, Judge, Access, Frame, World}
 use Rattle.call_spec.specs.Acts.{Failure, Failed, Spent, Archived, Out, Good, Bad, Undeclared, Act, world_of, then_do, after, gives, fails, only_where, with_world, with_frame, sets, state_of, lifted, lift, paying, begins}
 use Rattle.call_spec.specs.Footprints.{allows, first_rejected}
@@ -65,6 +69,8 @@ Same may m n (Undeclared c w) (Bad e v) = ⊥
 pub record Watch : Type 1 where
   pub number : ℕ
   pub is : List ℕ → Kept → Type 0
+  -- whether the sums of the budget are watched
+  pub sums : Type 0
 
 abbrev pub Fine : Watch → LedgerMap → Type 0
 Fine P map = (q : List ℕ) (kept : Kept) → get map q ≡ Some kept → P.is q kept
@@ -89,6 +95,7 @@ pub record Local {A : Type 0} (may : Judge) (m n : LedgerMap) (P : Watch) (act c
   pub grows : (w : World) → Continues w.trace (world_of (act w)).trace
   pub quiet : (w : World) (key : List ℕ) → writes_in (world_of (act w)).trace key ≡ false → IsExtended (get w.entries key) (get (world_of (act w)).entries key)
   pub fine : (w : World) → Fine P w.entries → Leaves may P (act w)
+  pub later : P.sums → (w : World) → IsLater w.meter (world_of (act w)).meter
 
 -- ---- what is left alone
 
@@ -116,10 +123,10 @@ module _ (may : Judge) (m n : LedgerMap) (P : Watch) where
   -- ---- acts that leave the map
 
   pub good_local : {A : Type 0} (a : A) → Local may m n P (gives a) (gives a)
-  good_local a = record { same = λ w q maps clean. (refl, (refl, maps, clean)); grows = λ w. continues_refl w.trace; quiet = λ w key none. extended_refl (get w.entries key); fine = λ w f. (f, tt) }
+  good_local a = record { same = λ w q maps clean. (refl, (refl, maps, clean)); grows = λ w. continues_refl w.trace; quiet = λ w key none. extended_refl (get w.entries key); fine = λ w f. (f, tt); later = λ q w. same w.meter }
 
   pub bad_local : {A : Type 0} (e : Failure) → ((w : World) → Told {A = A} may P (Bad e w)) → Local {A = A} may m n P (λ w. Bad e w) (λ w. Bad e w)
-  bad_local e told = record { same = λ w q maps clean. (refl, (refl, maps, clean)); grows = λ w. continues_refl w.trace; quiet = λ w key none. extended_refl (get w.entries key); fine = λ w f. (f, told w) }
+  bad_local e told = record { same = λ w q maps clean. (refl, (refl, maps, clean)); grows = λ w. continues_refl w.trace; quiet = λ w key none. extended_refl (get w.entries key); fine = λ w f. (f, told w); later = λ q w. same w.meter }
 
   pub fails_local : {A : Type 0} (e : ScError) → Local {A = A} may m n P (fails e) (fails e)
   fails_local e = bad_local (Failed e) (λ w. tt)
@@ -157,12 +164,19 @@ module _ (may : Judge) (m n : LedgerMap) (P : Watch) where
   then_fine (Bad (Archived key) w) next l h = h
   then_fine (Undeclared a w) next l h = h
 
+  pub then_later : {A B : Type 0} (b : Meter) (o : Out A) (next : A → Act B) → IsLater b (world_of o).meter → ((a : A) (w : World) → IsLater w.meter (world_of (next a w)).meter)
+      → IsLater b (world_of (then_do o next)).meter
+  then_later b (Good a w) next h l = further b w.meter (world_of (next a w)).meter h (l a w)
+  then_later b (Bad e w) next h l = h
+  then_later b (Undeclared a w) next h l = h
+
   pub after_local : {A B : Type 0} (act act' : Act A) (next next' : A → Act B) → Local may m n P act act' → ((a : A) → Local may m n P (next a) (next' a)) → Local may m n P (after act next) (after act' next')
   after_local act act' next next' h l = record {
     same = λ w q maps clean. then_same (act w) (act' (record w { entries = q })) next next' (h.same w q maps clean) l;
     grows = λ w. continues_trans _ _ _ (h.grows w) (then_grows (act w) next (λ a. (l a).grows));
     quiet = λ w key none. then_quiet (get w.entries key) (act w) next next' l key (h.quiet w key) none;
     fine = λ w f. then_fine (act w) next (λ a. (l a).fine) (h.fine w f);
+    later = λ q w. then_later w.meter (act w) next (h.later q w) (λ a. (l a).later q);
   }
 
   pub where_local : {A : Type 0} (b : Bool) (e : ScError) (act act' : Act A) → Local may m n P act act' → Local may m n P (only_where b e act) (only_where b e act')
@@ -181,21 +195,23 @@ module _ (may : Judge) (m n : LedgerMap) (P : Watch) where
     grows = λ w. (l (look w)).grows w;
     quiet = λ w key none. (l (look w)).quiet w key none;
     fine = λ w f. (l (look w)).fine w f;
+    later = λ q w. (l (look w)).later q w;
   }
 
   pub frame_local : {A : Type 0} (next next' : Frame → Act A) → ((f : Frame) → Local may m n P (next f) (next' f)) → Local may m n P (with_frame next) (with_frame next')
   frame_local next next' l = with_local (λ w. w.frame) next next' (λ w q. refl) l
 
-  pub changed_local : {A : Type 0} (set : World → World) (act act' : Act A) → Besides set → Local may m n P act act' → Local may m n P (λ w. act (set w)) (λ w. act' (set w))
-  changed_local set act act' b h = record {
+  pub changed_local : {A : Type 0} (set : World → World) (act act' : Act A) → Besides set → (P.sums → (w : World) → IsLater w.meter (set w).meter) → Local may m n P act act' → Local may m n P (λ w. act (set w)) (λ w. act' (set w))
+  changed_local set act act' b rises h = record {
     same = λ w q maps clean. subst (λ x. Same may m n (act (set w)) (act' x)) (sym (b.apart w q)) (h.same (set w) q (subst (λ p. Maps may m n p q) (sym (b.map w)) maps) (subst (λ t. Clean may t) (sym (b.trace w)) clean));
     grows = λ w. subst (λ t. Continues t (world_of (act (set w))).trace) (b.trace w) (h.grows (set w));
     quiet = λ w key none. subst (λ p. IsExtended (get p key) (get (world_of (act (set w))).entries key)) (b.map w) (h.quiet (set w) key none);
     fine = λ w f. h.fine (set w) (subst (λ p. Fine P p) (sym (b.map w)) f);
+    later = λ q w. further w.meter (set w).meter (world_of (act (set w))).meter (rises q w) (h.later q (set w));
   }
 
-  pub sets_local : {A : Type 0} (set : World → World) (a : A) → Besides set → Local may m n P (sets set a) (sets set a)
-  sets_local set a b = changed_local set (gives a) (gives a) b (good_local a)
+  pub sets_local : {A : Type 0} (set : World → World) (a : A) → Besides set → (P.sums → (w : World) → IsLater w.meter (set w).meter) → Local may m n P (sets set a) (sets set a)
+  sets_local set a b rises = changed_local set (gives a) (gives a) b rises (good_local a)
 
   pub begins_local : {A : Type 0} (next next' : List ℕ → Act A) → ((path : List ℕ) → Local may m n P (next path) (next' path)) → Local may m n P (begins next) (begins next')
   begins_local next next' l = record {
@@ -203,6 +219,7 @@ module _ (may : Judge) (m n : LedgerMap) (P : Watch) where
     grows = λ w. (l _).grows _;
     quiet = λ w key none. (l (w.frame.path ++ w.frame.begun ∷ [])).quiet (record w { frame = record w.frame { begun = w.frame.begun + 1 } }) key none;
     fine = λ w f. (l (w.frame.path ++ w.frame.begun ∷ [])).fine (record w { frame = record w.frame { begun = w.frame.begun + 1 } }) f;
+    later = λ q w. (l (w.frame.path ++ w.frame.begun ∷ [])).later q (record w { frame = record w.frame { begun = w.frame.begun + 1 } });
   }
 
   -- ---- acts over values
@@ -227,13 +244,19 @@ module _ (may : Judge) (m n : LedgerMap) (P : Watch) where
   lifted_fine w (values.Failed e s) f = (f, tt)
   lifted_fine w (values.Spent s) f = (f, tt)
 
-  pub lift_local : {A : Type 0} (act : values.Act A) → Local may m n P (lift act) (lift act)
-  lift_local act = record {
+  pub lifted_later : {A : Type 0} (w : World) (o : values.Out A) → IsLater w.meter (left o).meter → IsLater w.meter (world_of (lifted w o)).meter
+  lifted_later w (values.Good a s) h = h
+  lifted_later w (values.Failed e s) h = h
+  lifted_later w (values.Spent s) h = h
+
+  pub lift_local : {A : Type 0} (act : values.Act A) → (P.sums → Rising act) → Local may m n P (lift act) (lift act)
+  lift_local act rises = record {
     same = λ w q maps clean. lifted_same w q maps clean (act (state_of w));
     grows = λ w. ([], lifted_trace w (act (state_of w)));
     quiet = λ w key none. stays (get w.entries key) (get (world_of (lifted w (act (state_of w)))).entries key) (ap (λ p. get p key) (lifted_entries w (act (state_of w))));
     fine = λ w f. lifted_fine w (act (state_of w)) f;
+    later = λ q w. lifted_later w (act (state_of w)) ((rises q).at (state_of w));
   }
 
   pub paying_local : {A : Type 0} (kind : Kind) (input : ℕ) (act act' : Act A) → Local may m n P act act' → Local may m n P (paying kind input act) (paying kind input act')
-  paying_local kind input act act' h = after_local _ _ (λ _. act) (λ _. act') (lift_local (values.charged kind input)) (λ _. h)
+  paying_local kind input act act' h = after_local _ _ (λ _. act) (λ _. act') (lift_local (values.charged kind input) (λ q. charged_rises kind input)) (λ _. h)

@@ -60,7 +60,7 @@ was_archived n old new h e =
 -- ---- what is watched
 
 abbrev unarchived : Judge → Header → Watch
-unarchived may header = record { number = header.seq + 1; is = λ q kept. may Read q ≡ true → seen_of (header.seq + 1) (Some kept) ≡ archived → ⊥ }
+unarchived may header = record { number = header.seq + 1; is = λ q kept. may Read q ≡ true → seen_of (header.seq + 1) (Some kept) ≡ archived → ⊥; sums = Unit {0} }
 
 module _ (may : Judge) (header : Header) (least : 1 ≤ header.settings.min_persistent_ttl) where
   new_lives : (temporary : Bool) → temporary ≡ false → header.seq + 1 ≤ header.seq + 1 + (if temporary then header.settings.min_temporary_ttl else header.settings.min_persistent_ttl) - 1

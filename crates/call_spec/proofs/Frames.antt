@@ -23,12 +23,15 @@ use Rattle.call_spec.specs.Frames.{HostCalls, metered, asking, returned, runs, E
 use Rattle.call_spec.specs.Calling.{undone, undoing, caught, catching}
 use Rattle.call_spec.specs.Laws.{Maps, writes_in, IsExtended}
 use Rattle.call_spec.proofs.Acts.{Continues, Sound, Alike, Stopped, Same, Watch, Fine, Leaves, Local, extended_refl, Besides, good_local, bad_local, fails_local, after_local, with_local, frame_local, changed_local, lift_local, paying_local}
+use Rattle.call_spec.proofs.Sums.{all_given_rises}
+use Rattle.call_spec.proofs.Cuts.{whole_later}
+use Rattle.wasm_machine.specs.Spending.{IsLater}
 use Rattle.call_spec.proofs.Accesses.{free, held, Fair, access_local}
 
 -- ---- nothing is watched
 
 abbrev pub unwatched : Header → Watch
-unwatched header = record { number = header.seq + 1; is = λ q kept. Unit {0} }
+unwatched header = record { number = header.seq + 1; is = λ q kept. Unit {0}; sums = Unit {0} }
 
 pub unwatched_fair : (header : Header) → Fair header (unwatched header)
 unwatched_fair header = record { numbered = refl; longer = λ q kept threshold extend_to life asked f. tt; put = λ entry found hash f. tt }
@@ -73,12 +76,20 @@ module _ (may : Judge) (m n : LedgerMap) (P : Watch) where
   undone_fine w f (Bad (Archived key) u) h = h
   undone_fine w f (Undeclared a u) h = h
 
+  undone_later : {A : Type 0} (b : Meter) (w : World) (o : Out A) → IsLater b (world_of o).meter → IsLater b (world_of (undone w o)).meter
+  undone_later b w (Good a u) h = h
+  undone_later b w (Bad (Failed e) u) h = h
+  undone_later b w (Bad Spent u) h = h
+  undone_later b w (Bad (Archived key) u) h = h
+  undone_later b w (Undeclared a u) h = h
+
   pub undoing_local : {A : Type 0} (act act' : Act A) → Local may m n P act act' → Local may m n P (undoing act) (undoing act')
   undoing_local act act' h = record {
     same = λ w q maps clean. undone_same w q maps (act w) (act' (record w { entries = q })) (h.same w q maps clean);
     grows = λ w. subst (λ t. Continues w.trace t) (sym (undone_trace w (act w))) (h.grows w);
     quiet = λ w key none. undone_quiet w (act w) key (h.quiet w key) none;
     fine = λ w f. undone_fine w f (act w) (h.fine w f);
+    later = λ q w. undone_later w.meter w (act w) (h.later q w);
   }
 
 -- ---- caught calls
@@ -122,12 +133,20 @@ module _ (may : Judge) (m n : LedgerMap) (P : Watch) where
   caught_fine w f (Bad (Archived key) u) h = h
   caught_fine w f (Undeclared a u) h = h
 
+  caught_later : (b : Meter) (w : World) (o : Out Datum) → IsLater b (world_of o).meter → IsLater b (world_of (caught w o)).meter
+  caught_later b w (Good a u) h = h
+  caught_later b w (Bad (Failed e) u) h = h
+  caught_later b w (Bad Spent u) h = h
+  caught_later b w (Bad (Archived key) u) h = h
+  caught_later b w (Undeclared a u) h = h
+
   pub catching_local : (act act' : Act Datum) → Local may m n P act act' → Local may m n P (catching act) (catching act')
   catching_local act act' h = record {
     same = λ w q maps clean. caught_same w q maps (act w) (act' (record w { entries = q })) (h.same w q maps clean);
     grows = λ w. subst (λ t. Continues w.trace t) (sym (caught_trace w (act w))) (h.grows w);
     quiet = λ w key none. caught_quiet w (act w) key (h.quiet w key) none;
     fine = λ w f. caught_fine w f (act w) (h.fine w f);
+    later = λ q w. caught_later w.meter w (act w) (h.later q w);
   }
 
 -- ---- frames
@@ -160,6 +179,11 @@ module _ (may : Judge) (m n : LedgerMap) (P : Watch) where
   closed_fine f cs (Bad (Archived key) u) h = h
   closed_fine f cs (Undeclared a u) h = h
 
+  closed_later : {A : Type 0} (b : Meter) (f : Frame) (cs : List Hash) (o : Out A) → IsLater b (world_of o).meter → IsLater b (world_of (closed f cs o)).meter
+  closed_later b f cs (Good a u) h = h
+  closed_later b f cs (Bad e u) h = h
+  closed_later b f cs (Undeclared a u) h = h
+
   pub in_frame_local : {A : Type 0} (e : Entered) (act act' : Act A) → Local may m n P act act' → Local may m n P (in_frame e act) (in_frame e act')
   in_frame_local e act act' h = record {
     same = λ w q maps clean. closed_same w.frame w.contracts (act (with_frames (frame_of e) (e.contract ∷ w.contracts) w)) (act' (with_frames (frame_of e) (e.contract ∷ w.contracts) (record w { entries = q })))
@@ -168,6 +192,7 @@ module _ (may : Judge) (m n : LedgerMap) (P : Watch) where
         (h.grows (with_frames (frame_of e) (e.contract ∷ w.contracts) w));
     quiet = λ w key none. closed_quiet w.frame w.contracts (get w.entries key) (act (with_frames (frame_of e) (e.contract ∷ w.contracts) w)) key (h.quiet (with_frames (frame_of e) (e.contract ∷ w.contracts) w) key) none;
     fine = λ w f. closed_fine w.frame w.contracts (act (with_frames (frame_of e) (e.contract ∷ w.contracts) w)) (h.fine (with_frames (frame_of e) (e.contract ∷ w.contracts) w) f);
+    later = λ q w. closed_later w.meter w.frame w.contracts (act (with_frames (frame_of e) (e.contract ∷ w.contracts) w)) (h.later q (with_frames (frame_of e) (e.contract ∷ w.contracts) w));
   }
 
 -- ---- runs of code
@@ -189,23 +214,46 @@ module _ (may : Judge) (m n : LedgerMap) (P : Watch) where
   returned_local (I64 x ∷ []) = good_local may m n P x
   returned_local (I64 x ∷ v ∷ vs) = fails_local may m n P _
 
-  pub runs_local : (host host' : HostCalls) → HostsLocal may m n P host host' → (run : Run) → Local may m n P (runs host run) (runs host' run)
-  runs_local host host' h (Normal vs s) = changed_local may m n P (metered s.meter) (returned vs) (returned vs) (metered_besides s.meter) (returned_local vs)
-  runs_local host host' h (Branch depth vs s) = fails_local may m n P _
-  runs_local host host' h (Return vs s) = fails_local may m n P _
-  runs_local host host' h (Trap kind meter) = changed_local may m n P (metered meter) (fails _) (fails _) (metered_besides meter) (fails_local may m n P _)
-  runs_local host host' h (SpentRun meter) = changed_local may m n P (metered meter) (λ w. Bad Spent w) (λ w. Bad Spent w) (metered_besides meter) (bad_local may m n P Spent (λ w. tt))
-  runs_local host host' h Stuck = fails_local may m n P _
-  runs_local host host' h (Ask f words memory meter on) =
+  pub runs_local : (P.sums → ⊥) → (host host' : HostCalls) → HostsLocal may m n P host host' → (run : Run) → Local may m n P (runs host run) (runs host' run)
+  runs_local off host host' h (Normal vs s) = changed_local may m n P (metered s.meter) (returned vs) (returned vs) (metered_besides s.meter) (λ q. absurd (off q)) (returned_local vs)
+  runs_local off host host' h (Branch depth vs s) = fails_local may m n P _
+  runs_local off host host' h (Return vs s) = fails_local may m n P _
+  runs_local off host host' h (Trap kind meter) = changed_local may m n P (metered meter) (fails _) (fails _) (metered_besides meter) (λ q. absurd (off q)) (fails_local may m n P _)
+  runs_local off host host' h (SpentRun meter) = changed_local may m n P (metered meter) (λ w. Bad Spent w) (λ w. Bad Spent w) (metered_besides meter) (λ q. absurd (off q)) (bad_local may m n P Spent (λ w. tt))
+  runs_local off host host' h Stuck = fails_local may m n P _
+  runs_local off host host' h (Ask f words memory meter on) =
       let next : ℕ → Act ℕ = λ v u. runs host (on v u.frame.memory u.meter) u in
       let next' : ℕ → Act ℕ = λ v u. runs host' (on v u.frame.memory u.meter) u in
       let goes : (v : ℕ) → Local may m n P (next v) (next' v) = λ v. record {
-        same = λ w q maps clean. (runs_local host host' h (on v w.frame.memory w.meter)).same w q maps clean;
-        grows = λ w. (runs_local host host' h (on v w.frame.memory w.meter)).grows w;
-        quiet = λ w key none. (runs_local host host' h (on v w.frame.memory w.meter)).quiet w key none;
-        fine = λ w f. (runs_local host host' h (on v w.frame.memory w.meter)).fine w f;
+        same = λ w q maps clean. (runs_local off host host' h (on v w.frame.memory w.meter)).same w q maps clean;
+        grows = λ w. (runs_local off host host' h (on v w.frame.memory w.meter)).grows w;
+        quiet = λ w key none. (runs_local off host host' h (on v w.frame.memory w.meter)).quiet w key none;
+        fine = λ w f. (runs_local off host host' h (on v w.frame.memory w.meter)).fine w f;
+        later = λ q. absurd (off q);
       } in
-      changed_local may m n P (asking memory meter) (after (host f words) next) (after (host' f words) next') (asking_besides memory meter) (after_local may m n P (host f words) (host' f words) next next' (h f words) goes)
+      changed_local may m n P (asking memory meter) (after (host f words) next) (after (host' f words) next') (asking_besides memory meter) (λ q. absurd (off q)) (after_local may m n P (host f words) (host' f words) next next' (h f words) goes)
+
+-- the same watch without the sums
+abbrev unsummed : Watch → Watch
+unsummed P = record { number = P.number; is = P.is; sums = ⊥ }
+
+module _ (may : Judge) (m n : LedgerMap) (P : Watch) where
+  unsummed_hosts : (host host' : HostCalls) → HostsLocal may m n P host host' → HostsLocal may m n (unsummed P) host host'
+  unsummed_hosts host host' h f words = record { same = (h f words).same; grows = (h f words).grows; quiet = (h f words).quiet; fine = (h f words).fine; later = λ q. absurd q }
+
+  from_local : (host host' : HostCalls) → HostsLocal may m n P host host' → (e : Entered) (words : List ℕ) → Local may m n P (runs_from host e words) (runs_from host' e words)
+  from_local host host' h e words =
+      let run : Meter → Run = λ meter. meaning e.module_ e.index words e.store meter in
+      let weak : Local may m n (unsummed P) (runs_from host e words) (runs_from host' e words) =
+      with_local may m n (unsummed P) (λ w. w.meter) (λ meter. runs host (run meter)) (λ meter. runs host' (run meter)) (λ w q. refl)
+      (λ meter. runs_local may m n (unsummed P) (λ q. q) host host' (unsummed_hosts host host' h) (run meter)) in
+      record {
+        same = weak.same;
+        grows = weak.grows;
+        quiet = weak.quiet;
+        fine = weak.fine;
+        later = λ q w. whole_later host (λ f vs u. (h f vs).later q u) e.module_ e.index words e.store w;
+      }
 
   pages_local : {A : Type 0} (limits : List ResizableLimits) (act act' : Act A) → Local may m n P act act' → Local may m n P (paying_pages limits act) (paying_pages limits act')
   pages_local [] act act' h = h
@@ -213,9 +261,8 @@ module _ (may : Judge) (m n : LedgerMap) (P : Watch) where
 
   started_local : (host host' : HostCalls) → HostsLocal may m n P host host' → (e : Entered) → Local may m n P (started host e) (started host' e)
   started_local host host' h e =
-      pages_local e.module_.memories _ _ (paying_local may m n P _ _ _ _ (after_local may m n P (lift (all_given e.args)) (lift (all_given e.args)) (runs_from host e) (runs_from host' e) (lift_local may m n P (all_given e.args))
-      (λ words. with_local may m n P (λ w. w.meter) (λ meter. runs host (meaning e.module_ e.index words e.store meter)) (λ meter. runs host' (meaning e.module_ e.index words e.store meter)) (λ w q. refl)
-      (λ meter. runs_local host host' h (meaning e.module_ e.index words e.store meter)))))
+      pages_local e.module_.memories _ _ (paying_local may m n P _ _ _ _ (after_local may m n P (lift (all_given e.args)) (lift (all_given e.args)) (runs_from host e) (runs_from host' e) (lift_local may m n P (all_given e.args) (λ q. all_given_rises e.args))
+      (from_local host host' h e)))
 
   value_local : (o : Option Datum) → Local may m n P (returned_value o) (returned_value o)
   value_local None = fails_local may m n P _

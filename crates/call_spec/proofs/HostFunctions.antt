@@ -19,12 +19,14 @@ use Rattle.host_spec.specs.ValueFunctions.{value_function}
 use Rattle.call_spec.specs.World.{Judge, World}
 use Rattle.call_spec.specs.Acts.{Act, world_of}
 use Rattle.call_spec.specs.Rules.{Rule, call_of}
-use Rattle.call_spec.specs.Frames.{Opener}
+use Rattle.call_spec.specs.Frames.{Entered, framed, Opener}
 use Rattle.call_spec.specs.HostFunctions.{world_rule, world_function, either, of_row, host_of, MOST_FRAMES, opener_of}
 use Rattle.call_spec.specs.WholeRuns.{Work, calling, uploading, creating, arguments_in, only_if_let_in, entering, does, performs, done_under, all_allowed, start_of, run_under, whole}
 use Rattle.call_spec.specs.Laws.{Agree, writes_in, IsExtended}
 use Rattle.call_spec.proofs.Acts.{Sound, Same, Watch, Fine, Leaves, Local, good_local, fails_local, after_local, lift_local, paying_local}
 use Rattle.call_spec.proofs.Accesses.{free, held, Fair}
+use Rattle.wasm_machine.specs.Spending.{IsLater}
+use Rattle.call_spec.proofs.Sums.{FunctionRises, function_rises}
 use Rattle.call_spec.proofs.Frames.{undoing_local, HostsLocal, framed_local, OpenersLocal}
 use Rattle.call_spec.proofs.Rows.{RulesLocal, call_of_local, contract_event_local, frame_answer_local, fail_local, put_local, has_local, get_local, del_local, extend_local, extend_both_local, upload_local, uploads_local, update_local, id_local, calls_local, call_local, try_call_local, creates_local, creates_by_local, auth_local, auth_for_args_local}
 
@@ -47,12 +49,12 @@ module _ (may : Judge) (m n : LedgerMap) (P : Watch) (sound : Sound may) (header
   mapped_local ks None (Some rule') h = absurd h
   mapped_local ks None None h = tt
 
-  either_local : (o o' : Option (List ℕ → Act ℕ)) → FunctionsLocal o o' → (v : Option (List ℕ → values.Act ℕ)) (words : List ℕ) → Local may m n P (either o v words) (either o' v words)
-  either_local (Some f) (Some g) h v words = h words
-  either_local (Some f) None h v words = absurd h
-  either_local None (Some g) h v words = absurd h
-  either_local None None h (Some f) words = lift_local may m n P (f words)
-  either_local None None h None words = fails_local may m n P _
+  either_local : (o o' : Option (List ℕ → Act ℕ)) → FunctionsLocal o o' → (v : Option (List ℕ → values.Act ℕ)) → FunctionRises v → (words : List ℕ) → Local may m n P (either o v words) (either o' v words)
+  either_local (Some f) (Some g) h v r words = h words
+  either_local (Some f) None h v r words = absurd h
+  either_local None (Some g) h v r words = absurd h
+  either_local None None h (Some f) r words = lift_local may m n P (f words) (λ q. r words)
+  either_local None None h None r words = fails_local may m n P _
 
   module _ (opener opener' : Opener) (opens : OpenersLocal may m n P opener opener') where
     rule_local : (i : HostImport) → RowsLocal (arguments_of i) (world_rule (free header) opener i) (world_rule (held may header) opener' i)
@@ -84,7 +86,7 @@ module _ (may : Judge) (m n : LedgerMap) (P : Watch) (sound : Sound may) (header
     of_row_local : (o : Option Row) (words : List ℕ) → Local may m n P (of_row (free header) opener o words) (of_row (held may header) opener' o words)
     of_row_local None words = fails_local may m n P _
     of_row_local (Some row) words =
-        either_local (world_function (free header) opener row.import) (world_function (held may header) opener' row.import) (mapped_local (arguments_of row.import) _ _ (rule_local row.import)) (value_function row.import) words
+        either_local (world_function (free header) opener row.import) (world_function (held may header) opener' row.import) (mapped_local (arguments_of row.import) _ _ (rule_local row.import)) (value_function row.import) (function_rises row.import) words
 
     host_local : (x : Module) → HostsLocal may m n P (host_of (free header) opener x) (host_of (held may header) opener' x)
     host_local x f words = of_row_local (row_at x f) words
@@ -139,3 +141,6 @@ module _ (may : Judge) (m n : LedgerMap) (P : Watch) (sound : Sound may) (header
 
   pub done_fine : (work : Work) (w : World) → Fine P w.entries → Leaves may P (done_under all_allowed header work w)
   done_fine work w f = (done_local work).fine w f
+
+  pub frames_rise : (room : ℕ) (e : Entered) → P.sums → (w : World) → IsLater w.meter (world_of (framed (free header) (host_of (free header) (opener_of (free header) room)) e w)).meter
+  frames_rise room e q w = (openers_local (suc room) e).later q w

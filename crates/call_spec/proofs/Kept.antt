@@ -18,7 +18,7 @@ use Rattle.call_spec.proofs.Accesses.{Fair, IsFineAt}
 use Rattle.call_spec.proofs.HostFunctions.{run_fine, done_fine}
 
 abbrev well_kept : Header → Watch
-well_kept header = record { number = header.seq + 1; is = IsWellKept }
+well_kept header = record { number = header.seq + 1; is = IsWellKept; sums = Unit {0} }
 
 -- ---- lives
 

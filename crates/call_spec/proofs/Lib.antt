@@ -1,3 +1,5 @@
+pub mod Sums
+pub mod Cuts
 pub mod Acts
 pub mod Accesses
 pub mod Frames
@@ -10,6 +12,7 @@ pub mod Each
 pub mod Written
 pub mod Kept
 pub mod Archives
+pub mod Growing
 pub mod Folding
 pub mod Changed
 mod Ran

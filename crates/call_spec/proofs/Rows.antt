@@ -53,6 +53,8 @@ use Rattle.call_spec.specs.Creating.{CONSTRUCTOR, new_instance, is_there, puts_c
 use Rattle.call_spec.specs.Laws.{IsExtended}
 use Rattle.call_spec.proofs.Acts.{Sound, Watch, Local, Besides, good_local, fails_local, after_local, where_local, if_local, with_local, frame_local, sets_local, begins_local, lift_local, paying_local}
 use Rattle.call_spec.proofs.Accesses.{free, held, IsFineAt, Puts, PutsFound, Fair, Still, Gentle, GentleUnless, access_local}
+use Rattle.wasm_machine.proofs.Spends.{same}
+use Rattle.call_spec.proofs.Sums.{dispatched_rises, given_rises}
 use Rattle.call_spec.proofs.Frames.{OpenersLocal, opener_local, catching_local}
 
 -- ---- the shape of all rows
@@ -87,8 +89,8 @@ module _ (may : Judge) (m n : LedgerMap) (P : Watch) where
   pub call_of_local : (ks : List ArgKind) (rule rule' : Rule ks) → RulesLocal ks rule rule' → (words : List ℕ) → Local may m n P (call_of ks rule words) (call_of ks rule' words)
   call_of_local ks rule rule' h words =
       after_local may m n P (answered ks rule words) (answered ks rule' words) (λ a. lift (given a)) (λ a. lift (given a))
-      (frame_local may m n P _ _ (λ f. charged_local (lift (dispatched (tagged_words ks words))) (lift_local may m n P (dispatched (tagged_words ks words))) _ _ (applied_local ks rule rule' h words f.shown)))
-      (λ a. lift_local may m n P (given a))
+      (frame_local may m n P _ _ (λ f. charged_local (lift (dispatched (tagged_words ks words))) (lift_local may m n P (dispatched (tagged_words ks words)) (λ q. dispatched_rises (tagged_words ks words))) _ _ (applied_local ks rule rule' h words f.shown)))
+      (λ a. lift_local may m n P (given a) (λ q. given_rises a))
 
   returning_local : {A : Type 0} (act act' : Act A) (view : A → Datum) → Local may m n P act act' → Local may m n P (returning act view) (returning act' view)
   returning_local act act' view h = after_local may m n P act act' _ _ h (λ a. good_local may m n P _)
@@ -106,7 +108,7 @@ code_besides code = record { apart = λ w q. refl; map = λ w. refl; trace = λ 
 
 module _ (may : Judge) (m n : LedgerMap) (P : Watch) where
   emits_local : (event : ContractEvent) → Local may m n P (emits event) (emits event)
-  emits_local event = paying_local may m n P _ _ _ _ (sets_local may m n P (with_event event) _ (event_besides event))
+  emits_local event = paying_local may m n P _ _ _ _ (sets_local may m n P (with_event event) _ (event_besides event) (λ q w. same w.meter))
 
   pub contract_event_local : (topics : List Datum) (content : Datum) → Local may m n P (contract_event topics content) (contract_event topics content)
   contract_event_local topics content = frame_local may m n P _ _ (λ f. emits_local _)
@@ -119,7 +121,7 @@ module _ (may : Judge) (m n : LedgerMap) (P : Watch) where
   frame_answer_local look = frame_local may m n P _ _ (λ f. good_local may m n P (look f))
 
   copy_put_local : (key val : Datum) → Local may m n P (put_in_copy key val) (put_in_copy key val)
-  copy_put_local key val = frame_local may m n P _ _ (λ f. where_local may m n P _ _ _ _ (sets_local may m n P _ _ (storage_besides _)))
+  copy_put_local key val = frame_local may m n P _ _ (λ f. where_local may m n P _ _ _ _ (sets_local may m n P _ _ (storage_besides _) (λ q w. same w.meter)))
 
   copy_found_local : (o : Option Datum) → Local may m n P (found_in_copy o) (found_in_copy o)
   copy_found_local None = fails_local may m n P _
@@ -129,7 +131,7 @@ module _ (may : Judge) (m n : LedgerMap) (P : Watch) where
   copy_get_local key = frame_local may m n P (λ f. found_in_copy (value_at key (members f.copy.storage))) (λ f. found_in_copy (value_at key (members f.copy.storage))) (λ f. copy_found_local (value_at key (members f.copy.storage)))
 
   copy_del_local : (key : Datum) → Local may m n P (del_in_copy key) (del_in_copy key)
-  copy_del_local key = frame_local may m n P _ _ (λ f. sets_local may m n P _ _ (storage_besides _))
+  copy_del_local key = frame_local may m n P _ _ (λ f. sets_local may m n P _ _ (storage_besides _) (λ q w. same w.meter))
 
   storage_local : {A : Type 0} (kind : ℕ) (in_ledger in_ledger' : Durability → Act A) (in_copy : Act A) → ((d : Durability) → Local may m n P (in_ledger d) (in_ledger' d)) → Local may m n P in_copy in_copy
       → Local may m n P (by_storage kind in_ledger in_copy) (by_storage kind in_ledger' in_copy)
@@ -314,7 +316,7 @@ module _ (may : Judge) (m n : LedgerMap) (P : Watch) (sound : Sound may) (header
 
   pub update_local : (code : List ℕ) → Local may m n P (update_current_contract_wasm (free header) code) (update_current_contract_wasm (held may header) code)
   update_local code = hash_local may m n P code _ _ (λ h. after_local may m n P _ _ _ _ (code_at_local h) (λ _. frame_local may m n P _ _ (λ f.
-      after_local may m n P _ _ (λ _. sets (with_code h) nothing) (λ _. sets (with_code h) nothing) (emits_local may m n P (update_event f.contract f.copy.code h)) (λ _. sets_local may m n P (with_code h) nothing (code_besides h)))))
+      after_local may m n P _ _ (λ _. sets (with_code h) nothing) (λ _. sets (with_code h) nothing) (emits_local may m n P (update_event f.contract f.copy.code h)) (λ _. sets_local may m n P (with_code h) nothing (code_besides h) (λ q w. same w.meter)))))
 
   pub id_local : (deployer : ScAddress) (salt : List ℕ) → Local may m n P (get_contract_id (free header) deployer salt) (get_contract_id (held may header) deployer salt)
   id_local deployer salt = hash_local may m n P salt _ _ (λ h.

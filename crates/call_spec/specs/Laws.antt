@@ -13,12 +13,13 @@ use Rattle.ledger_spec.specs.declared.Kept.{Kept}
 use Rattle.ledger_spec.specs.LedgerMap.{LedgerMap, key_bytes, HasCodeHash}
 use Rattle.stage_runs.specs.Maps.{AgreeOn, has_bytes}
 use Rattle.host_interface.specs.declared.import.HostImport.{HostImport}
+use Rattle.wasm_machine.specs.Spending.{IsLater}
 use Rattle.host_spec.specs.ValueFunctions.{value_rule}
 use Rattle.call_spec.specs.World.{AccessKind, Read, Extend, Write, Judge, Access, World, Env, next_seq}
 use Rattle.call_spec.specs.Acts.{Archived, Out, Good, Bad, Undeclared, world_of}
 use Rattle.call_spec.specs.Footprints.{by_footprint, first_rejected, up_to}
-use Rattle.call_spec.specs.Frames.{Opener}
-use Rattle.call_spec.specs.HostFunctions.{world_rule}
+use Rattle.call_spec.specs.Frames.{Entered, framed, Opener}
+use Rattle.call_spec.specs.HostFunctions.{world_rule, host_of, opener_of}
 use Rattle.call_spec.specs.WholeRuns.{Work, all_allowed, done_under, whole, run_under}
 use Rattle.call_spec.specs.Invoked.{declares_archived, Invoked, invoked}
 
@@ -180,3 +181,11 @@ FrameLaw = (header : Header) (resources : SorobanData) (function : HostFunction)
 -- Each function of the host interface acts on the world or on values alone.
 abbrev pub EachHasRule : Type 0
 EachHasRule = (env : Env) (opener : Opener) (i : HostImport) → is_some (world_rule env opener i) ≡ not (is_some (value_rule i))
+
+-- ---- the sums of the budget
+
+-- However a frame's run ends, no sum of the budget is lower then, for every number of frames that may still be open.
+abbrev pub SumsGrowLaw : Type 0
+SumsGrowLaw = (header : Header) (room : ℕ) (e : Entered) (w : World)
+    → (let env : Env = record { header = header; judge = all_allowed } in
+    IsLater w.meter (world_of (framed env (host_of env (opener_of env room)) e w)).meter)

@@ -3,7 +3,7 @@
 ghost use Rattle.host_spec.specs.Answers.{Answer};
 ghost use Rattle.call_spec.specs.Changed.{PutLaw, DeleteLaw, MakeLaw, ExtendLaw};
 ghost use Rattle.call_spec.specs.Folding.{FoldLaw};
-ghost use Rattle.call_spec.specs.Laws.{LocalLaw, LocalFromLaw, StopLaw, EndToEndLaw, WrittenLaw, ReadOnlyLaw, KeptLaw, KeptFromLaw, NeverArchivedLaw, FrameLaw, EachHasRule};
+ghost use Rattle.call_spec.specs.Laws.{LocalLaw, LocalFromLaw, StopLaw, EndToEndLaw, WrittenLaw, ReadOnlyLaw, KeptLaw, KeptFromLaw, NeverArchivedLaw, SumsGrowLaw, FrameLaw, EachHasRule};
 
 /// What a run does depends on the entries at declared keys alone, up to its first undeclared access.
 pub fn runs_are_local()
@@ -28,6 +28,11 @@ pub fn runs_keep_entries_well()
 /// A run whose accesses are all declared meets no archived entry, if no declared key is archived.
 pub fn runs_meet_no_archived_entry()
     ensures { NeverArchivedLaw }
+{}
+
+/// A frame's run lowers no sum of the budget, whatever it calls.
+pub fn frames_lower_no_sums()
+    ensures { SumsGrowLaw }
 {}
 
 /// What becomes of an operation depends on the entries at its declared keys alone. All other entries stay as they were.

@@ -5,7 +5,7 @@
 mod laws;
 
 pub use laws::{
-    accesses_change_the_map, functions_have_rules, operations_are_framed, runs_are_local,
-    runs_fold, runs_keep_entries_well, runs_keep_what_they_do_not_write,
+    accesses_change_the_map, frames_lower_no_sums, functions_have_rules, operations_are_framed,
+    runs_are_local, runs_fold, runs_keep_entries_well, runs_keep_what_they_do_not_write,
     runs_meet_no_archived_entry,
 };
