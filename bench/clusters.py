@@ -1,27 +1,68 @@
 #!/usr/bin/env python3
-"""Applies sets of many transactions in one cluster, each of which lets an entry of its own live longer, and prints a row
-for each: transactions, bytes of set and ledger, seconds and peak memory.
+"""Applies sets in which each transaction extends the life of an entry of its own, in one cluster, and in stages of 512
+transactions in 8 clusters; and makes sets of as many transactions with `gen`. Prints a row for each: transactions, seconds and
+peak memory, the least of three runs.
 
 usage: bench/clusters.py PROGRAM (the built program of crates/soroban_cmd; it needs GNU time at /usr/bin/time)
 """
 
+import os
 import tempfile
 
 from ledgers import ledger, words
-from measure import measure_apply, program_argument
-from sets import transaction_set
+from measure import measure, measure_apply, program_argument
+from sets import transaction, transaction_set
+
+CLUSTER = 64
+STAGE = 8 * CLUSTER
+RUNS = 3
+
+
+def parts(numbers, size):
+    """The numbers in parts of this size; the last may be smaller."""
+    return [numbers[at : at + size] for at in range(0, len(numbers), size)]
+
+
+def stage(numbers):
+    """A stage of these transactions in clusters."""
+    clusters = parts(numbers, CLUSTER)
+    return words(len(clusters)) + b"".join(
+        words(len(cluster)) + b"".join(map(transaction, cluster)) for cluster in clusters
+    )
+
+
+def staged_set(count):
+    """A set of this many transactions in stages."""
+    stages = parts(range(count), STAGE)
+    return words(1) + bytes(32) + words(1, 1, 0, len(stages)) + b"".join(map(stage, stages))
+
+
+def measure_gen(program, folder, count):
+    """Seconds and peak memory in MiB of making a set of this many transactions."""
+    path = {name: os.path.join(folder, "made_" + name) for name in ("set", "ledger", "verdicts")}
+    return measure([
+        program, "gen", "--count", str(count), "--seed", "1",
+        "--set", path["set"], "--ledger", path["ledger"], "--verdicts", path["verdicts"],
+    ])
+
+
+def row(name, count, runs):
+    """Prints the least of these runs."""
+    seconds, memory = min(runs)
+    print(f"| {name} | {count:,} | {seconds:.3f} | {memory:.0f} MiB |")
 
 
 def main():
     program = program_argument(__doc__)
-    print("| transactions | set and ledger | seconds | peak memory |")
+    print("| what | transactions | seconds | peak memory |")
     print("|---|---|---|---|")
     with tempfile.TemporaryDirectory() as folder:
         for count in (1_000, 10_000, 100_000):
-            contents = {"set": transaction_set(count), "ledger": ledger(count), "verdicts": words(0)}
-            seconds, memory = measure_apply(program, folder, contents)
-            size = sum(map(len, contents.values())) / 2**20
-            print(f"| {count:,} | {size:.1f} MiB | {seconds:.3f} | {memory:.0f} MiB |")
+            entries = {"ledger": ledger(count), "verdicts": words(0)}
+            for name, made in (("one cluster", transaction_set), ("stages", staged_set)):
+                contents = {"set": made(count), **entries}
+                row(name, count, [measure_apply(program, folder, contents) for _ in range(RUNS)])
+            row("`gen`", count, [measure_gen(program, folder, count) for _ in range(RUNS)])
 
 
 if __name__ == "__main__":
