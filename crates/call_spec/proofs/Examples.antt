@@ -32,6 +32,7 @@ use Rattle.host_spec.specs.Acts.{charged}
 use Rattle.host_spec.specs.Answers.{value}
 use Rattle.host_spec.specs.Hosted.{size_of}
 use Rattle.host_spec.specs.Errors.{OTHER_TYPE}
+use Rattle.xdr_core.specs.Sizes.{capped}
 use Rattle.call_spec.specs.Acts.{Failed, Spent, Archived, Good, Bad, Undeclared, Act, fails}
 use Rattle.call_spec.specs.Errors.{NO_ENTRY, EXISTS, INVALID_EXTENSION, INVALID_STORAGE_INPUT, HIDDEN_ERROR, TOO_MANY_FRAMES, RESERVED_NAME, REENTERED, NO_FUNCTION, OTHER_SIZE}
 use Rattle.call_spec.specs.World.{Access, outside, World, Env}
@@ -112,15 +113,15 @@ kept-life = refl
 -- ---- sizes and charges
 
 data-size : entry_size (kept Persistent 5000).entry ≡ 76
-unfolding entry_size entry.entry_format entry.type_format entry.body_format contents.data_format lives.durability_format addresses.address_format addresses.type_format hashes.hash_format values.scval_format values.value_format format.number32 format.opaque
+unfolding entry_size entry.entry_format entry.type_format entry.body_format contents.data_format lives.durability_format addresses.address_format addresses.type_format hashes.hash_format values.scval_format values.value_format format.number32 format.opaque capped
 data-size = refl
 
 instance-size : entry_size (instance_entry 50 (hash 1) (record { code = hash 2; storage = None })) ≡ 104
-unfolding entry_size entry.entry_format entry.type_format entry.body_format contents.data_format lives.durability_format addresses.address_format addresses.type_format hashes.hash_format executables.executable_format executables.type_format values.scval_format values.value_format values.contract_instance_format values.members_format format.optional format.number32 format.opaque
+unfolding entry_size entry.entry_format entry.type_format entry.body_format contents.data_format lives.durability_format addresses.address_format addresses.type_format hashes.hash_format executables.executable_format executables.type_format values.scval_format values.value_format values.contract_instance_format values.members_format format.optional format.number32 format.opaque capped
 instance-size = refl
 
 code-size : entry_size (code_entry 50 (hash 2) (replicate 124 0)) ≡ 176
-unfolding entry_size entry.entry_format entry.type_format entry.body_format contents.code_format hashes.hash_format format.number32 format.opaque
+unfolding entry_size entry.entry_format entry.type_format entry.body_format contents.code_format hashes.hash_format format.number32 format.opaque capped
 code-size = refl
 
 -- a world with a budget, and nothing else
@@ -137,11 +138,11 @@ bare instructions used = record {
 
 -- a get is charged for the entry
 got : by_seen (data_key (hash 0) (symbol (codes "ab")) Persistent) gets (live (kept Persistent 5000)) (bare 1000 10) ≡ Good (value (u32 0)) (bare 1000 86)
-unfolding entry_size entry.entry_format entry.type_format entry.body_format contents.data_format lives.durability_format addresses.address_format addresses.type_format hashes.hash_format values.scval_format values.value_format format.number32 format.opaque charged size_of
+unfolding entry_size entry.entry_format entry.type_format entry.body_format contents.data_format lives.durability_format addresses.address_format addresses.type_format hashes.hash_format values.scval_format values.value_format format.number32 format.opaque charged size_of capped
 got = refl
 
 spent : by_seen (data_key (hash 0) (symbol (codes "ab")) Persistent) gets (live (kept Persistent 5000)) (bare 85 10) ≡ Bad Spent (bare 85 10)
-unfolding entry_size entry.entry_format entry.type_format entry.body_format contents.data_format lives.durability_format addresses.address_format addresses.type_format hashes.hash_format values.scval_format values.value_format format.number32 format.opaque charged size_of
+unfolding entry_size entry.entry_format entry.type_format entry.body_format contents.data_format lives.durability_format addresses.address_format addresses.type_format hashes.hash_format values.scval_format values.value_format format.number32 format.opaque charged size_of capped
 spent = refl
 
 -- neither an absent entry nor an archived one is charged
@@ -157,7 +158,7 @@ exists = refl
 
 -- a new instance is charged before it is written
 made-spent : by_seen (instance_key (hash 1)) (makes_instance env (hash 1) (hash 2)) absent (bare 113 10) ≡ Bad Spent (bare 113 10)
-unfolding entry_size entry.entry_format entry.type_format entry.body_format contents.data_format lives.durability_format addresses.address_format addresses.type_format hashes.hash_format executables.executable_format executables.type_format values.scval_format values.value_format values.contract_instance_format values.members_format format.optional format.number32 format.opaque charged
+unfolding entry_size entry.entry_format entry.type_format entry.body_format contents.data_format lives.durability_format addresses.address_format addresses.type_format hashes.hash_format executables.executable_format executables.type_format values.scval_format values.value_format values.contract_instance_format values.members_format format.optional format.number32 format.opaque charged capped
 made-spent = refl
 
 -- ---- calls

@@ -1,6 +1,7 @@
 -- Accesses of ledger keys (own, after CAP-0046-05 and CAP-0046-12). Nothing else reads or changes the ledger's entries, but for a caught failure,
 -- which puts them back.
 use Rattle.std.specs.Prelude.{ℕ, ◌∷◌, length, Bool, true, false, Option, Some, None}
+use Rattle.xdr_core.specs.Sizes.{capped}
 use Rattle.budget_meter.specs.declared.kind.Kind.{Kind}
 use Rattle.budget_meter.specs.declared.kind.Kind.TheVariants.{ValSer}
 use Rattle.value_types.specs.declared.error.ScError.{ScError}
@@ -58,9 +59,9 @@ access env kind key effect = judged (env.judge kind (key_bytes key)) (made_seq e
 
 -- ---- writes
 
--- the bytes of an entry
+-- the bytes of an entry, or 2^64 - 1 if there are more
 unfoldable pub entry_size : LedgerEntry → ℕ
-entry_size entry = length (entry_format.spell entry)
+entry_size entry = capped (length (entry_format.spell entry))
 
 -- what a put leaves: a live entry keeps its live-until ledger, a new one gets its first
 abbrev pub put_kept : Settings → ℕ → LedgerEntry → Option Kept → Kept

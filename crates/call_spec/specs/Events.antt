@@ -1,5 +1,6 @@
 -- Module x: the frame's surroundings and events (own, after CAP-0046-03 and CAP-0046-08).
 use Rattle.std.specs.Prelude.{ℕ, ◌++◌, List, [], ◌∷◌, length, map, codes, Some}
+use Rattle.xdr_core.specs.Sizes.{capped}
 use Rattle.budget_meter.specs.declared.kind.Kind.TheVariants.{ValSer}
 use Rattle.value_types.specs.Datum.{Datum, u32, u64, bytes, symbol, vec, address, items_of}
 use Rattle.value_types.specs.Views.{scval}
@@ -28,9 +29,9 @@ event_of kind contract topics content = record {
   «data» = scval content;
 }
 
--- the bytes of an event
+-- the bytes of an event, or 2^64 - 1 if there are more
 unfoldable pub event_size : ContractEvent → ℕ
-event_size event = length (event_format.spell event)
+event_size event = capped (length (event_format.spell event))
 
 abbrev pub with_event : ContractEvent → World → World
 with_event event w = record w { events = w.events ++ event ∷ [] }

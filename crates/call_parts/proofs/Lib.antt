@@ -1,0 +1,8 @@
+pub mod Joining
+pub mod Reading
+pub mod Writing
+pub mod Entries
+pub mod InstanceLaws
+pub mod Payloads
+pub mod Stepping
+pub mod Bounds

@@ -1,0 +1,91 @@
+//! Accesses of the ledger's entries.
+
+ghost use Rattle.std.specs.Prelude.{◌≡◌, IfOk, IfErr};
+ghost use Rattle.host_spec.specs.declared.error.HostErr.TheVariants as ends;
+ghost use Rattle.ledger_types.specs.Key.{key_format};
+ghost use Rattle.ledger_types.specs.Entry.{entry_format, key_of};
+ghost use Rattle.ledger_spec.specs.LedgerMap.{HasCodeHash};
+ghost use Rattle.contract_storage.specs.Stored.{IsLater};
+ghost use Rattle.call_spec.specs.World.{Read, Write};
+ghost use Rattle.call_spec.specs.Accesses.{access, puts, entry_size};
+ghost use Rattle.call_spec.specs.Creating.{is_there};
+ghost use Rattle.host_ledger.specs.Accessed.{Accesses, end_of};
+ghost use Rattle.call_parts.specs.Steps.{Steps};
+
+use crate::charges::pay;
+use crate::errors::NO_ENTRY;
+use budget_meter::{Budget, Kind};
+use contract_storage::{StoErr, Storage};
+use entry_lookup::Ground;
+use host_spec::HostErr;
+use ledger_types::{LedgerEntry, LedgerKey};
+use value_xdr::Xdr;
+
+/// The end of a call of the storage with this key.
+pub(crate) fn end_of(key: LedgerKey, error: StoErr) -> HostErr
+    ensures { result ≡ end_of key error }
+{
+    match error {
+        StoErr::Undeclared => HostErr::Undeclared(key),
+        StoErr::Archived => HostErr::Archived(key),
+        StoErr::Missing => NO_ENTRY,
+        StoErr::BadExtend(error) => HostErr::Failed(error),
+        StoErr::NoMemory => HostErr::NoMemory,
+    }
+}
+
+/// The bytes of an entry.
+#[tactic(auto, unfolding(call_spec::specs::Accesses::entry_size))]
+pub(crate) fn size_of(entry: &LedgerEntry) -> u64
+    requires { entry_format.fits entry.now }
+    ensures { result ≡ entry_size entry.now }
+{
+    entry.size()
+}
+
+/// Whether there is a live entry at a key.
+pub(crate) fn is_there<G: Ground>(
+    storage: &mut Storage<'_, G>,
+    key: LedgerKey,
+) -> Result<bool, HostErr>
+    requires { key_format.fits key }
+    ensures does { Accesses result (λ there. there) (λ env. access env Read key is_there) storage.old storage.new }
+    ensures stays { storage.new ≡ storage.old }
+{
+    match storage.has(&key) {
+        Ok(there) => Ok(there),
+        Err(error) => Err(end_of(key, error)),
+    }
+}
+
+/// Clones a key. Its only error is memory.
+fn clone_key(key: &LedgerKey) -> Result<LedgerKey, HostErr>
+    ensures ok { IfOk result (λ k. k ≡ key.now) }
+    ensures memory { IfErr result (λ e. e ≡ ends.NoMemory) }
+{
+    match key.clone() {
+        Ok(key) => Ok(key),
+        Err(_) => Err(HostErr::NoMemory),
+    }
+}
+
+/// Puts an entry at its key. The charge for it comes after the put, which a run that the charge ends does not show.
+pub(crate) fn put<G: Ground>(
+    storage: &mut Storage<'_, G>,
+    budget: &mut Budget,
+    key: LedgerKey,
+    entry: LedgerEntry,
+) -> Result<(), HostErr>
+    requires key { key ≡ key_of entry }
+    requires fits { entry_format.fits entry }
+    requires hashed { HasCodeHash entry.data }
+    ensures does { Steps result (λ u. u) (λ env. access env Write key (puts env entry tt)) storage.old storage.new budget.old budget.new }
+    ensures later { IsLater storage.old storage.new }
+{
+    let size = size_of(&entry);
+    let again = clone_key(&key)?;
+    match storage.put(key, entry) {
+        Ok(()) => pay(budget, Kind::ValSer, size),
+        Err(error) => Err(end_of(again, error)),
+    }
+}

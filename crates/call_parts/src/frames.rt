@@ -1,0 +1,134 @@
+//! How a frame's run begins and ends.
+
+ghost use Rattle.std.specs.Prelude.{ℕ, List, [], ◌∷◌, ◌++◌, IfOk, Some};
+ghost use Rattle.budget_meter.specs.declared.kind.Kind.TheVariants as kinds;
+ghost use Rattle.value_types.specs.Views.{datum, datums};
+ghost use Rattle.host_spec.specs.Acts.{state, Says, then_do, gives as values_gives};
+ghost use Rattle.host_spec.specs.Answers.{given, value as given_value};
+ghost use Rattle.host_spec.specs.Hosted.{IsHosted, IsMade};
+ghost use Rattle.host_spec.specs.VecRows.{all_given};
+ghost use Rattle.host_spec.specs.Words.{meaning};
+ghost use Rattle.object_store.specs.Shown.{shown_of, AreIndices};
+ghost use Rattle.host_frame.specs.Made.{AreMade};
+ghost use Rattle.call_spec.specs.Acts.{gives, paying};
+ghost use Rattle.call_spec.specs.Frames.{paying_pages, returned_value as returned_of};
+ghost use Rattle.call_parts.specs.Steps.{Charges, Shows, Returns};
+
+use crate::charges::pay;
+use crate::errors::{HIDDEN_ERROR, INVALID_VALUE};
+use budget_meter::{Budget, Kind};
+use host_frame::{Answer, give};
+use host_spec::{HostErr, ValueErr};
+use object_store::{Objects, Shown, TakeErr};
+use tagged_val::Val;
+use value_types::{ScError, ScVal};
+use wasm_spec::{Module, ResizableLimits};
+
+/// The bytes of a page of a memory.
+const PAGE: u64 = 65_536;
+
+/// Charges for the first pages of a memory, if there is one.
+fn charge_pages(budget: &mut Budget, memories: &[ResizableLimits]) -> Result<(), HostErr>
+    ensures { Charges result (λ u. u) (paying_pages memories.now (gives tt)) budget.old budget.new }
+{
+    match memories {
+        [] => Ok(()),
+        [limits, ..] => pay(budget, Kind::MemAlloc, PAGE * u64::from(limits.min)),
+    }
+}
+
+/// Charges for the first pages of a module's memory, if it has one, and for a run of one of its functions.
+pub fn charge_run(budget: &mut Budget, module: &Module) -> Result<(), HostErr>
+    ensures { Charges result (λ u. u) (paying_pages «module».now.memories
+        (paying kinds.InvokeVmFunction 1 (gives tt))) budget.old budget.new }
+{
+    match charge_pages(budget, module.memories.as_slice()) {
+        Ok(()) => pay(budget, Kind::InvokeVmFunction, 1),
+        Err(error) => Err(error),
+    }
+}
+
+/// Shows one more value, and adds its word.
+fn give_next(
+    objects: &mut Objects,
+    shown: &mut Shown,
+    budget: &mut Budget,
+    mut words: Vec<u64>,
+    item: ScVal,
+) -> Result<Vec<u64>, ValueErr>
+    requires made { IsMade (datum item) }
+    requires indices { AreIndices objects.old shown.old }
+    ensures does { (memory : List ℕ) → Says result (λ after. after.items)
+        (then_do (given (given_value (datum item)) (state (shown_of objects.old shown.old) memory budget.old)) (λ word. values_gives (words.items ++ word ∷ [])))
+        (state (shown_of objects.new shown.new) memory budget.new) }
+    ensures indices { AreIndices objects.new shown.new }
+{
+    let word = give(objects, shown, budget, Answer::Value(item))?;
+    words.push(word)?;
+    Ok(words)
+}
+
+/// The words of values, in order.
+fn give_each(
+    objects: &mut Objects,
+    shown: &mut Shown,
+    budget: &mut Budget,
+    items: Vec<ScVal>,
+) -> Result<Vec<u64>, ValueErr>
+    requires made { AreMade (datums items.items) }
+    requires indices { AreIndices objects.old shown.old }
+    ensures does { (memory : List ℕ) → Says result (λ words. words.items)
+        (all_given (datums items.items) (state (shown_of objects.old shown.old) memory budget.old)) (state (shown_of objects.new shown.new) memory budget.new) }
+    ensures indices { AreIndices objects.new shown.new }
+{
+    let mut words = Vec::with_capacity(objects.allocator(), items.len())?;
+    for item in items {
+        words = give_next(objects, shown, budget, words, item)?;
+    }
+    Ok(words)
+}
+
+/// Shows the arguments of a call, one by one. Returns their words.
+pub fn show_args(
+    objects: &mut Objects,
+    shown: &mut Shown,
+    budget: &mut Budget,
+    args: Vec<ScVal>,
+) -> Result<Vec<u64>, HostErr>
+    requires made { AreMade (datums args.items) }
+    requires indices { AreIndices objects.old shown.old }
+    ensures does { Shows result (λ words. words.items) (all_given (datums args.items))
+        (shown_of objects.old shown.old) (shown_of objects.new shown.new) budget.old budget.new }
+    ensures indices { AreIndices objects.new shown.new }
+{
+    match give_each(objects, shown, budget, args) {
+        Ok(words) => Ok(words),
+        Err(error) => Err(HostErr::from(error)),
+    }
+}
+
+/// The value of a word that has a meaning: an error fails the frame.
+fn judged(value: ScVal) -> Result<ScVal, HostErr>
+    requires { IsHosted (datum value) }
+    ensures does { Returns result (λ v. datum v) (returned_of (Some (datum value))) }
+    ensures hosted { IfOk result (λ v. IsHosted (datum v)) }
+{
+    match value {
+        ScVal::Error(ScError::Contract(code)) => Err(HostErr::Failed(ScError::Contract(code))),
+        ScVal::Error(_) => Err(HIDDEN_ERROR),
+        value => Ok(value),
+    }
+}
+
+/// The value that a function's word returns: an error fails the frame, and a word without meaning too.
+pub fn returned_value(objects: &Objects, shown: &Shown, word: u64) -> Result<ScVal, HostErr>
+    requires { AreIndices objects.now shown.now }
+    ensures does { Returns result (λ v. datum v) (returned_of (meaning (shown_of objects.now shown.now) word)) }
+    ensures hosted { IfOk result (λ v. IsHosted (datum v)) }
+{
+    match objects.take(shown, Val(word)) {
+        Ok(value) => judged(value),
+        Err(TakeErr::Bad) => Err(INVALID_VALUE),
+        Err(TakeErr::NoMemory) => Err(HostErr::NoMemory),
+    }
+}

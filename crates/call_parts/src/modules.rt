@@ -1,0 +1,114 @@
+//! The modules of codes, and the starts of their functions.
+
+ghost use Rattle.std.specs.Prelude.{◌≡◌, length, IfOk, IfErr};
+ghost use Rattle.budget_meter.specs.declared.kind.Kind.TheVariants as kinds;
+ghost use Rattle.module_loader.specs.Loading.{module_of};
+ghost use Rattle.host_spec.specs.declared.error.HostErr.TheVariants as ends;
+ghost use Rattle.call_spec.specs.Acts.{after, gives, paying};
+ghost use Rattle.call_spec.specs.Found.{code_at, with_module};
+ghost use Rattle.call_parts.specs.Steps.{Steps, Charges, Returns};
+ghost use Rattle.call_parts.specs.Started.{IsStarted};
+
+use crate::charges::pay;
+use crate::codes::find_code;
+use crate::errors::{NO_FUNCTION, NO_MODULE, OTHER_ARITY, SEGMENT_OUTSIDE};
+use budget_meter::{Budget, Kind};
+use contract_storage::Storage;
+use entry_lookup::Ground;
+use host_spec::HostErr;
+use module_loader::{LinkedModule, LoadErr, load};
+use std::alloc::Global;
+use value_types::Hash;
+use wasm_run::{Instance, StartErr};
+
+/// Loads the valid, linked module that a code encodes, if it encodes one. Its only error is memory.
+pub fn load_module(alloc: Global, code: &[u8]) -> Result<Option<LinkedModule>, HostErr>
+    ensures ok { IfOk result (λ m. module_of code.now ≡ m) }
+    ensures memory { IfErr result (λ e. e ≡ ends.NoMemory) }
+{
+    match load(alloc, code) {
+        Ok(module) => Ok(Some(module)),
+        Err(LoadErr::Flawed(_)) => Ok(None),
+        Err(LoadErr::NoMemory) => Err(HostErr::NoMemory),
+    }
+}
+
+/// The module, if there is one.
+fn linked(module: Option<LinkedModule>) -> Result<LinkedModule, HostErr>
+    ensures { Returns result (λ m. m) (with_module «module» (λ m. gives m)) }
+{
+    match module {
+        Some(module) => Ok(module),
+        None => Err(NO_MODULE),
+    }
+}
+
+/// Charges for the module of a code of this length, and takes the module.
+pub fn paid_module(
+    budget: &mut Budget,
+    len: u64,
+    module: Option<LinkedModule>,
+) -> Result<LinkedModule, HostErr>
+    ensures { Charges result (λ m. m) (paying kinds.VmInstantiation len (with_module «module» (λ m. gives m))) budget.old budget.new }
+{
+    match pay(budget, Kind::VmInstantiation, len) {
+        Ok(()) => linked(module),
+        Err(error) => Err(error),
+    }
+}
+
+/// Loads the module of a code, which has to have one.
+fn loaded(alloc: Global, code: &[u8]) -> Result<LinkedModule, HostErr>
+    ensures { Returns result (λ m. m) (with_module (module_of code.now) (λ m. gives m)) }
+{
+    match load_module(alloc, code) {
+        Ok(module) => linked(module),
+        Err(error) => Err(error),
+    }
+}
+
+/// Charges for the module of a code, and loads it.
+fn read_module(alloc: Global, budget: &mut Budget, code: &[u8]) -> Result<LinkedModule, HostErr>
+    ensures { Charges result (λ m. m) (paying kinds.VmInstantiation (length code.now)
+        (with_module (module_of code.now) (λ m. gives m))) budget.old budget.new }
+{
+    match pay(budget, Kind::VmInstantiation, code.len() as u64) {
+        Ok(()) => loaded(alloc, code),
+        Err(error) => Err(error),
+    }
+}
+
+/// Finds the code with a hash, and loads its module. The charge comes before the code is read.
+pub fn call_module<G: Ground>(
+    alloc: Global,
+    storage: &Storage<'_, G>,
+    budget: &mut Budget,
+    hash: Hash,
+) -> Result<LinkedModule, HostErr>
+    ensures { Steps result (λ m. m) (λ env. after (code_at env hash)
+        (λ code. paying kinds.VmInstantiation (length code) (with_module (module_of code) (λ m. gives m))))
+        storage.now storage.now budget.old budget.new }
+{
+    match find_code(storage, hash) {
+        Ok(code) => read_module(alloc, budget, code),
+        Err(error) => Err(error),
+    }
+}
+
+/// Makes an instance of a module for a call of a function with `arity` arguments.
+pub fn start_instance<'m>(
+    alloc: Global,
+    module: &'m LinkedModule,
+    function: &[u8],
+    arity: usize,
+) -> Result<Instance<'m>, HostErr>
+    ensures { IsStarted «module».now function.now arity result }
+{
+    match Instance::new(alloc, module.valid(), function, arity) {
+        Ok(instance) => Ok(instance),
+        Err(StartErr::Missing) => Err(NO_FUNCTION),
+        Err(StartErr::WrongArity) => Err(OTHER_ARITY),
+        Err(StartErr::Segment) => Err(SEGMENT_OUTSIDE),
+        Err(StartErr::NoMemory) => Err(HostErr::NoMemory),
+    }
+}

@@ -1,0 +1,160 @@
+-- Creates: the contract that is made, and the call of its constructor.
+use Rattle.std.proofs.Common.{◌≡◌, ℕ, ◌-◌, ◌≢◌, List, [], ◌∷◌, ◌++◌, length, is_some, true, Option, Some, None, Result, Ok, Err, refl, sym, ap, ◌∙◌, subst}
+use Rattle.std.specs.Option.{option_map, unwrap_or}
+use Rattle.value_types.specs.Datum.{Datum}
+use Rattle.value_types.specs.Views.{datum}
+use Rattle.value_types.specs.declared.hash.Hash.{Hash}
+use Rattle.value_types.specs.declared.value.ScVal.{ScVal}
+use Rattle.value_types.specs.declared.address.ScAddress.{ScAddress}
+use Rattle.wasm_spec.specs.declared.module.Module.{Module}
+use Rattle.wasm_spec.specs.Stores.{Store}
+use Rattle.wasm_spec.specs.Instances.{Start, Missing, WrongArity, Segment, Ready, start_of, function_named}
+use Rattle.host_spec.specs.Errors.{OTHER_TYPE}
+use Rattle.host_spec.specs.declared.error.HostErr.{HostErr}
+use Rattle.call_parts.specs.Steps.{Returns}
+use Rattle.call_spec.specs.World.{Copied, World, Env}
+use Rattle.call_spec.specs.Acts.{Act, then_do, after, gives, only_where, begins}
+use Rattle.call_spec.specs.Creating.{Creation, id_of, CONSTRUCTOR, is_void, constructs, constructs_if, new_instance, creates}
+use Rattle.call_spec.specs.Found.{with_start}
+use Rattle.call_spec.specs.Frames.{Entered, Opener, framed}
+use Rattle.call_spec.specs.HostFunctions.{host_of, opener_of}
+use Rattle.call_spec.specs.Outcomes.{Says}
+use Rattle.host_ledger.specs.Answered.{any}
+use Rattle.host_ledger.specs.Worlds.{address_of, copied, IsEnv}
+use Rattle.host_ledger.specs.declared.state.InstanceCopy.{InstanceCopy}
+use Rattle.host_ledger.specs.declared.state.Running.{Running}
+use Rattle.contract_call.specs.Worlds.{world_around, resting, DoesAround, Stays}
+use Rattle.contract_call.specs.Running.{entered}
+use Rattle.contract_call.specs.Made.{making, constructing, new_id_of, if_void, IsConstructed}
+use Rattle.contract_call.specs.declared.host.Host.{Host}
+use Rattle.contract_call.specs.declared.creating.Created.{Created}
+use Rattle.contract_call.proofs.Calling.{env_later, around_on, around_stop, around_begins, around_same, start_same, opens}
+use Rattle.contract_call.proofs.Constructing.{creates_first, void_says}
+use Rattle.contract_call.proofs.Joining.{traced, keep_count}
+use Rattle.contract_call.proofs.Showing.{shown_as}
+use Rattle.contract_call.proofs.Splitting.{joined}
+
+-- a call that changes nothing
+pub returns_around : {A B G : Type 0} (r : Result A HostErr) (view : A → B) (act : Env → Act B) (old : Host G) → ((env : Env) → Returns r view (act env)) → DoesAround r view act old old
+returns_around r view act old h env is rest trace =
+    let w = world_around rest old trace in
+    shown_as (λ v t. world_around v old t) keep_count old.ledger.budget (λ _ _. refl) r view rest (act env w) (λ t. world_around rest old t) (λ t. refl) (traced r view (act env w) w (h env w))
+
+-- ---- the create
+
+same_id : {G : Type 0} (old mid : Host G) (c : Creation) (id : Hash) (env : Env) → Stays old mid → id ≡ new_id_of old.ledger.header.now c → IsEnv env mid.ledger → id ≡ id_of env c
+same_id old mid c id env stays is env_is = is ∙ ap (λ h. new_id_of h c) (sym (env_is.header ∙ stays.header))
+
+pub creates_does : {G : Type 0} (room : ℕ) (creator : Option ScAddress) (c : Creation) (m : Created) (r : Result Hash HostErr) (old mid new : Host G) → Stays old mid → m.id ≡ new_id_of old.ledger.header.now c
+    → ((path : List ℕ) → (let made : Result Created HostErr = Ok m in DoesAround made (λ x. x.module) (λ env. making env creator c path) old mid))
+    → ((path : List ℕ) → DoesAround r (λ id. id) (λ env. constructing (opener_of env room) creator m.id c path m.module) mid new)
+    → DoesAround r (λ id. id) (λ env. creates env (opener_of env room) creator c) old new
+creates_does room creator c m r old mid new stays is made built =
+    around_same r (λ id. id) (λ env. creates env (opener_of env room) creator c)
+    (λ env. begins (λ path. after (making env creator c path) (λ x. constructing (opener_of env room) creator (id_of env c) c path x))) old new (λ env w. creates_first env (opener_of env room) creator c w)
+    (around_begins r (λ id. id) (λ env path. after (making env creator c path) (λ x. constructing (opener_of env room) creator (id_of env c) c path x)) old new
+    (λ path. around_on m r (λ x. x.module) (λ id. id) (λ env. making env creator c path) (λ env x. constructing (opener_of env room) creator (id_of env c) c path x) old mid new (env_later old mid stays) (made path)
+    (λ env env_is rest trace. subst (λ (id : Hash). let out = constructing (opener_of env room) creator id c path m.module (world_around rest mid trace) in Says any r (λ x. x) out (world_around (resting rest out) new))
+    (same_id old mid c m.id env stays is env_is) (built path env env_is rest trace))))
+
+pub creates_refused : {G : Type 0} (room : ℕ) (creator : Option ScAddress) (c : Creation) (e : HostErr) (old new : Host G)
+    → ((path : List ℕ) → (let made : Result Created HostErr = Err e in DoesAround made (λ x. x.module) (λ env. making env creator c path) old new))
+    → (let r : Result Hash HostErr = Err e in DoesAround r (λ id. id) (λ env. creates env (opener_of env room) creator c) old new)
+creates_refused room creator c e old new made =
+    let r : Result Hash HostErr = Err e in
+    around_same r (λ id. id) (λ env. creates env (opener_of env room) creator c)
+    (λ env. begins (λ path. after (making env creator c path) (λ x. constructing (opener_of env room) creator (id_of env c) c path x))) old new (λ env w. creates_first env (opener_of env room) creator c w)
+    (around_begins r (λ id. id) (λ env path. after (making env creator c path) (λ x. constructing (opener_of env room) creator (id_of env c) c path x)) old new
+    (λ path. around_stop e (λ x. x.module) (λ id. id) (λ env. making env creator c path) (λ env x. constructing (opener_of env room) creator (id_of env c) c path x) old new (made path)))
+
+-- ---- the constructor
+
+start_then : {A B C : Type 0} (s : Start) (f : ℕ → Store → Act A) (h : A → Act B) (k : B → Act C) (w : World)
+    → then_do (with_start s (λ index store. after (f index store) h) w) k ≡ then_do (with_start s f w) (λ a. after (h a) k)
+start_then Missing f h k w = refl
+start_then WrongArity f h k w = refl
+start_then Segment f h k w = refl
+start_then (Ready index store) f h k w = joined (f index store w) h k
+
+-- what the constructor's value decides
+abbrev judging : Hash → Datum → Act Hash
+judging id d = after (only_where (is_void d) OTHER_TYPE (gives (tt {0}))) (λ _. gives id)
+
+with_function : (o : Option ℕ) (opener : Opener) (creator : Option ScAddress) (id code : Hash) (args : List Datum) (path : List ℕ) (m : Module) (enter : Entered → Act Datum) (w : World) → is_some o ≡ true
+    → opener ≡ Some enter → constructs_if o opener creator id code args path m w ≡ constructs enter creator id code args path m w
+with_function (Some index) opener creator id code args path m enter w some is = ap (λ x. constructs_if (Some index) x creator id code args path m w) is
+with_function None opener creator id code args path m enter w some is = cc
+
+abbrev built_frame : (Entered → Act Datum) → Option ScAddress → Hash → Hash → List Datum → List ℕ → Module → ℕ → Store → Act Datum
+built_frame enter creator id code args path m index store = enter (record {
+  contract = id;
+  caller = creator;
+  function = CONSTRUCTOR;
+  args = args;
+  instance = new_instance code;
+  path = path ++ 1 ∷ [];
+  module_ = m;
+  index = index;
+  store = store;
+})
+
+constructing_is : (env : Env) (room : ℕ) → room ≢ 0 → (creator : Option ScAddress) (id : Hash) (c : Creation) (args : List Datum) (path : List ℕ) (m : Module) (w : World) → args ≡ unwrap_or c.args []
+    → is_some (function_named CONSTRUCTOR m.exports) ≡ true
+    → constructing (opener_of env room) creator id c path m w
+    ≡ after (with_start (start_of m CONSTRUCTOR (length args)) (built_frame (framed env (host_of env (opener_of env (room - 1)))) creator id c.code args path m)) (judging id) w
+constructing_is env room h creator id c args path m w given some =
+    let enter = framed env (host_of env (opener_of env (room - 1))) in
+    ap (λ x. then_do (constructs_if (function_named CONSTRUCTOR m.exports) (opener_of env room) creator id c.code x path m w) (λ _. gives id)) (sym given)
+    ∙ ap (λ o. then_do o (λ _. gives id)) (with_function (function_named CONSTRUCTOR m.exports) (opener_of env room) creator id c.code args path m enter w some (opens env room h))
+    ∙ start_then (start_of m CONSTRUCTOR (length args)) (built_frame enter creator id c.code args path m) (λ d. only_where (is_void d) OTHER_TYPE (gives (tt {0}))) (λ _. gives id) w
+
+-- the constructor's frame
+built_is : (frame : Running) (creator : Option Hash) (id code : Hash) (copy : InstanceCopy) (args : List Datum) (path : List ℕ) (m : Module) (index : ℕ) (store : Store) → frame.contract ≡ id → frame.caller ≡ creator
+    → frame.copy ≡ copy → copied copy ≡ new_instance code
+    → (let e : Entered = record {
+      contract = id;
+      caller = option_map address_of creator;
+      function = CONSTRUCTOR;
+      args = args;
+      instance = new_instance code;
+      path = path;
+      module_ = m;
+      index = index;
+      store = store;
+    } in e ≡ entered frame CONSTRUCTOR args path m index store)
+built_is frame creator id code copy args path m index store at by is new =
+    let e : Hash → Option Hash → Copied → Entered = λ contract caller instance. record {
+      contract = contract;
+      caller = option_map address_of caller;
+      function = CONSTRUCTOR;
+      args = args;
+      instance = instance;
+      path = path;
+      module_ = m;
+      index = index;
+      store = store;
+    } in
+    ap (λ x. e x creator (new_instance code)) (sym at) ∙ ap (λ x. e frame.contract x (new_instance code)) (sym by) ∙ ap (e frame.contract frame.caller) (sym (ap copied is ∙ new))
+
+decides : {G : Type 0} (returned : Result ScVal HostErr) (id : Hash) (r : Result Hash HostErr) (act : Env → Act Datum) (old new : Host G) → ((env : Env) → IsEnv env old.ledger → IsEnv env new.ledger) → IsConstructed returned id r
+    → DoesAround returned datum act old new → DoesAround r (λ x. x) (λ env. after (act env) (judging id)) old new
+decides (Ok v) id r act old new later is does =
+    subst (λ x. DoesAround x (λ y. y) (λ env. after (act env) (judging id)) old new) (sym is)
+    (around_on v (if_void (is_void (datum v)) id) datum (λ y. y) act (λ env. judging id) old new new later does (returns_around (if_void (is_void (datum v)) id) (λ y. y) (λ env. judging id (datum v)) new (λ env. void_says (is_void (datum v)) id)))
+decides (Err e) id r act old new later is does =
+    subst (λ x. DoesAround x (λ y. y) (λ env. after (act env) (judging id)) old new) (sym is) (around_stop e datum (λ y. y) act (λ env. judging id) old new does)
+
+pub constructs_does : {G : Type 0} (room : ℕ) → room ≢ 0 → (creator : Option Hash) (id : Hash) (c : Creation) (copy : InstanceCopy) (frame : Running) (args : List Datum) (path : List ℕ) (m : Module) (returned : Result ScVal HostErr)
+    (r : Result Hash HostErr) (old new : Host G) → args ≡ unwrap_or c.args [] → is_some (function_named CONSTRUCTOR m.exports) ≡ true → frame.contract ≡ id → frame.caller ≡ creator → frame.copy ≡ copy
+    → copied copy ≡ new_instance c.code → Stays old new → IsConstructed returned id r
+    → DoesAround returned datum (λ env. with_start (start_of m CONSTRUCTOR (length args)) (λ index store. framed env (host_of env (opener_of env (room - 1))) (entered frame CONSTRUCTOR args (path ++ 1 ∷ []) m index store))) old new
+    → DoesAround r (λ x. x) (λ env. constructing (opener_of env room) (option_map address_of creator) id c path m) old new
+constructs_does room h creator id c copy frame args path m returned r old new given some at by is fresh stays constructed does =
+    let enter = λ (env : Env). framed env (host_of env (opener_of env (room - 1))) in
+    let built = λ (env : Env). built_frame (enter env) (option_map address_of creator) id c.code args path m in
+    around_same r (λ x. x) (λ env. constructing (opener_of env room) (option_map address_of creator) id c path m) (λ env. after (with_start (start_of m CONSTRUCTOR (length args)) (built env)) (judging id)) old new
+    (λ env w. constructing_is env room h (option_map address_of creator) id c args path m w given some)
+    (decides returned id r (λ env. with_start (start_of m CONSTRUCTOR (length args)) (built env)) old new (env_later old new stays) constructed
+    (around_same returned datum (λ env. with_start (start_of m CONSTRUCTOR (length args)) (built env))
+    (λ env. with_start (start_of m CONSTRUCTOR (length args)) (λ index store. enter env (entered frame CONSTRUCTOR args (path ++ 1 ∷ []) m index store))) old new
+    (λ env w. start_same (start_of m CONSTRUCTOR (length args)) _ _ w (λ index store. ap (enter env) (built_is frame creator id c.code copy args (path ++ 1 ∷ []) m index store at by is fresh))) does))

@@ -1,0 +1,173 @@
+-- How a work ends, beside its run over all entries of the ledger.
+use Rattle.std.proofs.Common.{◌≡◌, List, [], Bool, Option, Some, None, Result, Ok, Err, refl, sym, ap, ◌∙◌, subst}
+use Rattle.value_types.specs.Datum.{Datum}
+use Rattle.value_types.specs.declared.error.ScError.{ScError}
+use Rattle.ledger_types.specs.Key.{key_format}
+use Rattle.ledger_types.specs.declared.key.LedgerKey.{LedgerKey}
+use Rattle.ledger_types.specs.declared.header.Header.{Header}
+use Rattle.ledger_spec.specs.LedgerMap.{LedgerMap, key_bytes}
+use Rattle.tx_xdr.specs.declared.transaction.Footprint.{Footprint}
+use Rattle.host_spec.specs.declared.error.HostErr.{HostErr}
+use Rattle.host_spec.specs.declared.error.HostErr.TheVariants as ends
+use Rattle.contract_storage.specs.Footprint.{IsFootprint, allows}
+use Rattle.contract_storage.specs.declared.access.Access.TheVariants as accesses
+use Rattle.call_spec.specs.World.{AccessKind, Read, Extend, Write, Access, Judge, World, Env}
+use Rattle.call_spec.specs.Acts.{Failure, Failed, Spent, Archived, Out, Good, Bad, Undeclared, world_of}
+use Rattle.call_spec.specs.Calling.{undone}
+use Rattle.call_spec.specs.Footprints.{by_footprint, first_rejected}
+use Rattle.call_spec.specs.Laws.{Maps, AlikeWorlds, Stops}
+use Rattle.call_spec.specs.Outcomes.{Says}
+use Rattle.call_spec.specs.WholeRuns.{Work, all_allowed, done_under}
+use Rattle.call_spec.proofs.Stopping.{end_to_end_law}
+use Rattle.host_ledger.specs.Answered.{any}
+use Rattle.host_ledger.specs.Worlds.{kind_of}
+use Rattle.contract_call.specs.Ended.{IsEnd, EndsBy, Ends}
+use Rattle.contract_call.specs.Worlds.{world_around, resting, DoesAround, MayRun}
+use Rattle.contract_call.specs.declared.host.Host.{Host}
+
+-- ---- outcomes that differ
+
+bad_good : {x : Failure} {a : Datum} {v u : World} → Bad x v ≡ Good a u → ⊥
+bad_good p = cc
+
+bad_undeclared : {x : Failure} {a : Access} {v u : World} → (let o : Out Datum = Bad x v in o ≡ Undeclared a u) → ⊥
+bad_undeclared p = cc
+
+good_bad : {x : Failure} {a : Datum} {v u : World} → Good a v ≡ Bad x u → ⊥
+good_bad p = cc
+
+good_undeclared : {a : Datum} {b : Access} {v u : World} → Good a v ≡ Undeclared b u → ⊥
+good_undeclared p = cc
+
+undeclared_good : {a : Access} {b : Datum} {v u : World} → Undeclared a v ≡ Good b u → ⊥
+undeclared_good p = cc
+
+undeclared_bad : {a : Access} {x : Failure} {v u : World} → (let o : Out Datum = Undeclared a v in o ≡ Bad x u) → ⊥
+undeclared_bad p = cc
+
+same_access : {a b : Access} {v u : World} → (let o : Out Datum = Undeclared a v in o ≡ Undeclared b u) → a ≡ b
+same_access p = cc
+
+same_value : {a b : Datum} {v u : World} → Good a v ≡ Good b u → a ≡ b
+same_value p = cc
+
+same_failure : {x y : Failure} {v u : World} → (let o : Out Datum = Bad x v in o ≡ Bad y u) → x ≡ y
+same_failure p = cc
+
+same_error : {x y : ScError} → Failed x ≡ Failed y → x ≡ y
+same_error p = cc
+
+same_key : {x y : LedgerKey} → Archived x ≡ Archived y → x ≡ y
+same_key p = cc
+
+-- ---- an end at an access that is not declared
+
+-- how the program says the end
+abbrev Said : {A G : Type 0} → Result A HostErr → (A → Datum) → Out Datum → World → Host G → Type 0
+Said r view out rest new = Says any r view out (world_around (resting rest out) new)
+
+stopped : {A G : Type 0} (may : Judge) (m : LedgerMap) (a s : Access) (one : Out Datum) (v rest : World) (r : Result A HostErr) (view : A → Datum) (old new : Host G) → s ≡ a → v.meter.used ≡ a.used
+    → Said r view (Undeclared s v) rest new → EndsBy may m (Some a) one r view old new
+stopped may m a s one v rest (Ok x) view old new same used says = absurd (undeclared_good says.1)
+stopped may m a s one v rest (Err (ends.Failed e)) view old new same used says = absurd (undeclared_bad says.1)
+stopped may m a s one v rest (Err ends.Spent) view old new same used says = absurd (undeclared_bad says.1)
+stopped may m a s one v rest (Err (ends.Archived key)) view old new same used says = absurd (undeclared_bad says.1)
+stopped may m a s one v rest (Err (ends.Undeclared key)) view old new same used says =
+    (ap (λ (x : Access). x.key) (sym (same_access says.1) ∙ same), sym (ap (λ x. x.used) says.2) ∙ used)
+stopped may m a s one v rest (Err ends.NoMemory) view old new same used says = tt
+
+-- ---- ends of runs whose accesses are all declared
+
+good_end : {A G : Type 0} (may : Judge) (m : LedgerMap) (a b : Datum) (w v rest : World) (r : Result A HostErr) (view : A → Datum) (old new : Host G) → a ≡ b → AlikeWorlds may m old.ledger.storage.map w v
+    → Said r view (Good b v) rest new → IsEnd may m (Good a w) r view old new
+good_end may m a b w v rest (Ok x) view old new same alike says =
+    let is = ap world_of says.1 in (
+      same ∙ same_value says.1,
+      sym (ap (λ (u : World). u.meter) is) ∙ ap (λ (u : World). u.meter) alike.rest,
+      sym (ap (λ (u : World). u.events) is) ∙ ap (λ (u : World). u.events) alike.rest,
+      subst (λ (p : LedgerMap). Maps may m old.ledger.storage.map w.entries p) (ap (λ (u : World). u.entries) is) alike.maps,
+    )
+good_end may m a b w v rest (Err (ends.Failed e)) view old new same alike says = absurd (good_bad says.1)
+good_end may m a b w v rest (Err ends.Spent) view old new same alike says = absurd (good_bad says.1)
+good_end may m a b w v rest (Err (ends.Archived key)) view old new same alike says = absurd (good_bad says.1)
+good_end may m a b w v rest (Err (ends.Undeclared key)) view old new same alike says = absurd (good_undeclared says.1)
+good_end may m a b w v rest (Err ends.NoMemory) view old new same alike says = tt
+
+-- the entries and the events are as before
+record IsBefore {G : Type 0} (old : Host G) (v : World) : Type 0 where
+  pub entries : v.entries ≡ old.ledger.storage.map
+  pub events : v.events ≡ old.ledger.events
+
+abbrev BackAtFailure : {G : Type 0} → Host G → Out Datum → Type 0
+BackAtFailure old out = (e : ScError) (v : World) → out ≡ Bad (Failed e) v → IsBefore old v
+
+bad_end : {A G : Type 0} (may : Judge) (m : LedgerMap) (d : Failure) (w v rest : World) (r : Result A HostErr) (view : A → Datum) (old new : Host G) → v.meter ≡ w.meter → BackAtFailure old (Bad d v)
+    → Said r view (Bad d v) rest new → IsEnd may m (Bad d w) r view old new
+bad_end may m (Failed e) w v rest (Ok x) view old new paid back says = absurd (bad_good says.1)
+bad_end may m (Failed e) w v rest (Err (ends.Failed c)) view old new paid back says =
+    let is = ap world_of says.1 in
+    let same : Failed e ≡ Failed c = same_failure says.1 in
+    let before = back e v refl in
+    (sym (same_error same), sym (ap (λ (u : World). u.meter) is) ∙ paid, sym (ap (λ (u : World). u.events) is) ∙ before.events, sym (ap (λ (u : World). u.entries) is) ∙ before.entries)
+bad_end may m (Failed e) w v rest (Err ends.Spent) view old new paid back says = let p : Failed e ≡ Spent = same_failure says.1 in absurd cc
+bad_end may m (Failed e) w v rest (Err (ends.Archived key)) view old new paid back says = let p : Failed e ≡ Archived key = same_failure says.1 in absurd cc
+bad_end may m (Failed e) w v rest (Err (ends.Undeclared key)) view old new paid back says = absurd (bad_undeclared says.1)
+bad_end may m (Failed e) w v rest (Err ends.NoMemory) view old new paid back says = tt
+bad_end may m Spent w v rest (Ok x) view old new paid back says = absurd (bad_good says.1)
+bad_end may m Spent w v rest (Err (ends.Failed c)) view old new paid back says = let p : Spent ≡ Failed c = same_failure says.1 in absurd cc
+bad_end may m Spent w v rest (Err ends.Spent) view old new paid back says = sym says.2 ∙ paid
+bad_end may m Spent w v rest (Err (ends.Archived key)) view old new paid back says = let p : Spent ≡ Archived key = same_failure says.1 in absurd cc
+bad_end may m Spent w v rest (Err (ends.Undeclared key)) view old new paid back says = absurd (bad_undeclared says.1)
+bad_end may m Spent w v rest (Err ends.NoMemory) view old new paid back says = tt
+bad_end may m (Archived k) w v rest (Ok x) view old new paid back says = absurd (bad_good says.1)
+bad_end may m (Archived k) w v rest (Err (ends.Failed c)) view old new paid back says = let p : Archived k ≡ Failed c = same_failure says.1 in absurd cc
+bad_end may m (Archived k) w v rest (Err ends.Spent) view old new paid back says = let p : Archived k ≡ Spent = same_failure says.1 in absurd cc
+bad_end may m (Archived k) w v rest (Err (ends.Archived key)) view old new paid back says = (sym (same_key (same_failure says.1)), sym says.2 ∙ paid)
+bad_end may m (Archived k) w v rest (Err (ends.Undeclared key)) view old new paid back says = absurd (bad_undeclared says.1)
+bad_end may m (Archived k) w v rest (Err ends.NoMemory) view old new paid back says = tt
+
+ended : {A G : Type 0} (may : Judge) (m : LedgerMap) (x : Option Access) (one cut : Out Datum) (rest : World) (r : Result A HostErr) (view : A → Datum) (old new : Host G) → BackAtFailure old cut
+    → Stops may m old.ledger.storage.map x one cut → Said r view cut rest new → EndsBy may m x one r view old new
+ended may m (Some a) one (Undeclared s v) rest r view old new back stops says = stopped may m a s one v rest r view old new stops.0 stops.1 says
+ended may m (Some a) one (Good b v) rest r view old new back stops says = absurd stops
+ended may m (Some a) one (Bad e v) rest r view old new back stops says = absurd stops
+ended may m None (Good a w) (Good b v) rest r view old new back stops says = good_end may m a b w v rest r view old new stops.0 stops.1 says
+ended may m None (Good a w) (Bad e v) rest r view old new back stops says = absurd stops
+ended may m None (Good a w) (Undeclared s v) rest r view old new back stops says = absurd stops
+ended may m None (Bad d w) (Good b v) rest r view old new back stops says = absurd stops
+ended may m None (Bad d w) (Bad e v) rest r view old new back stops says =
+    let same = sym stops.0 in
+    bad_end may m d w v rest r view old new (ap (λ (u : World). u.meter) stops.1.rest) (subst (λ (x : Failure). BackAtFailure old (Bad x v)) same back) (subst (λ (x : Failure). Said r view (Bad x v) rest new) same says)
+ended may m None (Bad d w) (Undeclared s v) rest r view old new back stops says = absurd stops
+ended may m None (Undeclared s w) cut rest r view old new back stops says = absurd stops
+
+-- ---- the whole
+
+undone_back : {G : Type 0} (old : Host G) (w : World) → w.entries ≡ old.ledger.storage.map → w.events ≡ old.ledger.events → (out : Out Datum) → BackAtFailure old (undone w out)
+undone_back old w i j (Bad (Failed d) u) e v p = record { entries = sym (ap (λ o. (world_of o).entries) p) ∙ i; events = sym (ap (λ o. (world_of o).events) p) ∙ j }
+undone_back old w i j (Bad Spent u) e v p = let q : Spent ≡ Failed e = same_failure p in absurd cc
+undone_back old w i j (Bad (Archived key) u) e v p = let q : Archived key ≡ Failed e = same_failure p in absurd cc
+undone_back old w i j (Good a u) e v p = absurd (good_bad p)
+undone_back old w i j (Undeclared a u) e v p = absurd (undeclared_bad p)
+
+done_back : {G : Type 0} (old : Host G) (may : Judge) (header : Header) (work : Work) (rest : World) → BackAtFailure old (done_under may header work (world_around rest old []))
+unfolding done_under
+done_back old may header work rest = undone_back old (world_around rest old []) refl refl _
+
+judges : (footprint : Footprint) (declared : List (LedgerKey × Bool)) → IsFootprint footprint.read_only footprint.read_write declared → (kind : AccessKind) (key : LedgerKey) → key_format.fits key
+    → allows declared (kind_of kind) key ≡ by_footprint footprint kind (key_bytes key)
+judges footprint declared is Read key fits = is accesses.Read key fits
+judges footprint declared is Extend key fits = is accesses.Extend key fits
+judges footprint declared is Write key fits = is accesses.Write key fits
+
+pub ends_so : {A G : Type 0} (work : Work) (r : Result A HostErr) (view : A → Datum) (old new : Host G) → MayRun old → DoesAround r view (λ env. done_under env.judge env.header work) old new → Ends work r view old new
+ends_so work r view old new ready does footprint declared m agree rest =
+    let may = by_footprint footprint in
+    let env : Env = record { header = old.ledger.header.now; judge = may } in
+    let header = old.ledger.header.now in
+    let w = world_around rest old [] in
+    let start : World = record w { entries = m } in
+    let one = done_under all_allowed header work start in
+    ended may m (first_rejected may (world_of one).trace) one (done_under may header work w) rest r view old new (done_back old may header work rest)
+    (end_to_end_law header work footprint start old.ledger.storage.map agree refl)
+    (does env (record { header = refl; serves = record { number = ready.ledger.number; lives = ready.lives; judge = judges footprint old.ledger.storage.declared declared } }) rest [])

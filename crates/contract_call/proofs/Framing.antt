@@ -1,0 +1,95 @@
+-- Frames: opened, run, closed.
+use Rattle.std.proofs.Common.{◌≡◌, ℕ, List, Result, Ok, Err, refl, sym, ap, ◌∙◌, subst}
+use Rattle.value_types.specs.Datum.{Datum}
+use Rattle.value_types.specs.declared.value.ScVal.{ScVal}
+use Rattle.budget_meter.specs.declared.kind.Kind.TheVariants.{InvokeVmFunction}
+use Rattle.host_spec.specs.VecRows.{all_given}
+use Rattle.host_spec.specs.declared.error.HostErr.{HostErr}
+use Rattle.call_spec.specs.World.{Access, Copied, World, Env}
+use Rattle.call_spec.specs.Acts.{Act, Out, then_do, after, gives, lift, paying, world_of}
+use Rattle.call_spec.specs.Frames.{HostCalls, Entered, started, finished, runs_from, paying_pages}
+use Rattle.call_spec.specs.Outcomes.{Says, trace_of}
+use Rattle.host_ledger.specs.Answered.{any}
+use Rattle.host_ledger.specs.Worlds.{IsEnv}
+use Rattle.contract_call.specs.Worlds.{world_in, resting, ending, DoesIn, RunsIn}
+use Rattle.contract_call.specs.Running.{DoesFrom}
+use Rattle.contract_call.specs.Framed.{argument_words}
+use Rattle.contract_call.specs.declared.host.Host.{Host}
+use Rattle.contract_call.proofs.Beginning.{charges_first}
+use Rattle.contract_call.proofs.Joining.{Showing, Keeping, IsKeeping, stop, same_act, fails_as, as_fails, keep_both}
+use Rattle.contract_call.proofs.Showing.{shown_as}
+use Rattle.contract_call.proofs.Splitting.{joined}
+
+-- the act after an act that gave a value, at the rest that is left
+pub go_on_at : {A B C D : Type 0} (mid new : Showing) (keep : Keeping) → IsKeeping keep → (a : A) (r : Result C HostErr) (view : A → B) (other : C → D) (rest : World) (out : Out B) (next : B → Act D)
+    → (let given : Result A HostErr = Ok a in Says any given view out (mid (keep rest (world_of out))))
+    → (let at = keep rest (world_of out) in (trace : List Access) → Says any r other (next (view a) (mid at trace)) (new (keep at (world_of (next (view a) (mid at trace))))))
+    → Says any r other (then_do out next) (new (keep rest (world_of (then_do out next))))
+go_on_at mid new keep law a r view other rest out next p h =
+    let at = keep rest (world_of out) in
+    let two = next (view a) (mid at (trace_of out)) in
+    let e : then_do out next ≡ two = ap (λ o. then_do o next) p.1 in
+    subst (λ o. Says any r other o (new (keep rest (world_of o)))) (sym e) (subst (λ z. Says any r other two (new z)) (law rest (world_of out) (world_of two)) (h (trace_of out)))
+
+-- an act that leaves the memory as it was
+pub count_both : {A B G : Type 0} (r : Result A HostErr) (view : A → B) (rest : World) (out : Out B) (new : Host G) → Says any r view out (world_in (resting rest out) new) → Says any r view out (world_in (ending rest out) new)
+count_both r view rest out new p = shown_as (λ w t. world_in w new t) keep_both new.ledger.budget (λ _ _. refl) r view rest out (λ t. world_in (resting rest out) new t) (λ t. refl) p
+
+-- ---- the run of a frame's function
+
+started_first : (host : HostCalls) (e : Entered) (w : World) → started host e w ≡ then_do (argument_words e.module_.memories e.args w) (runs_from host e)
+started_first host e w =
+    let paid = paying_pages e.module_.memories (paying InvokeVmFunction 1 (gives (tt {0}))) w in
+    charges_first e.module_.memories (after (lift (all_given e.args)) (λ words. runs_from host e words)) w
+    ∙ sym (joined paid (λ _. lift (all_given e.args)) (runs_from host e))
+    ∙ ap (λ o. then_do o (runs_from host e)) (sym (charges_first e.module_.memories (lift (all_given e.args)) w))
+
+abbrev ends_so : Env → HostCalls → Entered → List ℕ → Act Datum
+ends_so env host e words u = then_do (runs_from host e words u) (finished env)
+
+frame_first : (env : Env) (host : HostCalls) (e : Entered) (w : World) → after (started host e) (finished env) w ≡ then_do (argument_words e.module_.memories e.args w) (ends_so env host e)
+frame_first env host e w = ap (λ o. then_do o (finished env)) (started_first host e w) ∙ joined (argument_words e.module_.memories e.args w) (runs_from host e) (finished env)
+
+module _ {G : Type 0} (host : Env → HostCalls) (e : Entered) (first : Copied) (old : Host G) where
+  -- its arguments were not shown
+  pub not_begun : (x : HostErr) (view : ScVal → Datum) {W : Type 0} (words : W → List ℕ) (h1 : Host G) → (let none : Result W HostErr = Err x in DoesIn none words (λ env. argument_words e.module_.memories e.args) old h1)
+      → (let r : Result ScVal HostErr = Err x in DoesFrom first r view (λ env. after (started (host env) e) (finished env)) old h1)
+  not_begun x view {W = W} words h1 begun env is rest trace same =
+      let w = world_in rest old trace in
+      let out = argument_words e.module_.memories e.args w in
+      let r : Result ScVal HostErr = Err x in
+      same_act (λ v t. world_in v h1 t) keep_both r view rest (after (started (host env) e) (finished env) w) (then_do out (ends_so env (host env) e)) (frame_first env (host env) e w)
+      (as_fails x view (then_do out (ends_so env (host env) e)) (λ t. world_in (keep_both rest (world_of (then_do out (ends_so env (host env) e)))) h1 t)
+      (stop (λ v t. world_in v h1 t) keep_both h1.ledger.budget (λ _ _. refl) x rest out (ends_so env (host env) e)
+      (fails_as x words out (λ t. world_in (keep_both rest (world_of out)) h1 t) (let none : Result W HostErr = Err x in count_both none words rest out h1 (begun env is rest trace)))))
+
+  module _ {W : Type 0} (given : W) (words : W → List ℕ) (h1 h2 : Host G) (begun : (let r : Result W HostErr = Ok given in DoesIn r words (λ env. argument_words e.module_.memories e.args) old h1))
+      (later : (env : Env) → IsEnv env old.ledger → IsEnv env h1.ledger) where
+    -- its code did not return
+    pub not_run : (x : HostErr) (view : ScVal → Datum) → (let none : Result ℕ HostErr = Err x in RunsIn none (λ word. word) (λ env. runs_from (host env) e (words given)) h1 h2)
+        → (let r : Result ScVal HostErr = Err x in DoesFrom first r view (λ env. after (started (host env) e) (finished env)) old h2)
+    not_run x view ran env is rest trace same =
+        let w = world_in rest old trace in
+        let out = argument_words e.module_.memories e.args w in
+        let r : Result ScVal HostErr = Err x in
+        same_act (λ v t. world_in v h2 t) keep_both r view rest (after (started (host env) e) (finished env) w) (then_do out (ends_so env (host env) e)) (frame_first env (host env) e w)
+        (go_on_at (λ v t. world_in v h1 t) (λ v t. world_in v h2 t) keep_both (λ _ _ _. refl) given r words view rest out (ends_so env (host env) e) (let some : Result W HostErr = Ok given in count_both some words rest out h1 (begun env is rest trace))
+        (λ t. let at = keep_both rest (world_of out) in
+        let ran_out = runs_from (host env) e (words given) (world_in at h1 t) in
+        as_fails x view (then_do ran_out (finished env)) (λ z. world_in (keep_both at (world_of (then_do ran_out (finished env)))) h2 z)
+        (stop (λ v z. world_in v h2 z) keep_both h2.ledger.budget (λ _ _. refl) x at ran_out (finished env)
+        (fails_as x (λ (n : ℕ). n) ran_out (λ z. world_in (keep_both at (world_of ran_out)) h2 z) (ran env (later env is) at t)))))
+
+    -- it ended
+    pub all_run : (word : ℕ) (r : Result ScVal HostErr) (view : ScVal → Datum) (h3 : Host G) → ((env : Env) → IsEnv env h1.ledger → IsEnv env h2.ledger)
+        → (let given-word : Result ℕ HostErr = Ok word in RunsIn given-word (λ n. n) (λ env. runs_from (host env) e (words given)) h1 h2)
+        → DoesFrom first r view (λ env. finished env word) h2 h3 → DoesFrom first r view (λ env. after (started (host env) e) (finished env)) old h3
+    all_run word r view h3 still ran ended env is rest trace same =
+        let w = world_in rest old trace in
+        let out = argument_words e.module_.memories e.args w in
+        same_act (λ v t. world_in v h3 t) keep_both r view rest (after (started (host env) e) (finished env) w) (then_do out (ends_so env (host env) e)) (frame_first env (host env) e w)
+        (go_on_at (λ v t. world_in v h1 t) (λ v t. world_in v h3 t) keep_both (λ _ _ _. refl) given r words view rest out (ends_so env (host env) e) (let some : Result W HostErr = Ok given in count_both some words rest out h1 (begun env is rest trace))
+        (λ t. let at = keep_both rest (world_of out) in
+        let ran_out = runs_from (host env) e (words given) (world_in at h1 t) in
+        go_on_at (λ v z. world_in v h2 z) (λ v z. world_in v h3 z) keep_both (λ _ _ _. refl) word r (λ (n : ℕ). n) view at ran_out (finished env) (ran env (later env is) at t)
+        (λ z. ended env (still env (later env is)) (keep_both at (world_of ran_out)) z same)))

@@ -1,0 +1,61 @@
+-- Parts of the state, lent.
+use Rattle.std.proofs.Common.{◌≡◌, [], Result, Ok, Err, refl, sym, subst, arith}
+use Rattle.std.proofs.lemmas.Grind.{common_steps}
+use Rattle.budget_meter.specs.Meter.{Meter}
+use Rattle.host_spec.specs.Answers.{Answer}
+use Rattle.host_spec.specs.declared.error.HostErr.{HostErr}
+use Rattle.host_spec.specs.declared.error.HostErr.TheVariants as ends
+use Rattle.object_store.specs.Shown.{shown_of}
+use Rattle.call_spec.specs.World.{Env}
+use Rattle.call_spec.specs.Acts.{Failed, Bad, Act}
+use Rattle.call_spec.specs.Outcomes.{trace_of}
+use Rattle.host_ledger.proofs.Rows.{later_same}
+use Rattle.contract_call.specs.Worlds.{world_in, resting, MayRun}
+use Rattle.contract_call.specs.Running.{StaysIn}
+use Rattle.contract_call.specs.Taken.{Takes, TakesIn}
+use Rattle.contract_call.specs.declared.host.Host.{Host}
+use Rattle.host_ledger.specs.declared.state.HostLedger.{HostLedger}
+
+-- the state with another budget
+abbrev pub paid : {G : Type 0} → HostLedger G → Meter → HostLedger G
+paid l m = record l { budget = m }
+
+abbrev pub around : {G : Type 0} → Host G → HostLedger G → Host G
+around h l = record h { ledger = l }
+
+stays_by : {G : Type 0} (old : Host G) (m : Meter) → MayRun old → StaysIn old (around old (paid old.ledger m))
+stays_by old m ready = record {
+  left = record {
+    header = refl;
+    storage = later_same old.ledger.storage old.ledger.storage refl;
+    events = ([], grind (arith, common_steps));
+    contract = refl;
+    caller = refl;
+    code = refl;
+  };
+  contracts = refl;
+  ready = record {
+    ledger = record { bounds = ready.ledger.bounds; number = ready.ledger.number; indices = ready.ledger.indices; copy = ready.ledger.copy };
+    lives = ready.lives;
+  };
+}
+
+pub stays_paid : {G : Type 0} (old : Host G) (new : HostLedger G) → MayRun old → new ≡ paid old.ledger new.budget → StaysIn old (around old new)
+stays_paid old new ready e = subst (λ l. StaysIn old (around old l)) (sym e) (stays_by old new.budget ready)
+
+pub stays_same : {G : Type 0} (old : Host G) → MayRun old → StaysIn old old
+stays_same old ready = stays_by old old.ledger.budget ready
+
+taken_by : {A G : Type 0} (r : Result A HostErr) (act : Env → Act Answer) (next : Env → A → Act Answer) (old : Host G) (m : Meter)
+    → ((env : Env) → Takes r (act env) (next env) (shown_of old.ledger.objects old.ledger.frame.shown) old.ledger.budget m) → TakesIn r act next old (around old (paid old.ledger m))
+taken_by (Ok a) act next old m h = λ env is rest trace. h env (world_in rest old trace) refl refl
+taken_by (Err (ends.Failed d)) act next old m h =
+    λ env is rest trace. (tt, subst (λ o. o ≡ Bad (Failed d) (world_in (resting rest o) (around old (paid old.ledger m)) (trace_of o))) (sym (h env (world_in rest old trace) refl refl).1) refl)
+taken_by (Err ends.Spent) act next old m h = λ env is rest trace. h env (world_in rest old trace) refl refl
+taken_by (Err (ends.Archived key)) act next old m h = λ env is rest trace. h env (world_in rest old trace) refl refl
+taken_by (Err (ends.Undeclared key)) act next old m h = λ env is rest trace. h env (world_in rest old trace) refl refl
+taken_by (Err ends.NoMemory) act next old m h = λ env is rest trace. tt
+
+pub taken_in : {A G : Type 0} (r : Result A HostErr) (act : Env → Act Answer) (next : Env → A → Act Answer) (old : Host G) (new : HostLedger G) → new ≡ paid old.ledger new.budget
+    → ((env : Env) → Takes r (act env) (next env) (shown_of old.ledger.objects old.ledger.frame.shown) old.ledger.budget new.budget) → TakesIn r act next old (around old new)
+taken_in r act next old new e h = subst (λ l. TakesIn r act next old (around old l)) (sym e) (taken_by r act next old new.budget h)

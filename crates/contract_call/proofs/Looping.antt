@@ -1,0 +1,263 @@
+-- The run of a frame's code, from one call of the host to the next.
+use Rattle.std.proofs.Common.{◌≡◌, ℕ, List, [], ◌++◌, length, take, drop, append_assoc, arith, Some, Result, Ok, Err, refl, sym, ap, ◌∙◌}
+use Rattle.std.proofs.lemmas.Grind.{common_steps}
+use Rattle.std.proofs.Math.Seq.{take-append_seam}
+use Rattle.std.specs.List.{refill}
+use Rattle.budget_meter.specs.Meter.{Meter}
+use Rattle.value_types.specs.declared.error.ScError.{ScError}
+use Rattle.value_types.specs.declared.error.ScError.TheVariants as errors
+use Rattle.wasm_spec.specs.declared.values.TrapKind.{TrapKind}
+use Rattle.wasm_spec.specs.declared.values.TrapKind.TheVariants.{Unreachable, OutOfBounds, Arithmetic, IndirectType, EmptyElement, CallDepth}
+use Rattle.wasm_spec.specs.declared.module.Module.{Module}
+use Rattle.wasm_spec.specs.Runs.{Run, Normal, Branch, Return, Trap, Spent as SpentRun, Stuck, Ask}
+use Rattle.wasm_run.specs.Suspended.{Suspended, Does, Awaits, Tells}
+use Rattle.wasm_run.specs.Traps as traps
+use Rattle.wasm_run.specs.declared.instance.Event.{Event}
+use Rattle.wasm_run.specs.declared.instance.Event.TheVariants as event
+use Rattle.host_interface.specs.Rows.{Row}
+use Rattle.module_loader.specs.Loading.{row_at}
+use Rattle.host_spec.specs.declared.error.HostErr.{HostErr}
+use Rattle.host_spec.specs.declared.error.HostErr.TheVariants as ends
+use Rattle.call_spec.specs.World.{Access, World, Env}
+use Rattle.call_spec.specs.Acts.{Act, Failed, Spent, Out, Good, Bad, Undeclared, world_of, then_do}
+use Rattle.call_spec.specs.Frames.{HostCalls, metered, runs, trap_code}
+use Rattle.call_spec.specs.HostFunctions.{host_function, host_of, of_row, opener_of}
+use Rattle.call_spec.specs.Outcomes.{Says, trace_of, stopped_kind}
+use Rattle.host_ledger.specs.Answered.{any}
+use Rattle.host_ledger.specs.Worlds.{IsEnv}
+use Rattle.contract_call.specs.Worlds.{world_in, ending}
+use Rattle.contract_storage.specs.Stored.{Stored, IsLater, history, with_history}
+use Rattle.host_ledger.proofs.Rows.{later_same}
+use Rattle.contract_call.specs.Worlds.{MayRun}
+use Rattle.contract_call.specs.Running.{DoesOver, StaysIn}
+use Rattle.contract_call.proofs.Stepping.{serves_later}
+use Rattle.contract_call.specs.declared.host.Host.{Host}
+use Rattle.contract_call.proofs.Joining.{keep_both, says_stopped, traced}
+use Rattle.contract_call.proofs.Showing.{shown_as}
+
+-- the rest with another linear memory and number of begun calls
+abbrev pub kept : List ℕ → ℕ → World → World
+kept memory count rest = record rest { frame = record rest.frame { memory = memory; begun = count } }
+
+-- The run from the start is the run from here on.
+abbrev pub Follows : {G : Type 0} → Module → ℕ → Suspended → Host G → Suspended → Host G → Type 0
+Follows m room i0 h0 i h = (go : Meter → Run) → Does i0 go → (next : (Meter → Run)) × Does i next
+    × ((env : Env) → IsEnv env h0.ledger → (rest : World) (trace : List Access) → (memory : List ℕ) × (count : ℕ) × (t : List Access)
+    × (runs (host_of env (opener_of env room) m) (go h0.ledger.budget) (world_in rest h0 trace) ≡ runs (host_of env (opener_of env room) m) (next h.ledger.budget) (world_in (kept memory count rest) h t)))
+
+pub follows_first : {G : Type 0} (m : Module) (room : ℕ) (i : Suspended) (h : Host G) → Follows m room i h i h
+follows_first m room i h go does = (go, does, λ env is rest trace. (rest.frame.memory, rest.frame.begun, trace, refl))
+
+-- ---- events
+
+pub asked : (r : Run) (f : ℕ) (words : List ℕ) (b : Meter) (i : Suspended) → Tells r (event.HostCall f words) b i
+    → (on : (ℕ → List ℕ → Meter → Run)) × (r ≡ Ask f words i.store.memory.bytes b on) × Awaits i on
+asked (Ask g args memory meter on) f words b i (a, c, d, e, awaits) =
+    let at : ℕ → List ℕ → List ℕ → Meter → Run = λ g args memory meter. Ask g args memory meter on in
+    (on, ap (λ x. at x args memory meter) (sym a) ∙ ap (λ x. at f x memory meter) (sym c) ∙ ap (λ x. at f words x meter) (sym d) ∙ ap (at f words i.store.memory.bytes) (sym e), awaits)
+asked (Normal ops s) f words b i h = absurd h
+asked (Trap kind meter) f words b i h = absurd h
+asked (SpentRun meter) f words b i h = absurd h
+asked (Branch k ops s) f words b i h = absurd h
+asked (Return ops s) f words b i h = absurd h
+asked Stuck f words b i h = absurd h
+
+done_is : (host : HostCalls) (r : Run) (n : ℕ) (b : Meter) (i : Suspended) (w : World) → Tells r (event.Done n) b i → runs host r w ≡ Good n (metered b w)
+done_is host (Normal ops s) n b i w (a, c) = ap (λ x. runs host (Normal x s) w) a ∙ ap (λ z. Good n (metered z w)) (sym c)
+done_is host (Ask g args memory meter on) n b i w h = absurd h
+done_is host (Trap kind meter) n b i w h = absurd h
+done_is host (SpentRun meter) n b i w h = absurd h
+done_is host (Branch k ops s) n b i w h = absurd h
+done_is host (Return ops s) n b i w h = absurd h
+done_is host Stuck n b i w h = absurd h
+
+same_trap : (kind : TrapKind) → errors.WasmVm (trap_code kind) ≡ traps.trap_error kind
+same_trap Unreachable = refl
+same_trap OutOfBounds = refl
+same_trap Arithmetic = refl
+same_trap IndirectType = refl
+same_trap EmptyElement = refl
+same_trap CallDepth = refl
+
+trap_is : (host : HostCalls) (r : Run) (k : TrapKind) (b : Meter) (i : Suspended) (w : World) → Tells r (event.Trap k) b i → runs host r w ≡ Bad (Failed (traps.trap_error k)) (metered b w)
+trap_is host (Trap kind meter) k b i w (a, c) =
+    ap (λ e. Bad (Failed e) (metered meter w)) (same_trap kind) ∙ ap (λ x. Bad (Failed (traps.trap_error x)) (metered meter w)) (sym a) ∙ ap (λ z. Bad (Failed (traps.trap_error k)) (metered z w)) (sym c)
+trap_is host (Normal ops s) k b i w h = absurd h
+trap_is host (Ask g args memory meter on) k b i w h = absurd h
+trap_is host (SpentRun meter) k b i w h = absurd h
+trap_is host (Branch n ops s) k b i w h = absurd h
+trap_is host (Return ops s) k b i w h = absurd h
+trap_is host Stuck k b i w h = absurd h
+
+spent_is : (host : HostCalls) (r : Run) (b : Meter) (i : Suspended) (w : World) → Tells r event.Spent b i → runs host r w ≡ Bad Spent (metered b w)
+spent_is host (SpentRun meter) b i w a = ap (λ z. Bad Spent (metered z w)) (sym a)
+spent_is host (Normal ops s) b i w h = absurd h
+spent_is host (Ask g args memory meter on) b i w h = absurd h
+spent_is host (Trap kind meter) b i w h = absurd h
+spent_is host (Branch n ops s) b i w h = absurd h
+spent_is host (Return ops s) b i w h = absurd h
+spent_is host Stuck b i w h = absurd h
+
+-- ---- ends
+
+end_says : {A G : Type 0} (r : Result A HostErr) (view : A → ℕ) (rest : World) (memory : List ℕ) (count : ℕ) (t : List Access) (h : Host G) (out : Out ℕ)
+    → Says any r view out (λ trace. world_in (kept memory count rest) h t) → Says any r view out (world_in (ending rest out) h)
+end_says r view rest memory count t h out p =
+    shown_as (λ w z. world_in w h z) keep_both h.ledger.budget (λ _ _. refl) r view rest out (λ z. world_in (kept memory count rest) h z) (λ z. refl) (traced r view out (world_in (kept memory count rest) h t) p)
+
+abbrev pub paid : {G : Type 0} → Host G → Meter → Host G
+paid h b = record h { ledger = record h.ledger { budget = b } }
+
+-- the run ended in the frame, as the result says
+abbrev pub EndsRun : {G : Type 0} → Module → ℕ → Suspended → Host G → Result ℕ HostErr → Host G → Type 0
+EndsRun m room i0 h0 r h = (go : Meter → Run) → Does i0 go → (env : Env) → IsEnv env h0.ledger → (rest : World) (trace : List Access)
+    → (let out = runs (host_of env (opener_of env room) m) (go h0.ledger.budget) (world_in rest h0 trace) in Says any r (λ word. word) out (world_in (ending rest out) h))
+
+-- what an event tells of an instance's runs, with these budgets
+abbrev pub Told : Suspended → Meter → Event → Meter → Suspended → Type 0
+Told i before e b after = (go : Meter → Run) → Does i go → Tells (go before) e b after
+
+pub run_done : {G : Type 0} (m : Module) (room : ℕ) (i0 i after : Suspended) (h0 h : Host G) (n : ℕ) (b : Meter) → Follows m room i0 h0 i h
+    → ((go : Meter → Run) → Does i go → Tells (go h.ledger.budget) (event.Done n) b after) → EndsRun m room i0 h0 (Ok n) (paid h b)
+run_done m room i0 i after h0 h n b follows tells go does env is rest trace =
+    let f = follows go does in
+    let at = f.2 env is rest trace in
+    let host = host_of env (opener_of env room) m in
+    let r : Result ℕ HostErr = Ok n in
+    end_says r (λ word. word) rest at.0 at.1 at.2 (paid h b) _ (tt, at.3 ∙ done_is host (f.0 h.ledger.budget) n b after (world_in (kept at.0 at.1 rest) h at.2) (tells f.0 f.1))
+
+pub run_trapped : {G : Type 0} (m : Module) (room : ℕ) (i0 i after : Suspended) (h0 h : Host G) (k : TrapKind) (b : Meter) (e : ScError) → e ≡ traps.trap_error k → Follows m room i0 h0 i h
+    → ((go : Meter → Run) → Does i go → Tells (go h.ledger.budget) (event.Trap k) b after) → EndsRun m room i0 h0 (Err (ends.Failed e)) (paid h b)
+run_trapped m room i0 i after h0 h k b e is-trap follows tells go does env is rest trace =
+    let f = follows go does in
+    let at = f.2 env is rest trace in
+    let host = host_of env (opener_of env room) m in
+    let r : Result ℕ HostErr = Err (ends.Failed e) in
+    end_says r (λ word. word) rest at.0 at.1 at.2 (paid h b) _
+    (tt, at.3 ∙ trap_is host (f.0 h.ledger.budget) k b after (world_in (kept at.0 at.1 rest) h at.2) (tells f.0 f.1) ∙ ap (λ x. Bad (Failed x) (world_in (kept at.0 at.1 rest) (paid h b) at.2)) (sym is-trap))
+
+pub run_spent : {G : Type 0} (m : Module) (room : ℕ) (i0 i after : Suspended) (h0 h : Host G) (b : Meter) → Follows m room i0 h0 i h
+    → ((go : Meter → Run) → Does i go → Tells (go h.ledger.budget) event.Spent b after) → EndsRun m room i0 h0 (Err ends.Spent) (paid h b)
+run_spent m room i0 i after h0 h b follows tells go does env is rest trace =
+    let f = follows go does in
+    let at = f.2 env is rest trace in
+    let host = host_of env (opener_of env room) m in
+    let r : Result ℕ HostErr = Err ends.Spent in
+    let e = at.3 ∙ spent_is host (f.0 h.ledger.budget) b after (world_in (kept at.0 at.1 rest) h at.2) (tells f.0 f.1) in
+    end_says r (λ word. word) rest at.0 at.1 at.2 (paid h b) _ (tt, e ∙ ap (Bad Spent) (sym (ap world_of e)), ap (λ o. (world_of o).meter) e)
+
+-- ---- calls of the host
+
+-- the act of the import that is called
+row_act : (env : Env) (room : ℕ) (m : Module) (f : ℕ) (row : Row) (words : List ℕ) (w : World) → row_at m f ≡ Some row
+    → host_of env (opener_of env room) m f words w ≡ host_function env (opener_of env room) row.import words w
+row_act env room m f row words w e = ap (λ x. of_row env (opener_of env room) x words w) e
+
+abbrev pub Answers : {G : Type 0} → List ℕ → List ℕ → ℕ → Row → List ℕ → Result ℕ HostErr → Host G → Host G → Type 0
+Answers before after room row words r old new = DoesOver before after r (λ word. word) (λ env. host_function env (opener_of env room) row.import words) old new
+
+pub run_answered : {G : Type 0} (m : Module) (room : ℕ) (i0 i i1 i2 : Suspended) (h0 h h2 : Host G) (b : Meter) (f : ℕ) (words : List ℕ) (row : Row) (word : ℕ) (before after : List ℕ) → Follows m room i0 h0 i h
+    → ((go : Meter → Run) → Does i go → Tells (go h.ledger.budget) (event.HostCall f words) b i1) → row_at m f ≡ Some row → i1.store.memory.bytes ≡ before
+    → ((on : ℕ → List ℕ → Meter → Run) → Awaits i1 on → Does i2 (on word after)) → ((env : Env) → IsEnv env h0.ledger → IsEnv env h.ledger)
+    → Answers before after room row words (Ok word) (paid h b) h2 → Follows m room i0 h0 i2 h2
+run_answered m room i0 i i1 i2 h0 h h2 b f words row word before after follows tells named same given later answer go does =
+    let f0 = follows go does in
+    let q = asked (f0.0 h.ledger.budget) f words b i1 (tells f0.0 f0.1) in (
+      q.0 word after,
+      given q.0 q.2,
+      λ env is rest trace.
+          let at = f0.2 env is rest trace in
+          let host = host_of env (opener_of env room) m in
+          let next : ℕ → Act ℕ = λ x u. runs host (q.0 x u.frame.memory u.meter) u in
+          let w = world_in (kept at.0 at.1 rest) h at.2 in
+          let waiting = kept i1.store.memory.bytes at.1 rest in
+          let out = host_function env (opener_of env room) row.import words (world_in waiting (paid h b) at.2) in
+          let says = answer env (record { header = (later env is).header; serves = (later env is).serves }) waiting at.2 same in (
+            after,
+            (world_of out).frame.begun,
+            trace_of out,
+            at.3 ∙ ap (λ r. runs host r w) q.1 ∙ ap (λ o. then_do o next) (row_act env room m f row words (world_in waiting (paid h b) at.2) named ∙ says.1),
+          ),
+    )
+
+fixed_left : {A B : Type 0} (r : Result A HostErr) (view : A → B) (out : Out B) (left : List Access → World) (m : Meter) → ((t : List Access) → (left t).meter ≡ m) → Says any r view out left
+    → Says any r view out (λ _. left (trace_of out))
+fixed_left (Ok a) view out left m pays p = p
+fixed_left (Err (ends.Failed d)) view out left m pays p = p
+fixed_left (Err ends.Spent) view out left m pays p = (tt, p.1, p.2 ∙ pays [] ∙ sym (pays (trace_of out)))
+fixed_left (Err (ends.Archived key)) view out left m pays p = (tt, p.1, p.2 ∙ pays [] ∙ sym (pays (trace_of out)))
+fixed_left {B = B} (Err (ends.Undeclared key)) view out left m pays p =
+    let e = pays [] ∙ sym (pays (trace_of out)) in
+    let at : Meter → Out B = λ z. Undeclared (record { kind = stopped_kind out; key = key; used = z.used }) (world_of out) in
+    (tt, p.1 ∙ ap at e, p.2 ∙ e)
+fixed_left (Err ends.NoMemory) view out left m pays p = tt
+
+pub run_refused : {G : Type 0} (m : Module) (room : ℕ) (i0 i i1 : Suspended) (h0 h h2 : Host G) (b : Meter) (f : ℕ) (words : List ℕ) (row : Row) (e : HostErr) (before after : List ℕ) → Follows m room i0 h0 i h
+    → ((go : Meter → Run) → Does i go → Tells (go h.ledger.budget) (event.HostCall f words) b i1) → row_at m f ≡ Some row → i1.store.memory.bytes ≡ before
+    → ((env : Env) → IsEnv env h0.ledger → IsEnv env h.ledger) → Answers before after room row words (Err e) (paid h b) h2 → EndsRun m room i0 h0 (Err e) h2
+run_refused m room i0 i i1 h0 h h2 b f words row e before after follows tells named same later answer go does env is rest trace =
+    let f0 = follows go does in
+    let q = asked (f0.0 h.ledger.budget) f words b i1 (tells f0.0 f0.1) in
+    let at = f0.2 env is rest trace in
+    let host = host_of env (opener_of env room) m in
+    let next : ℕ → Act ℕ = λ x u. runs host (q.0 x u.frame.memory u.meter) u in
+    let w = world_in (kept at.0 at.1 rest) h at.2 in
+    let waiting = kept i1.store.memory.bytes at.1 rest in
+    let out = host_function env (opener_of env room) row.import words (world_in waiting (paid h b) at.2) in
+    let whole = runs host (go h0.ledger.budget) (world_in rest h0 trace) in
+    let says = answer env (record { header = (later env is).header; serves = (later env is).serves }) waiting at.2 same in
+    let r : Result ℕ HostErr = Err e in
+    let left = world_in (kept after (world_of out).frame.begun rest) h2 (trace_of out) in
+    end_says r (λ word. word) rest after (world_of out).frame.begun (trace_of out) h2 whole
+    (says_stopped (λ (word : ℕ). word) (λ (word : ℕ). word) e next out whole left
+    (at.3 ∙ ap (λ r. runs host r w) q.1 ∙ ap (λ o. then_do o next) (row_act env room m f row words (world_in waiting (paid h b) at.2) named))
+    (fixed_left r (λ word. word) out (λ t. world_in (kept after (world_of out).frame.begun rest) h2 t) h2.ledger.budget (λ _. refl) says))
+
+-- ---- the state
+
+pub later_twice : (s t u : Stored) → IsLater s t → IsLater t u → IsLater s u
+later_twice s t u h k = record {
+  same = k.same ∙ ap (λ (x : Stored). with_history x u) h.same;
+  later = (h.later.0 ++ k.later.0, k.later.1 ∙ ap (λ x. x ++ k.later.0) h.later.1 ∙ append_assoc (history s) h.later.0 k.later.0);
+}
+
+pub stays_twice : {G : Type 0} (h0 h h2 : Host G) (b : Meter) → StaysIn h0 h → StaysIn (paid h b) h2 → StaysIn h0 h2
+stays_twice h0 h h2 b one two = record {
+  left = record {
+    header = two.left.header ∙ one.left.header;
+    storage = later_twice h0.ledger.storage h.ledger.storage h2.ledger.storage one.left.storage two.left.storage;
+    events = (one.left.events.0 ++ two.left.events.0, two.left.events.1 ∙ ap (λ x. x ++ two.left.events.0) one.left.events.1 ∙ append_assoc h0.ledger.events one.left.events.0 two.left.events.0);
+    contract = two.left.contract ∙ one.left.contract;
+    caller = two.left.caller ∙ one.left.caller;
+    code = two.left.code ∙ one.left.code;
+  };
+  contracts = two.contracts ∙ one.contracts;
+  ready = two.ready;
+}
+
+pub stays_same : {G : Type 0} (h : Host G) → MayRun h → StaysIn h h
+stays_same h ready = record {
+  left = record {
+    header = refl;
+    storage = later_same h.ledger.storage h.ledger.storage refl;
+    events = ([], grind (arith, common_steps));
+    contract = refl;
+    caller = refl;
+    code = refl;
+  };
+  contracts = refl;
+  ready = ready;
+}
+
+pub may_pay : {G : Type 0} (h : Host G) (b : Meter) → MayRun h → MayRun (paid h b)
+may_pay h b ready = record {
+  ledger = record { bounds = ready.ledger.bounds; number = ready.ledger.number; indices = ready.ledger.indices; copy = ready.ledger.copy };
+  lives = ready.lives;
+}
+
+pub env_in : {G : Type 0} (old new : Host G) → StaysIn old new → (env : Env) → IsEnv env old.ledger → IsEnv env new.ledger
+env_in old new stays env is = record { header = is.header ∙ sym stays.left.header; serves = serves_later env old.ledger.storage new.ledger.storage stays.left.storage is.serves }
+
+-- a memory of the same size is the whole memory
+pub refilled : (xs ws : List ℕ) → length ws ≡ length xs → refill (length xs) xs ws ≡ ws
+refilled xs ws e = ap (λ n. take n (ws ++ drop (length ws) xs)) (sym e) ∙ take-append_seam ws (drop (length ws) xs)

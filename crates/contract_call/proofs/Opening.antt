@@ -1,0 +1,143 @@
+-- A frame that is opened, runs, and is closed.
+use Rattle.std.proofs.Common.{◌≡◌, ℕ, ◌-◌, List, [], ◌∷◌, ◌++◌, length, take, reverse, Result, Ok, Err, refl, sym, ap, ◌∙◌, subst, arith, length-append, append-nil}
+use Rattle.std.proofs.Math.Seq.{take-append_seam}
+use Rattle.std.proofs.lemmas.List.{reverse-append}
+use Rattle.budget_meter.specs.Meter.{Meter}
+use Rattle.value_types.specs.Datum.{Datum}
+use Rattle.value_types.specs.Views.{datum}
+use Rattle.value_types.specs.declared.hash.Hash.{Hash}
+use Rattle.value_types.specs.declared.value.ScVal.{ScVal}
+use Rattle.wasm_spec.specs.declared.module.Module.{Module}
+use Rattle.wasm_spec.specs.Meaning.{meaning}
+use Rattle.wasm_spec.specs.Stores.{Store}
+use Rattle.wasm_run.specs.Suspended.{Suspended, Does}
+use Rattle.wasm_run.specs.declared.instance.CallPhase.TheVariants as phase
+use Rattle.object_store.specs.Shown.{shown_of}
+use Rattle.host_spec.specs.declared.error.HostErr.{HostErr}
+use Rattle.host_spec.specs.declared.error.HostErr.TheVariants as ends
+use Rattle.call_spec.specs.World.{AccessKind, Access, Pair, Frame, World, Env}
+use Rattle.call_spec.specs.Acts.{Act, Failure, Failed, Spent, Archived, Out, Good, Bad, Undeclared, after, world_of}
+use Rattle.call_spec.specs.Frames.{Entered, frame_of, started, finished, framed, closed, with_frames}
+use Rattle.call_spec.specs.HostFunctions.{host_of, opener_of}
+use Rattle.call_spec.specs.Outcomes.{Says, trace_of, stopped_kind}
+use Rattle.host_ledger.specs.Answered.{any}
+use Rattle.host_ledger.specs.Worlds.{IsEnv, copied}
+use Rattle.host_ledger.specs.declared.state.HostLedger.{HostLedger}
+use Rattle.host_ledger.specs.declared.state.InstanceCopy.{InstanceCopy}
+use Rattle.host_ledger.specs.declared.state.Running.{Running}
+use Rattle.host_ledger.proofs.Rows.{later_same}
+use Rattle.contract_call.specs.Worlds.{contracts_of, world_in, world_around, ending, DoesAround, Stays}
+use Rattle.contract_call.specs.Running.{entered, IsNewFrame, Starts, StaysIn, DoesFrom}
+use Rattle.contract_call.specs.declared.host.Host.{Host}
+use Rattle.contract_call.proofs.Joining.{same_act, keep_count}
+use Rattle.contract_call.proofs.Showing.{shown_as}
+
+-- ---- the start of the code
+
+pub started_does : (i new : Suspended) (e : Entered) (slice words : List ℕ) → Starts i e → slice ≡ words → length words ≡ length e.args
+    → ((f : ℕ) → i.phase ≡ phase.Fresh f (length slice) → Does new (meaning i.source f slice i.store)) → Does new (meaning e.module_ e.index words e.store)
+started_does i new e slice words starts same count does =
+    let fresh : i.phase ≡ phase.Fresh e.index (length slice) = starts.phase_ ∙ ap (phase.Fresh e.index) (sym (ap length same ∙ count)) in
+    subst (λ ws. Does new (meaning e.module_ e.index ws e.store)) same
+    (subst (λ m. Does new (meaning m e.index slice e.store)) starts.module_ (subst (λ s. Does new (meaning i.source e.index slice s)) starts.store_ (does e.index fresh)))
+
+-- ---- the end
+
+closed_bad : {B : Type 0} (f : Frame) (cs : List Hash) (x : Failure) (out : Out B) → out ≡ Bad x (world_of out)
+    → (closed f cs out ≡ Bad x (world_of (closed f cs out))) × ((world_of (closed f cs out)).meter ≡ (world_of out).meter)
+closed_bad f cs x out p =
+    let e : closed f cs out ≡ Bad x (with_frames f cs (world_of out)) = ap (closed f cs) p in
+    (e ∙ ap (Bad x) (sym (ap world_of e)), ap (λ o. (world_of o).meter) e)
+
+pub closed_says : {A B : Type 0} (f : Frame) (cs : List Hash) (r : Result A HostErr) (view : A → B) (out : Out B) (left new : List Access → World) → ((t : List Access) → with_frames f cs (left t) ≡ new t)
+    → ((t : List Access) → (left t).trace ≡ t) → Says any r view out left → Says any r view (closed f cs out) new
+closed_says f cs (Ok a) view out left new h tr p =
+    let e : closed f cs out ≡ Good (view a) (with_frames f cs (left (trace_of out))) = ap (closed f cs) p.1 in
+    (tt, e ∙ ap (Good (view a)) (h (trace_of out) ∙ ap new (sym (ap trace_of e ∙ tr (trace_of out)))))
+closed_says f cs (Err (ends.Failed d)) view out left new h tr p =
+    let e : closed f cs out ≡ Bad (Failed d) (with_frames f cs (left (trace_of out))) = ap (closed f cs) p.1 in
+    (tt, e ∙ ap (Bad (Failed d)) (h (trace_of out) ∙ ap new (sym (ap trace_of e ∙ tr (trace_of out)))))
+closed_says f cs (Err ends.Spent) view out left new h tr p =
+    let c = closed_bad f cs Spent out p.1 in (tt, c.0, c.1 ∙ p.2 ∙ ap (λ (w : World). w.meter) (h []))
+closed_says f cs (Err (ends.Archived key)) view out left new h tr p =
+    let c = closed_bad f cs (Archived key) out p.1 in (tt, c.0, c.1 ∙ p.2 ∙ ap (λ (w : World). w.meter) (h []))
+closed_says {B = B} f cs (Err (ends.Undeclared key)) view out left new h tr p =
+    let at : AccessKind → Meter → World → Out B = λ kind meter w. Undeclared (record { kind = kind; key = key; used = meter.used }) w in
+    let m : (left []).meter ≡ (new []).meter = ap (λ (w : World). w.meter) (h []) in
+    let e : closed f cs out ≡ at (stopped_kind out) (left []).meter (with_frames f cs (world_of out)) = ap (closed f cs) p.1 in (
+      tt,
+      e ∙ ap (λ k. at k (left []).meter (with_frames f cs (world_of out))) (sym (ap stopped_kind e)) ∙ ap (λ z. at (stopped_kind (closed f cs out)) z (with_frames f cs (world_of out))) m
+          ∙ ap (at (stopped_kind (closed f cs out)) (new []).meter) (sym (ap world_of e)),
+      ap (λ o. (world_of o).meter) e ∙ p.2 ∙ m,
+    )
+closed_says f cs (Err ends.NoMemory) view out left new h tr p = tt
+
+-- ---- the frame
+
+reversed : (xs : List Hash) (c : Hash) → reverse (xs ++ c ∷ []) ≡ c ∷ reverse xs
+reversed xs c = reverse-append xs (c ∷ [])
+
+last_off : (xs ys : List Hash) (c : Hash) → ys ≡ xs ++ c ∷ [] → take (length ys - 1) ys ≡ xs
+last_off xs ys c e =
+    let n : length ys - 1 ≡ length xs = omega (arith, ap length e, length-append xs (c ∷ [])) in
+    ap (λ k. take k ys) n ∙ ap (take (length xs)) e ∙ take-append_seam xs (c ∷ [])
+
+module _ (frame : Running) (fresh : IsNewFrame frame) (function : List ℕ) (args : List Datum) (path : List ℕ) (m : Module) (index : ℕ) (store : Store) where
+  abbrev this : Entered
+  this = entered frame function args path m index store
+
+  start_is : {G : Type 0} (old h1 : Host G) (rest : World) (trace : List Access) → h1.ledger ≡ record old.ledger { objects = []; frame = frame } → h1.open.items ≡ old.open.items ++ frame.contract ∷ []
+      → with_frames (frame_of this) (this.contract ∷ contracts_of old) (world_around rest old trace) ≡ world_in (record rest { frame = frame_of this }) h1 trace
+  start_is {G} old h1 rest trace ledger pushed =
+      let at : Hash → List Datum → List Hash → HostLedger G → World = λ code shown cs l. record rest {
+        entries = l.storage.map;
+        events = l.events;
+        frame = record (frame_of this) { code = code; shown = shown };
+        contracts = cs;
+        trace = trace;
+        meter = l.budget;
+      } in
+      ap (λ x. at x [] (frame.contract ∷ contracts_of old) old.ledger) (sym fresh.code)
+      ∙ ap (λ x. at frame.code x (frame.contract ∷ contracts_of old) old.ledger) (sym (ap (shown_of []) fresh.shown))
+      ∙ ap (λ x. at frame.code (shown_of [] frame.shown) x old.ledger) (sym (ap reverse pushed ∙ reversed old.open.items frame.contract))
+      ∙ subst (λ (l : HostLedger G). at frame.code (shown_of [] frame.shown) (contracts_of h1) old.ledger ≡ world_in (record rest { frame = frame_of this }) (record h1 { ledger = l }) trace) (sym ledger) refl
+
+  end_is : {G : Type 0} (old h2 h3 : Host G) (rest mid : World) (t : List Access) (objects : List Datum) (outer : Running) → h3.ledger ≡ record h2.ledger { objects = objects; frame = outer } → contracts_of h3 ≡ contracts_of old
+      → mid.pairs ≡ rest.pairs → with_frames rest.frame (contracts_of old) (world_in mid h2 t) ≡ world_around rest h3 t
+  end_is {G} old h2 h3 rest mid t objects outer ledger pushed pairs =
+      let at : List Pair → List Hash → HostLedger G → World = λ ps cs l. record rest { entries = l.storage.map; events = l.events; pairs = ps; contracts = cs; trace = t; meter = l.budget } in
+      ap (λ x. at x (contracts_of old) h2.ledger) pairs ∙ ap (λ x. at rest.pairs x h2.ledger) (sym pushed)
+      ∙ subst (λ (l : HostLedger G). at rest.pairs (contracts_of h3) h2.ledger ≡ world_around rest (record h3 { ledger = l }) t) (sym ledger) refl
+
+  env_opened : {G : Type 0} (old h1 : Host G) (env : Env) → h1.ledger ≡ record old.ledger { objects = []; frame = frame } → IsEnv env old.ledger → IsEnv env h1.ledger
+  env_opened {G} old h1 env ledger is = subst (λ (l : HostLedger G). IsEnv env l) (sym ledger) (record { header = is.header; serves = is.serves })
+
+  pub framed_does : {G : Type 0} (room : ℕ) (first : InstanceCopy) (r : Result ScVal HostErr) (old h1 h2 h3 : Host G) (objects : List Datum) (outer : Running) → first ≡ frame.copy
+      → h1.ledger ≡ record old.ledger { objects = []; frame = frame } → h1.open.items ≡ old.open.items ++ frame.contract ∷ [] → StaysIn h1 h2
+      → DoesFrom (copied first) r datum (λ env. after (started (host_of env (opener_of env room) m) this) (finished env)) h1 h2 → h3.ledger ≡ record h2.ledger { objects = objects; frame = outer }
+      → h3.open.items ≡ take (length h2.open.items - 1) h2.open.items → DoesAround r datum (λ env. framed env (host_of env (opener_of env room)) this) old h3
+  framed_does room first r old h1 h2 h3 objects outer copy ledger pushed stays inside ledger3 open3 env is rest trace =
+      let host = host_of env (opener_of env room) in
+      let act : Act Datum = after (started (host m) this) (finished env) in
+      let w = world_around rest old trace in
+      let rest_in : World = record rest { frame = frame_of this } in
+      let out_in = act (world_in rest_in h1 trace) in
+      let out = closed rest.frame (contracts_of old) out_in in
+      let cs : contracts_of h3 ≡ contracts_of old = ap reverse (open3 ∙ last_off old.open.items h2.open.items frame.contract (stays.contracts ∙ pushed)) in
+      same_act (λ v t. world_around v h3 t) keep_count r datum rest (framed env host this w) out
+      (ap (λ z. closed rest.frame (contracts_of old) (act z)) (start_is old h1 rest trace ledger pushed))
+      (shown_as (λ v t. world_around v h3 t) keep_count h3.ledger.budget (λ _ _. refl) r datum rest out (λ t. world_around rest h3 t) (λ t. refl)
+      (closed_says rest.frame (contracts_of old) r datum out_in (λ t. world_in (ending rest_in out_in) h2 t) (λ t. world_around rest h3 t)
+      (λ t. end_is old h2 h3 rest (ending rest_in out_in) t objects outer ledger3 cs refl) (λ t. refl)
+      (inside env (env_opened old h1 env ledger is) rest_in trace (ap copied (sym copy)))))
+
+-- a state that stayed
+pub stays_equal : {G : Type 0} (old new : Host G) → new.ledger ≡ old.ledger → new.open.items ≡ old.open.items → Stays old new
+stays_equal old new ledger pushed = record {
+  header = ap (λ (l : HostLedger _). l.header.now) ledger;
+  storage = later_same old.ledger.storage new.ledger.storage (ap (λ (l : HostLedger _). l.storage) ledger);
+  events = ([], ap (λ (l : HostLedger _). l.events) ledger ∙ sym (append-nil old.ledger.events));
+  objects = ap (λ (l : HostLedger _). l.objects) ledger;
+  frame = ap (λ (l : HostLedger _). l.frame) ledger;
+  contracts = pushed;
+}

@@ -1,0 +1,36 @@
+-- Steps over the ledger and the budget, one after another.
+use Rattle.std.proofs.Common.{◌≡◌, Result, Ok, Err, refl, sym, ap, subst}
+use Rattle.budget_meter.specs.Meter.{Meter}
+use Rattle.host_spec.specs.declared.error.HostErr.{HostErr}
+use Rattle.contract_storage.specs.Stored.{Stored, IsLater}
+use Rattle.call_spec.specs.World.{Env}
+use Rattle.call_spec.specs.Acts.{Act, Good, after, gives}
+use Rattle.host_ledger.specs.Worlds.{Serves}
+use Rattle.call_parts.specs.Steps.{Steps}
+use Rattle.contract_call.proofs.Joining.{stop, go_on, fails_as, as_fails}
+
+-- a later state serves the same environments
+pub serves_later : (env : Env) (old new : Stored) → IsLater old new → Serves env old → Serves env new
+serves_later env old new later s = subst (λ (x : Stored). Serves env x) (sym later.same) (record { number = s.number; lives = s.lives; judge = s.judge })
+
+pub steps_on : {A B C D : Type 0} (a : A) (r : Result C HostErr) (view : A → B) (other : C → D) (act : Env → Act B) (next : Env → B → Act D) (old mid new : Stored) (before middle last : Meter)
+    → IsLater old mid → (let given : Result A HostErr = Ok a in Steps given view act old mid before middle) → Steps r other (λ env. next env (view a)) mid new middle last
+    → Steps r other (λ env. after (act env) (next env)) old new before last
+steps_on a r view other act next old mid new before middle last later one two env serves w i j =
+    go_on (λ _ t. record w { entries = mid.map; trace = t; meter = middle }) (λ _ t. record w { entries = new.map; trace = t; meter = last }) (λ rest _. rest) (λ _ _ _. refl) a r view other w
+    (act env w) (next env) (one env serves w i j) (λ _ t. two env (serves_later env old mid later serves) (record w { entries = mid.map; trace = t; meter = middle }) refl refl)
+
+pub steps_stop : {A B C D : Type 0} (e : HostErr) (view : A → B) (other : C → D) (act : Env → Act B) (next : Env → B → Act D) (old new : Stored) (before last : Meter)
+    → (let none : Result A HostErr = Err e in Steps none view act old new before last) → (let none : Result C HostErr = Err e in Steps none other (λ env. after (act env) (next env)) old new before last)
+steps_stop e view other act next old new before last one env serves w i j =
+    as_fails e other (after (act env) (next env) w) (λ t. record w { entries = new.map; trace = t; meter = last })
+    (stop (λ _ t. record w { entries = new.map; trace = t; meter = last }) (λ rest _. rest) last (λ _ _. refl) e w (act env w) (next env)
+    (fails_as e view (act env w) (λ t. record w { entries = new.map; trace = t; meter = last }) (one env serves w i j)))
+
+-- a step whose value is only viewed in another way
+pub steps_view : {A B C D : Type 0} (a : A) (c : C) (view : A → B) (other : C → D) (act : Env → Act B) (of : B → D) (old new : Stored) (before last : Meter) → of (view a) ≡ other c
+    → (let given : Result A HostErr = Ok a in Steps given view act old new before last) → (let found : Result C HostErr = Ok c in Steps found other (λ env. after (act env) (λ b. gives (of b))) old new before last)
+steps_view {C = C} a c view other act of old new before last e one env serves w i j =
+    let found : Result C HostErr = Ok c in
+    go_on (λ _ t. record w { entries = new.map; trace = t; meter = last }) (λ _ t. record w { entries = new.map; trace = t; meter = last }) (λ rest _. rest) (λ _ _ _. refl) a found view other w
+    (act env w) (λ b. gives (of b)) (one env serves w i j) (λ _ t. (tt, ap (λ d. Good d (record w { entries = new.map; trace = t; meter = last })) e))

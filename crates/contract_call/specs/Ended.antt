@@ -1,0 +1,42 @@
+-- How a call, an upload or a create ends, beside its run over all entries of the ledger (own).
+use Rattle.std.specs.Prelude.{◌≡◌, [], Option, Some, None, Result, Ok, Err}
+use Rattle.ledger_spec.specs.LedgerMap.{LedgerMap}
+use Rattle.value_types.specs.Datum.{Datum}
+use Rattle.tx_xdr.specs.declared.transaction.Footprint.{Footprint}
+use Rattle.host_spec.specs.declared.error.HostErr.{HostErr}
+use Rattle.host_spec.specs.declared.error.HostErr.TheVariants as ends
+use Rattle.contract_storage.specs.Footprint.{IsFootprint}
+use Rattle.call_spec.specs.World.{Access, Judge, World}
+use Rattle.call_spec.specs.Acts.{Failed, Spent, Archived, Out, Good, Bad, world_of}
+use Rattle.call_spec.specs.Footprints.{by_footprint, first_rejected}
+use Rattle.call_spec.specs.Laws.{Agree, Maps}
+use Rattle.call_spec.specs.WholeRuns.{Work, all_allowed, done_under}
+use Rattle.contract_call.specs.Worlds.{world_around}
+use Rattle.contract_call.specs.declared.host.Host.{Host}
+
+-- The end of a run over all entries of the map m, as the program gives it over its storage, which agrees with m on the keys that may be read. At a
+-- failure entries and events are as before. Of the other ends only the budget's sums count.
+abbrev pub IsEnd : {A B G : Type 0} → Judge → LedgerMap → Out B → Result A HostErr → (A → B) → Host G → Host G → Type 0
+IsEnd may m (Good b w) (Ok a) view old new =
+    (b ≡ view a) × (new.ledger.budget ≡ w.meter) × (new.ledger.events ≡ w.events) × Maps may m old.ledger.storage.map w.entries new.ledger.storage.map
+IsEnd may m (Bad (Failed e) w) (Err (ends.Failed d)) view old new =
+    (d ≡ e) × (new.ledger.budget ≡ w.meter) × (new.ledger.events ≡ old.ledger.events) × (new.ledger.storage.map ≡ old.ledger.storage.map)
+IsEnd may m (Bad Spent w) (Err ends.Spent) view old new = new.ledger.budget ≡ w.meter
+IsEnd may m (Bad (Archived key) w) (Err (ends.Archived k)) view old new = (k ≡ key) × (new.ledger.budget ≡ w.meter)
+IsEnd may m out (Err ends.NoMemory) view old new = Unit {0}
+IsEnd may m _ _ view old new = ⊥
+
+-- The first access that is not declared decides, with the sums at that access.
+abbrev pub EndsBy : {A B G : Type 0} → Judge → LedgerMap → Option Access → Out B → Result A HostErr → (A → B) → Host G → Host G → Type 0
+EndsBy may m (Some a) out (Err (ends.Undeclared key)) view old new = (key ≡ a.key) × (new.ledger.budget.used ≡ a.used)
+EndsBy may m (Some a) out (Err ends.NoMemory) view old new = Unit {0}
+EndsBy may m (Some a) out _ view old new = ⊥
+EndsBy may m None out r view old new = IsEnd may m out r view old new
+
+-- For every map that agrees with the storage on the keys that its footprint declares, the work ends as its run over that map does. That run knows
+-- no footprint.
+abbrev pub Ends : {A G : Type 0} → Work → Result A HostErr → (A → Datum) → Host G → Host G → Type 0
+Ends work r view old new = (footprint : Footprint) → IsFootprint footprint.read_only footprint.read_write old.ledger.storage.declared
+    → (m : LedgerMap) → Agree (by_footprint footprint) m old.ledger.storage.map → (rest : World)
+    → (let out = done_under all_allowed old.ledger.header.now work (record (world_around rest old []) { entries = m }) in
+    EndsBy (by_footprint footprint) m (first_rejected (by_footprint footprint) (world_of out).trace) out r view old new)

@@ -1,0 +1,10 @@
+pub mod Creations
+pub mod Ended
+pub mod Framed
+pub mod Made
+pub mod Parts
+pub mod Running
+pub mod Taken
+pub mod Targets
+pub mod Undone
+pub mod Worlds

@@ -1,0 +1,58 @@
+-- The frame that runs.
+use Rattle.std.specs.Prelude.{◌≡◌, ℕ, [], List, length, Result}
+use Rattle.std.specs.Option.{option_map}
+use Rattle.value_types.specs.Datum.{Datum}
+use Rattle.wasm_spec.specs.declared.module.Module.{Module}
+use Rattle.wasm_spec.specs.Stores.{Store}
+use Rattle.wasm_run.specs.Suspended.{Suspended, IsFresh}
+use Rattle.host_spec.specs.declared.error.HostErr.{HostErr}
+use Rattle.call_spec.specs.World.{Access, Copied, World, Env}
+use Rattle.call_spec.specs.Acts.{Act}
+use Rattle.call_spec.specs.Frames.{Entered}
+use Rattle.call_spec.specs.Outcomes.{Says}
+use Rattle.host_ledger.specs.Worlds.{address_of, copied, IsEnv, IsHeld}
+use Rattle.host_ledger.specs.Answered.{any}
+use Rattle.host_ledger.specs.Called.{Left}
+use Rattle.host_ledger.specs.declared.state.Running.{Running}
+use Rattle.contract_call.specs.Worlds.{world_in, resting, ending, with_memory, MayRun}
+use Rattle.contract_call.specs.declared.host.Host.{Host}
+
+-- what a frame starts with
+abbrev pub entered : Running → List ℕ → List Datum → List ℕ → Module → ℕ → Store → Entered
+entered frame function args path m index store = record {
+  contract = frame.contract;
+  caller = option_map address_of frame.caller;
+  function = function;
+  args = args;
+  instance = copied frame.copy;
+  path = path;
+  module_ = m;
+  index = index;
+  store = store;
+}
+
+-- a frame that has shown nothing yet, and runs the code of its instance
+pub record IsNewFrame (frame : Running) : Type 0 where
+  pub shown : frame.shown ≡ []
+  pub code : frame.code ≡ frame.copy.code
+  pub held : IsHeld frame.copy.storage
+
+-- the instance is at the start of this frame's function
+abbrev pub Starts : Suspended → Entered → Type 0
+Starts i e = IsFresh i e.module_ e.index (length e.args) e.store
+
+-- What a run in the frame leaves: writes and events were only added, and the frame is still that of this contract.
+pub record StaysIn {G : Type 0} (old new : Host G) : Type 0 where
+  pub left : Left old.ledger new.ledger
+  pub contracts : new.open.items ≡ old.open.items
+  pub ready : MayRun new
+
+-- A call of the program does an act of a frame with this instance at its start.
+abbrev pub DoesFrom : {A B G : Type 0} → Copied → Result A HostErr → (A → B) → (Env → Act B) → Host G → Host G → Type 0
+DoesFrom first r view act old new = (env : Env) → IsEnv env old.ledger → (rest : World) (trace : List Access) → rest.frame.first ≡ first
+    → (let out = act env (world_in rest old trace) in Says any r view out (world_in (ending rest out) new))
+
+-- A call of the program does an act of the frame with this linear memory, and leaves another one.
+abbrev pub DoesOver : {A B G : Type 0} → List ℕ → List ℕ → Result A HostErr → (A → B) → (Env → Act B) → Host G → Host G → Type 0
+DoesOver before after r view act old new = (env : Env) → IsEnv env old.ledger → (rest : World) (trace : List Access) → rest.frame.memory ≡ before
+    → (let out = act env (world_in rest old trace) in Says any r view out (world_in (resting (with_memory after rest) out) new))

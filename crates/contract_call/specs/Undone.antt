@@ -1,0 +1,31 @@
+-- Failures that leave the state as it was.
+use Rattle.std.specs.Prelude.{◌≡◌, length, take, Result, Ok, Err}
+use Rattle.value_types.specs.declared.value.ScVal.{ScVal}
+use Rattle.value_types.specs.declared.value.ScVal.TheVariants as values
+use Rattle.contract_storage.specs.Stored.{IsRestored}
+use Rattle.host_spec.specs.declared.error.HostErr.{HostErr}
+use Rattle.host_spec.specs.declared.error.HostErr.TheVariants as ends
+use Rattle.call_spec.specs.Frames.{passed_on}
+use Rattle.contract_call.specs.declared.host.Host.{Host}
+use Rattle.contract_call.specs.declared.undo.Mark.{Mark}
+
+-- the mark is that of this state
+pub record Marks {G : Type 0} (mark : Mark) (start : Host G) : Type 0 where
+  pub storage : mark.storage.writes ≡ length start.ledger.storage.past
+  pub events : mark.events ≡ length start.ledger.events
+
+-- The state has the entries and the events of the mark, and nothing else changed.
+pub record IsBack {G : Type 0} (mark : Mark) (old new : Host G) : Type 0 where
+  pub storage : IsRestored mark.storage.writes old.ledger.storage new.ledger.storage
+  pub events : new.ledger.events ≡ take mark.events old.ledger.events
+  pub rest : new ≡ record old { ledger = record old.ledger { storage = new.ledger.storage; events = new.ledger.events } }
+
+-- A failure goes back to the mark. Any other end changes nothing.
+abbrev pub Undoes : {G : Type 0} → Mark → HostErr → Host G → Host G → Type 0
+Undoes mark (ends.Failed e) old new = IsBack mark old new
+Undoes mark _ old new = new ≡ old
+
+-- A failure goes back to the mark, and the value of its error comes in its place. Any other end changes nothing.
+abbrev pub Catches : {G : Type 0} → Mark → HostErr → Result ScVal HostErr → Host G → Host G → Type 0
+Catches mark (ends.Failed e) r old new = (r ≡ Ok (values.Error (passed_on e))) × IsBack mark old new
+Catches mark e r old new = (r ≡ Err e) × (new ≡ old)

@@ -1,0 +1,334 @@
+//! Host functions that open no frame.
+
+ghost use Rattle.std.specs.Prelude.{◌≡◌, ◌≤◌, ◌<◌, ◌^◌, List, [], ◌∷◌, true, is_some, length, IfOk, IfErr};
+ghost use Rattle.std.specs.Option.{option_map};
+ghost use Rattle.value_types.specs.Datum.{Datum, bytes};
+ghost use Rattle.host_interface.specs.declared.kinds.ArgKind.TheVariants as kinds;
+ghost use Rattle.host_spec.specs.Indices.{arguments_of};
+ghost use Rattle.host_spec.specs.Answers.{Answer as AnswerData, value, given};
+ghost use Rattle.host_spec.specs.ValueFunctions.{value_rule};
+ghost use Rattle.host_spec.specs.declared.error.HostErr.TheVariants as ends;
+ghost use Rattle.object_store.specs.Shown.{shown_of, AreIndices};
+ghost use Rattle.contract_storage.specs.Stored.{IsLater, HasBounds};
+ghost use Rattle.host_frame.specs.Answered.{answer_of};
+ghost use Rattle.host_frame.specs.Made.{IsAnswerMade, IsMemory};
+ghost use Rattle.call_spec.specs.World.{Access, Copied, World, Env, next_seq};
+ghost use Rattle.call_spec.specs.Acts.{Act, after, lift};
+ghost use Rattle.call_spec.specs.Creating.{uploads, upload_wasm};
+ghost use Rattle.call_spec.specs.Demands.{requires as demands, require_auth, require_auth_for_args};
+ghost use Rattle.call_spec.specs.Frames.{Opener};
+ghost use Rattle.call_spec.specs.HostFunctions.{host_function};
+ghost use Rattle.call_spec.specs.Outcomes.{Says};
+ghost use Rattle.call_spec.specs.Rules.{answered, returning};
+ghost use Rattle.host_ledger.specs.Accessed.{Runs};
+ghost use Rattle.host_ledger.specs.Answered.{Answers, IsMadeIfOk, any};
+ghost use Rattle.host_ledger.specs.Called.{is_over_ledger};
+ghost use Rattle.host_ledger.specs.Worlds.{address_of, world_at, IsReady};
+ghost use Rattle.host_values.specs.Called.{IsValueCall};
+ghost use Rattle.call_parts.specs.Steps.{Steps};
+ghost use Rattle.contract_call.specs.Worlds.{with_memory, DoesIn, MayRun};
+ghost use Rattle.contract_call.specs.Running.{DoesOver, StaysIn};
+
+use crate::host::Host;
+use budget_meter::Budget;
+use call_parts::{demand, upload};
+use contract_storage::Storage;
+use entry_lookup::Ground;
+use host_frame::{Answer, Values, enter, give};
+use host_interface::HostImport;
+use host_ledger::HostLedger;
+use host_spec::HostErr;
+use host_values::call_function;
+use ledger_types::Header;
+use std::alloc::Global;
+use value_types::{Hash, ScAddress};
+
+/// Whether the memory has at most 64 pages, as each linear memory has.
+fn hold_memory(memory: &[u8]) -> Result<(), HostErr>
+    ensures ok { IfOk result (λ _. IsMemory memory.now) }
+    ensures memory { IfErr result (λ e. e ≡ ends.NoMemory) }
+{
+    if memory.len() > 4_194_304 {
+        return Err(HostErr::NoMemory);
+    }
+    Ok(())
+}
+
+/// Calls a function over values, over the ledger's state.
+fn value_in<G: Ground>(
+    ledger: &mut HostLedger<'_, G>,
+    import: HostImport,
+    words: &[u64],
+    memory: &mut [u8],
+) -> Result<u64, HostErr>
+    requires call { IsValueCall «import» words.now }
+    requires indices { AreIndices ledger.old.objects ledger.old.frame.shown }
+    requires memory { IsMemory memory.old }
+    ensures does { (env : Env) (opener : Opener) (rest : World) (trace : List Access) → rest.frame.memory ≡ memory.old
+        → Says any result (λ word. word) (host_function env opener «import» words.now (world_at rest ledger.old trace)) (world_at (with_memory memory.new rest) ledger.new) }
+    ensures indices { AreIndices ledger.new.objects ledger.new.frame.shown }
+    ensures kept { ledger.new ≡ record ledger.old { objects = ledger.new.objects; budget = ledger.new.budget; frame = record ledger.old.frame { shown = ledger.new.frame.shown } } }
+{
+    match call_function(
+        &mut ledger.objects,
+        &mut ledger.frame.shown,
+        memory,
+        &mut ledger.budget,
+        import,
+        words,
+    ) {
+        Ok(word) => Ok(word),
+        Err(error) => Err(HostErr::from(error)),
+    }
+}
+
+/// Calls a function over values.
+pub(crate) fn value_answer<G: Ground>(
+    host: &mut Host<'_, G>,
+    import: HostImport,
+    words: &[u64],
+    memory: &mut [u8],
+) -> Result<u64, HostErr>
+    requires ready { MayRun host.old }
+    requires over_values { is_some (value_rule «import») ≡ true }
+    requires arity { length words.now ≡ length (arguments_of «import») }
+    ensures does { (opener : Opener) → DoesOver memory.old memory.new result (λ word. word) (λ env. host_function env opener «import» words.now) host.old host.new }
+    ensures stays { StaysIn host.old host.new }
+{
+    match hold_memory(memory) {
+        Err(error) => Err(error),
+        Ok(()) => value_in(&mut host.ledger, import, words, memory),
+    }
+}
+
+/// Calls a function over the ledger and the running frame.
+pub(crate) fn ledger_answer<G: Ground>(
+    host: &mut Host<'_, G>,
+    import: HostImport,
+    words: &[u64],
+) -> Result<u64, HostErr>
+    requires ready { MayRun host.old }
+    requires over_ledger { is_over_ledger «import» ≡ true }
+    requires arity { length words.now ≡ length (arguments_of «import») }
+    ensures does { (opener : Opener) → DoesIn result (λ word. word) (λ env. host_function env opener «import» words.now) host.old host.new }
+    ensures stays { StaysIn host.old host.new }
+{
+    host_ledger::call_function(&mut host.ledger, import, words)
+}
+
+/// Shows an answer in the running frame.
+fn show<G: Ground>(ledger: &mut HostLedger<'_, G>, answer: Answer) -> Result<u64, HostErr>
+    requires made { IsAnswerMade (answer_of answer) }
+    requires indices { AreIndices ledger.old.objects ledger.old.frame.shown }
+    ensures does { (rest : World) (trace : List Access) → Says any result (λ word. word) (lift (given (answer_of answer)) (world_at rest ledger.old trace)) (world_at rest ledger.new) }
+    ensures indices { AreIndices ledger.new.objects ledger.new.frame.shown }
+    ensures kept { ledger.new ≡ record ledger.old { objects = ledger.new.objects; budget = ledger.new.budget; frame = record ledger.old.frame { shown = ledger.new.frame.shown } } }
+{
+    let word = give(
+        &mut ledger.objects,
+        &mut ledger.frame.shown,
+        &mut ledger.budget,
+        answer,
+    )?;
+    Ok(word)
+}
+
+/// Shows what a host function returns.
+pub(crate) fn shown<G: Ground>(
+    host: &mut Host<'_, G>,
+    made: Result<Answer, HostErr>,
+) -> Result<u64, HostErr>
+    requires ready { MayRun host.old }
+    requires made { IsMadeIfOk made }
+    ensures does { (start : Host G) (act : Env → Act AnswerData) → StaysIn start host.old → DoesIn made answer_of act start host.old → DoesIn result (λ word. word) (λ env. after (act env) (λ answer. lift (given answer))) start host.new }
+    ensures stays { StaysIn host.old host.new }
+{
+    match made {
+        Err(error) => Err(error),
+        Ok(answer) => show(&mut host.ledger, answer),
+    }
+}
+
+/// The number of the ledger that is made.
+fn made_seq(header: &Header) -> u32
+    requires { HasBounds (next_seq header.now) header.now.settings }
+    ensures { result ≡ next_seq header.now }
+{
+    header.seq + 1
+}
+
+/// A hash as an answer. Its only error is memory.
+fn hash_answer(alloc: Global, hash: Hash) -> Result<Answer, HostErr>
+    ensures value { IfOk result (λ a. answer_of a ≡ value (bytes hash.0)) }
+    ensures made { IsMadeIfOk result }
+    ensures memory { IfErr result (λ e. e ≡ ends.NoMemory) }
+{
+    match hash.0.to_vec(alloc) {
+        Ok(content) => Ok(Answer::bytes(content)),
+        Err(_) => Err(HostErr::NoMemory),
+    }
+}
+
+/// Uploads a code in ledger `n`, and returns its hash as an answer.
+fn uploaded<G: Ground>(
+    alloc: Global,
+    storage: &mut Storage<'_, G>,
+    budget: &mut Budget,
+    n: u32,
+    code: &[u8],
+) -> Result<Answer, HostErr>
+    requires few { length code.now < 2 ^ 32 }
+    requires number { storage.old.n ≡ n }
+    ensures does { Steps result answer_of (λ env. returning (uploads env code.now) (λ hash. bytes hash.0)) storage.old storage.new budget.old budget.new }
+    ensures made { IsMadeIfOk result }
+    ensures later { IsLater storage.old storage.new }
+{
+    match upload(alloc, storage, budget, n, code) {
+        Err(error) => Err(error),
+        Ok(hash) => hash_answer(alloc, hash),
+    }
+}
+
+/// The body of `upload_wasm`.
+#[tactic(auto, using(crate::proofs::Answering::few_bytes))]
+fn upload_body<G: Ground>(
+    storage: &mut Storage<'_, G>,
+    budget: &mut Budget,
+    values: &Values<'_>,
+    n: u32,
+    a: u64,
+) -> Result<Answer, HostErr>
+    requires { storage.old.n ≡ n }
+    ensures does { (contract : Hash) (copy : Copied) → Runs result (kinds.Bytes ∷ []) upload_wasm (a ∷ []) values.now contract storage.old storage.new budget.old budget.new copy copy }
+    ensures made { IsMadeIfOk result }
+    ensures later { IsLater storage.old storage.new }
+{
+    let code = values.bytes(a)?;
+    enter(budget, &[a])?;
+    uploaded(values.allocator(), storage, budget, n, code)
+}
+
+/// `upload_wasm` over the ledger's state.
+fn upload_in<G: Ground>(ledger: &mut HostLedger<'_, G>, a: u64) -> Result<Answer, HostErr>
+    requires { IsReady ledger.old }
+    ensures { Answers result (kinds.Bytes ∷ []) upload_wasm (a ∷ []) ledger.old ledger.new }
+{
+    let n = made_seq(ledger.header);
+    let values = Values::new(&ledger.objects, &ledger.frame.shown);
+    upload_body(&mut ledger.storage, &mut ledger.budget, &values, n, a)
+}
+
+/// `upload_wasm`: the hash of a code.
+pub(crate) fn upload_row<G: Ground>(
+    host: &mut Host<'_, G>,
+    words: &[u64],
+) -> Result<Answer, HostErr>
+    requires ready { MayRun host.old }
+    requires arity { length words.now ≡ 1 }
+    ensures does { DoesIn result answer_of (λ env. answered (kinds.Bytes ∷ []) (upload_wasm env) words.now) host.old host.new }
+    ensures made { IsMadeIfOk result }
+    ensures stays { StaysIn host.old host.new }
+{
+    match words {
+        [a] => upload_in(&mut host.ledger, *a),
+        _ => Err(HostErr::NoMemory),
+    }
+}
+
+/// Void, if the caller authorises a call: it has to be the contract with this address.
+fn authorised(caller: Option<Hash>, address: ScAddress) -> Result<Answer, HostErr>
+    ensures does { (args : List Datum) (w : World) → w.frame.caller ≡ option_map address_of caller → Says any result answer_of (demands address args w.frame w) (λ trace. w) }
+    ensures made { IsMadeIfOk result }
+{
+    match demand(caller, address) {
+        Ok(()) => Ok(Answer::void()),
+        Err(error) => Err(error),
+    }
+}
+
+/// The body of `require_auth`.
+fn auth_body(
+    budget: &mut Budget,
+    values: &Values<'_>,
+    caller: Option<Hash>,
+    a: u64,
+) -> Result<Answer, HostErr>
+    ensures does { (w : World) → w.meter ≡ budget.old → w.frame.shown ≡ values.now → w.frame.caller ≡ option_map address_of caller
+        → Says any result answer_of (answered (kinds.Address ∷ []) require_auth (a ∷ []) w) (λ trace. record w { meter = budget.new }) }
+    ensures made { IsMadeIfOk result }
+{
+    let address = values.address(a)?;
+    enter(budget, &[a])?;
+    authorised(caller, address)
+}
+
+/// `require_auth` over the ledger's state.
+fn auth_in<G: Ground>(ledger: &mut HostLedger<'_, G>, a: u64) -> Result<Answer, HostErr>
+    requires { IsReady ledger.old }
+    ensures { Answers result (kinds.Address ∷ []) (λ _. require_auth) (a ∷ []) ledger.old ledger.new }
+{
+    let values = Values::new(&ledger.objects, &ledger.frame.shown);
+    auth_body(&mut ledger.budget, &values, ledger.frame.caller, a)
+}
+
+/// `require_auth`: Void, if the running frame's caller has this address.
+pub(crate) fn auth_row<G: Ground>(host: &mut Host<'_, G>, words: &[u64]) -> Result<Answer, HostErr>
+    requires ready { MayRun host.old }
+    requires arity { length words.now ≡ 1 }
+    ensures does { DoesIn result answer_of (λ env. answered (kinds.Address ∷ []) require_auth words.now) host.old host.new }
+    ensures made { IsMadeIfOk result }
+    ensures stays { StaysIn host.old host.new }
+{
+    match words {
+        [a] => auth_in(&mut host.ledger, *a),
+        _ => Err(HostErr::NoMemory),
+    }
+}
+
+/// The body of `require_auth_for_args`.
+fn auth_for_args_body(
+    budget: &mut Budget,
+    values: &Values<'_>,
+    caller: Option<Hash>,
+    a: u64,
+    b: u64,
+) -> Result<Answer, HostErr>
+    ensures does { (w : World) → w.meter ≡ budget.old → w.frame.shown ≡ values.now → w.frame.caller ≡ option_map address_of caller
+        → Says any result answer_of (answered (kinds.Address ∷ kinds.Vec ∷ []) require_auth_for_args (a ∷ b ∷ []) w) (λ trace. record w { meter = budget.new }) }
+    ensures made { IsMadeIfOk result }
+{
+    let address = values.address(a)?;
+    let _args = values.vec(b)?;
+    enter(budget, &[a, b])?;
+    authorised(caller, address)
+}
+
+/// `require_auth_for_args` over the ledger's state.
+fn auth_for_args_in<G: Ground>(
+    ledger: &mut HostLedger<'_, G>,
+    a: u64,
+    b: u64,
+) -> Result<Answer, HostErr>
+    requires { IsReady ledger.old }
+    ensures { Answers result (kinds.Address ∷ kinds.Vec ∷ []) (λ _. require_auth_for_args) (a ∷ b ∷ []) ledger.old ledger.new }
+{
+    let values = Values::new(&ledger.objects, &ledger.frame.shown);
+    auth_for_args_body(&mut ledger.budget, &values, ledger.frame.caller, a, b)
+}
+
+/// `require_auth_for_args`: the same, with other arguments.
+pub(crate) fn auth_for_args_row<G: Ground>(
+    host: &mut Host<'_, G>,
+    words: &[u64],
+) -> Result<Answer, HostErr>
+    requires ready { MayRun host.old }
+    requires arity { length words.now ≡ 2 }
+    ensures does { DoesIn result answer_of (λ env. answered (kinds.Address ∷ kinds.Vec ∷ []) require_auth_for_args words.now) host.old host.new }
+    ensures made { IsMadeIfOk result }
+    ensures stays { StaysIn host.old host.new }
+{
+    match words {
+        [a, b] => auth_for_args_in(&mut host.ledger, *a, *b),
+        _ => Err(HostErr::NoMemory),
+    }
+}

@@ -1,0 +1,135 @@
+//! The frame that runs, before and after its code does.
+
+ghost use Rattle.std.specs.Prelude.{◌≡◌, length, IfOk};
+ghost use Rattle.value_types.specs.Views.{datum, datums};
+ghost use Rattle.host_spec.specs.Hosted.{IsHosted};
+ghost use Rattle.host_frame.specs.Made.{AreMade};
+ghost use Rattle.object_store.specs.Shown.{shown_of, AreIndices};
+ghost use Rattle.contract_storage.specs.Stored.{IsLater};
+ghost use Rattle.call_spec.specs.World.{World, Env};
+ghost use Rattle.call_spec.specs.Outcomes.{Says};
+ghost use Rattle.host_ledger.specs.Answered.{any};
+ghost use Rattle.call_spec.specs.Frames.{finished};
+ghost use Rattle.host_ledger.specs.Worlds.{IsReady, IsHeld, Serves, copied};
+ghost use Rattle.contract_call.specs.Worlds.{DoesIn, MayRun};
+ghost use Rattle.contract_call.specs.Framed.{argument_words as argument_words_in};
+ghost use Rattle.contract_call.specs.Running.{IsNewFrame, StaysIn, DoesFrom};
+
+use crate::frames::{argument_words, finish};
+use crate::host::Host;
+use entry_lookup::Ground;
+use host_ledger::{HostLedger, InstanceCopy, Running};
+use host_spec::HostErr;
+use module_loader::LinkedModule;
+use object_store::Shown;
+use std::alloc::Global;
+use value_types::{Hash, ScVal};
+
+/// The frame of a call, before it runs.
+pub(crate) fn running(
+    alloc: Global,
+    contract: Hash,
+    caller: Option<Hash>,
+    copy: InstanceCopy,
+) -> Running
+    requires { IsHeld copy.storage }
+    ensures contract { result.contract ≡ contract }
+    ensures caller { result.caller ≡ caller }
+    ensures copy { result.copy ≡ copy }
+    ensures new { IsNewFrame result }
+{
+    Running {
+        contract,
+        caller,
+        code: copy.code,
+        copy,
+        shown: Shown::new(alloc),
+    }
+}
+
+/// Charges for a run of a module's function in the ledger's running frame, and shows its arguments. Returns their words.
+fn begin_in<G: Ground>(
+    ledger: &mut HostLedger<'_, G>,
+    module: &LinkedModule,
+    args: Vec<ScVal>,
+) -> Result<Vec<u64>, HostErr>
+    requires made { AreMade (datums args.items) }
+    requires ready { IsReady ledger.old }
+    ensures does { (w : World) → w.frame.shown ≡ shown_of ledger.old.objects ledger.old.frame.shown → w.meter ≡ ledger.old.budget
+        → Says any result (λ words. words.items) (argument_words_in «module».now.memories (datums args.items) w)
+        (λ trace. record w { frame = record w.frame { shown = shown_of ledger.new.objects ledger.new.frame.shown }; trace = trace; meter = ledger.new.budget }) }
+    ensures count { IfOk result (λ words. length words.items ≡ length (datums args.items)) }
+    ensures indices { AreIndices ledger.new.objects ledger.new.frame.shown }
+    ensures stays { ledger.new ≡ record ledger.old { objects = ledger.new.objects; frame = record ledger.old.frame { shown = ledger.new.frame.shown }; budget = ledger.new.budget } }
+{
+    argument_words(
+        &mut ledger.objects,
+        &mut ledger.frame.shown,
+        &mut ledger.budget,
+        module.valid().module(),
+        args,
+    )
+}
+
+/// Charges for the run of the frame's function, and shows its arguments. Returns their words.
+pub(crate) fn begin<G: Ground>(
+    host: &mut Host<'_, G>,
+    module: &LinkedModule,
+    args: Vec<ScVal>,
+) -> Result<Vec<u64>, HostErr>
+    requires ready { MayRun host.old }
+    requires made { AreMade (datums args.items) }
+    ensures does { DoesIn result (λ words. words.items) (λ env. argument_words_in «module».now.memories (datums args.items)) host.old host.new }
+    ensures count { IfOk result (λ words. length words.items ≡ length (datums args.items)) }
+    ensures stays { StaysIn host.old host.new }
+{
+    begin_in(&mut host.ledger, module, args)
+}
+
+/// The number of the ledger that is made.
+fn made_seq<G: Ground>(ledger: &HostLedger<'_, G>) -> u32
+    requires { IsReady ledger.now }
+    ensures { result ≡ ledger.now.storage.n }
+{
+    ledger.header.seq + 1
+}
+
+/// Ends the ledger's running frame, whose code returned a word.
+fn end_in<G: Ground>(
+    ledger: &mut HostLedger<'_, G>,
+    first: &InstanceCopy,
+    word: u64,
+) -> Result<ScVal, HostErr>
+    requires ready { IsReady ledger.old }
+    ensures does { (env : Env) → Serves env ledger.old.storage → (w : World) → w.entries ≡ ledger.old.storage.map → w.meter ≡ ledger.old.budget
+        → w.frame.shown ≡ shown_of ledger.old.objects ledger.old.frame.shown → w.frame.contract ≡ ledger.old.frame.contract → w.frame.first ≡ copied first.now → w.frame.copy ≡ copied ledger.old.frame.copy
+        → Says any result datum (finished env word w) (λ trace. record w { entries = ledger.new.storage.map; trace = trace; meter = ledger.new.budget }) }
+    ensures hosted { IfOk result (λ value. IsHosted (datum value)) }
+    ensures later { IsLater ledger.old.storage ledger.new.storage }
+    ensures stays { ledger.new ≡ record ledger.old { storage = ledger.new.storage; budget = ledger.new.budget } }
+{
+    let n = made_seq(ledger);
+    finish(
+        &mut ledger.storage,
+        &mut ledger.budget,
+        n,
+        &ledger.objects,
+        &ledger.frame,
+        first,
+        word,
+    )
+}
+
+/// Ends the frame, whose code returned a word.
+pub(crate) fn end<G: Ground>(
+    host: &mut Host<'_, G>,
+    first: &InstanceCopy,
+    word: u64,
+) -> Result<ScVal, HostErr>
+    requires ready { MayRun host.old }
+    ensures does { DoesFrom (copied first.now) result datum (λ env. finished env word) host.old host.new }
+    ensures hosted { IfOk result (λ value. IsHosted (datum value)) }
+    ensures stays { StaysIn host.old host.new }
+{
+    end_in(&mut host.ledger, first, word)
+}

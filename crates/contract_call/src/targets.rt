@@ -1,0 +1,168 @@
+//! What a call finds before it enters a frame.
+
+ghost use Rattle.std.specs.Prelude.{◌≡◌, Option, Some, None, IfOk, reverse};
+ghost use Rattle.std.specs.List.{list_any};
+ghost use Rattle.std.specs.Str.{bytes_eq};
+ghost use Rattle.value_types.specs.declared.address.ScAddress.TheVariants as addresses;
+ghost use Rattle.call_spec.specs.World.{World, Env};
+ghost use Rattle.call_spec.specs.Acts.{after, gives};
+ghost use Rattle.call_spec.specs.Calling.{is_reserved as is_reserved_in};
+ghost use Rattle.call_spec.specs.Outcomes.{Says};
+ghost use Rattle.call_parts.specs.Steps.{Steps};
+ghost use Rattle.host_ledger.specs.Answered.{any};
+ghost use Rattle.host_ledger.specs.Worlds.{Serves, IsHeld, copied};
+ghost use Rattle.contract_call.specs.Worlds.{DoesAround, MayRun, Stays};
+ghost use Rattle.contract_call.specs.Targets.{tests, target, module_at, target_at as target_at_in, target_of as target_of_in};
+
+use crate::errors::{OTHER_TYPE, REENTERED, RESERVED_NAME};
+use crate::host::Host;
+use budget_meter::Budget;
+use call_parts::{call_module, find_instance};
+use contract_storage::Storage;
+use entry_lookup::Ground;
+use host_ledger::{HostLedger, InstanceCopy};
+use host_spec::HostErr;
+use module_loader::LinkedModule;
+use std::alloc::Global;
+use value_types::{Hash, ScAddress, ScVal};
+
+/// A call of a contract's function.
+#[derive(Drop)]
+pub(crate) struct ContractCall<'c> {
+    /// The contract that calls, if a contract does.
+    pub caller: Option<Hash>,
+    pub contract: ScAddress,
+    pub function: &'c [u8],
+    pub args: Vec<ScVal>,
+}
+
+/// What is called: a contract, with its instance and the module of the instance's code.
+#[derive(Drop)]
+pub(crate) struct Target {
+    pub contract: Hash,
+    pub copy: InstanceCopy,
+    pub module: LinkedModule,
+}
+
+/// Whether only the host may call functions of this name.
+fn is_reserved(function: &[u8]) -> bool
+    ensures { result ≡ is_reserved_in function.now }
+{
+    function.starts_with(b"__")
+}
+
+/// Whether a contract has an open frame. The newest frames are last.
+fn is_running(open: &[Hash], contract: Hash) -> bool
+    ensures { result ≡ list_any (λ other. bytes_eq contract.0 other.0) (reverse open.now) }
+{
+    open.iter().rev().any(|other| contract == *other)
+}
+
+/// The contract at the address, if its function may be called now.
+fn admitted(open: &[Hash], address: ScAddress, function: &[u8]) -> Result<Hash, HostErr>
+    ensures { (w : World) → w.contracts ≡ reverse open.now → Says any result (λ c. c) (tests function.now address (λ c. gives c) w) (λ trace. w) }
+{
+    let ScAddress::Contract(contract) = address else {
+        return Err(OTHER_TYPE);
+    };
+    if is_reserved(function) {
+        return Err(RESERVED_NAME);
+    }
+    if is_running(open, contract) {
+        return Err(REENTERED);
+    }
+    Ok(contract)
+}
+
+/// Finds the module of the code of a contract's instance.
+fn with_module<G: Ground>(
+    alloc: Global,
+    storage: &Storage<'_, G>,
+    budget: &mut Budget,
+    contract: Hash,
+    copy: InstanceCopy,
+) -> Result<Target, HostErr>
+    requires { IsHeld copy.storage }
+    ensures does { Steps result target (λ env. after (module_at env copy.code) (λ m. gives (record { contract = contract; instance = copied copy; module_ = m }))) storage.now storage.now budget.old budget.new }
+    ensures held { IfOk result (λ t. IsHeld t.copy.storage) }
+{
+    match call_module(alloc, storage, budget, copy.code) {
+        Ok(module) => Ok(Target {
+            contract,
+            copy,
+            module,
+        }),
+        Err(error) => Err(error),
+    }
+}
+
+/// Finds the instance of a contract, and the module of its code.
+fn target_at<G: Ground>(
+    alloc: Global,
+    storage: &Storage<'_, G>,
+    budget: &mut Budget,
+    contract: Hash,
+) -> Result<Target, HostErr>
+    ensures does { Steps result target (λ env. target_at_in env contract) storage.now storage.now budget.old budget.new }
+    ensures held { IfOk result (λ t. IsHeld t.copy.storage) }
+{
+    match find_instance(storage, budget, contract) {
+        Ok(copy) => with_module(alloc, storage, budget, contract, copy),
+        Err(error) => Err(error),
+    }
+}
+
+/// Finds the target of a call, by the call's tests in their order.
+pub(crate) fn target_of<G: Ground>(
+    alloc: Global,
+    open: &[Hash],
+    storage: &Storage<'_, G>,
+    budget: &mut Budget,
+    address: ScAddress,
+    function: &[u8],
+) -> Result<Target, HostErr>
+    ensures does { (env : Env) → Serves env storage.now → (w : World) → w.entries ≡ storage.now.map → w.meter ≡ budget.old → w.contracts ≡ reverse open.now
+        → Says any result target (target_of_in function.now address env w) (λ trace. record w { trace = trace; meter = budget.new }) }
+    ensures held { IfOk result (λ t. IsHeld t.copy.storage) }
+{
+    match admitted(open, address, function) {
+        Ok(contract) => target_at(alloc, storage, budget, contract),
+        Err(error) => Err(error),
+    }
+}
+
+/// Finds the target of a call in the host's ledger.
+fn target_in<G: Ground>(
+    ledger: &mut HostLedger<'_, G>,
+    open: &[Hash],
+    contract: ScAddress,
+    function: &[u8],
+) -> Result<Target, HostErr>
+    ensures does { (env : Env) → Serves env ledger.old.storage → (w : World) → w.entries ≡ ledger.old.storage.map → w.meter ≡ ledger.old.budget → w.contracts ≡ reverse open.now
+        → Says any result target (target_of_in function.now contract env w) (λ trace. record w { trace = trace; meter = ledger.new.budget }) }
+    ensures held { IfOk result (λ t. IsHeld t.copy.storage) }
+    ensures stays { ledger.new ≡ record ledger.old { budget = ledger.new.budget } }
+{
+    target_of(
+        ledger.objects.allocator(),
+        open,
+        &ledger.storage,
+        &mut ledger.budget,
+        contract,
+        function,
+    )
+}
+
+/// Finds the target of a call.
+pub(crate) fn find_target<G: Ground>(
+    host: &mut Host<'_, G>,
+    contract: ScAddress,
+    function: &[u8],
+) -> Result<Target, HostErr>
+    requires ready { MayRun host.old }
+    ensures does { DoesAround result target (target_of_in function.now contract) host.old host.new }
+    ensures held { IfOk result (λ t. IsHeld t.copy.storage) }
+    ensures stays { Stays host.old host.new }
+{
+    target_in(&mut host.ledger, &host.open, contract, function)
+}

@@ -1,0 +1,122 @@
+//! Failures that leave the state as it was.
+
+ghost use Rattle.std.specs.Prelude.{◌≡◌, ◌≤◌, length, IfOk};
+ghost use Rattle.value_types.specs.Datum.{Datum, error as error_datum};
+ghost use Rattle.value_types.specs.Views.{datum};
+ghost use Rattle.host_spec.specs.Hosted.{IsHosted};
+ghost use Rattle.call_spec.specs.World.{Env};
+ghost use Rattle.call_spec.specs.Acts.{Act};
+ghost use Rattle.call_spec.specs.Calling.{catching};
+ghost use Rattle.call_spec.specs.Frames.{passed_on as passed_on_in};
+ghost use Rattle.contract_call.specs.Worlds.{DoesAround, Stays};
+ghost use Rattle.contract_call.specs.Undone.{Marks, IsBack, Undoes, Catches};
+ghost use Rattle.contract_call.specs.declared.host.Host.{Host as Host'};
+
+use crate::errors::HIDDEN_ERROR;
+use crate::host::Host;
+use contract_storage::Point;
+use entry_lookup::Ground;
+use host_spec::HostErr;
+use value_types::{ScError, ScVal};
+
+/// A state to go back to.
+#[derive(Clone, Copy)]
+pub(crate) struct Mark {
+    pub storage: Point,
+    /// The number of events.
+    pub events: usize,
+}
+
+impl<'a, G: Ground> Host<'a, G> {
+    /// Marks the state of the ledger and of the events.
+    pub(crate) fn mark(&self) -> Mark
+        ensures storage { result.storage.writes ≡ length self.now.ledger.storage.past }
+        ensures events { result.events ≡ length self.now.ledger.events }
+    {
+        Mark {
+            storage: self.ledger.storage.snapshot(),
+            events: self.ledger.events.len(),
+        }
+    }
+
+    /// Goes back to the ledger's entries and the events of a mark. It takes no memory.
+    fn restore(&mut self, mark: Mark)
+        requires { mark.storage.writes ≤ length self.old.ledger.storage.past }
+        ensures { IsBack mark self.old self.new }
+    {
+        self.ledger.storage.restore(mark.storage);
+        self.ledger.events.truncate(mark.events);
+    }
+}
+
+/// Goes back to a mark if the end is a failure, and returns the end.
+pub(crate) fn undo<G: Ground>(host: &mut Host<'_, G>, mark: Mark, error: HostErr) -> HostErr
+    requires { mark.storage.writes ≤ length host.old.ledger.storage.past }
+    ensures same { result ≡ error }
+    ensures undoes { Undoes mark error host.old host.new }
+{
+    match error {
+        HostErr::Failed(failure) => {
+            host.restore(mark);
+            HostErr::Failed(failure)
+        }
+        error => error,
+    }
+}
+
+/// An error of a contract.
+fn contract_error(code: u32) -> ScError
+    ensures error { result ≡ ScError.Contract code }
+    ensures hosted { IsHosted (error_datum result) }
+{
+    ScError::Contract(code)
+}
+
+/// The error that a failed call shows to the contract that called.
+fn passed_on(error: ScError) -> ScError
+    ensures passed_on { result ≡ passed_on_in error }
+    ensures hosted { IsHosted (error_datum result) }
+{
+    match error {
+        ScError::Contract(code) => contract_error(code),
+        _ => HIDDEN_ERROR,
+    }
+}
+
+/// Goes back to a mark if the end is a failure, and returns the value of its error. Returns any other end as it is.
+fn caught_end<G: Ground>(
+    host: &mut Host<'_, G>,
+    mark: Mark,
+    error: HostErr,
+) -> Result<ScVal, HostErr>
+    requires { mark.storage.writes ≤ length host.old.ledger.storage.past }
+    ensures catches { Catches mark error result host.old host.new }
+    ensures hosted { IfOk result (λ value. IsHosted (datum value)) }
+{
+    match error {
+        HostErr::Failed(failure) => {
+            host.restore(mark);
+            Ok(ScVal::Error(passed_on(failure)))
+        }
+        error => Err(error),
+    }
+}
+
+/// Catches a failure: the value of its error comes in its place, and the state is that of the mark. Any other end stays as it is.
+pub(crate) fn caught<G: Ground>(
+    host: &mut Host<'_, G>,
+    mark: Mark,
+    made: Result<ScVal, HostErr>,
+) -> Result<ScVal, HostErr>
+    requires made { IfOk made (λ value. IsHosted (datum value)) }
+    requires room { mark.storage.writes ≤ length host.old.ledger.storage.past }
+    ensures does { (start : Host' G) (act : Env → Act Datum) → Marks mark start → Stays start host.old → DoesAround made datum act start host.old
+        → DoesAround result datum (λ env. catching (act env)) start host.new }
+    ensures stays { (start : Host' G) → Marks mark start → Stays start host.old → Stays start host.new }
+    ensures hosted { IfOk result (λ value. IsHosted (datum value)) }
+{
+    match made {
+        Ok(value) => Ok(value),
+        Err(error) => caught_end(host, mark, error),
+    }
+}

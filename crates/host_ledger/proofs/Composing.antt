@@ -1,0 +1,48 @@
+-- One act after another.
+use Rattle.std.proofs.Common.{List, ◌++◌, Result, Ok, Err, sym, ap, subst, ◌∙◌, append_assoc}
+use Rattle.ledger_spec.specs.LedgerMap.{LedgerMap}
+use Rattle.host_spec.specs.declared.error.HostErr.{HostErr}
+use Rattle.host_spec.specs.declared.error.HostErr.TheVariants as ends
+use Rattle.contract_storage.specs.Stored.{Stored, IsLater, with_history, history}
+use Rattle.call_spec.specs.World.{Access, World, Env}
+use Rattle.call_spec.specs.Acts.{Act, Out, Good, Bad, Undeclared, then_do}
+use Rattle.call_spec.specs.Outcomes.{Says, trace_of}
+use Rattle.host_ledger.specs.Worlds.{Serves}
+use Rattle.host_ledger.specs.Answered.{any}
+
+-- what ends the first act ends both
+pub ends_then : {A B X Y : Type 0} (f : X → A) (g : Y → B) (out : Out A) (next : A → Act B) (left : List Access → World) (e : HostErr) → (let r : Result X HostErr = Err e in Says any r f out left)
+    → let q : Result Y HostErr = Err e in Says any q g (then_do out next) left
+ends_then f g (Good a w) next left (ends.Failed x) h = absurd (let k = h.1 in cc)
+ends_then f g (Good a w) next left ends.Spent h = absurd (let k = h.1 in cc)
+ends_then f g (Good a w) next left (ends.Archived key) h = absurd (let k = h.1 in cc)
+ends_then f g (Good a w) next left (ends.Undeclared key) h = absurd (let k = h.1 in cc)
+ends_then f g (Good a w) next left ends.NoMemory h = tt
+ends_then f g (Bad d w) next left (ends.Failed x) h = (tt, let k = h.1 in cc)
+ends_then f g (Bad d w) next left ends.Spent h = (tt, (let k = h.1 in cc), h.2)
+ends_then f g (Bad d w) next left (ends.Archived key) h = (tt, (let k = h.1 in cc), h.2)
+ends_then f g (Bad d w) next left (ends.Undeclared key) h = absurd (let k = h.1 in cc)
+ends_then f g (Bad d w) next left ends.NoMemory h = tt
+ends_then f g (Undeclared a w) next left (ends.Failed x) h = absurd (let k = h.1 in cc)
+ends_then f g (Undeclared a w) next left ends.Spent h = absurd (let k = h.1 in cc)
+ends_then f g (Undeclared a w) next left (ends.Archived key) h = absurd (let k = h.1 in cc)
+ends_then f g (Undeclared a w) next left (ends.Undeclared key) h = (tt, (let k = h.1 in cc), h.2)
+ends_then f g (Undeclared a w) next left ends.NoMemory h = tt
+
+-- the second act starts where the first one ended
+pub goes_then : {A B X Y : Type 0} (f : X → A) (g : Y → B) (out : Out A) (next : A → Act B) (left then : List Access → World) (x : X) (q : Result Y HostErr)
+    → (let r : Result X HostErr = Ok x in Says any r f out left) → ((trace : List Access) → Says any q g (next (f x) (left trace)) then) → Says any q g (then_do out next) then
+goes_then {A} {B} f g out next left then x q h k =
+    subst (λ (o : Out B). Says any q g o then) (sym (ap (λ (o : Out A). then_do o next) h.1)) (k (trace_of out))
+
+-- ---- storages
+
+pub serves_later : (env : Env) (old new : Stored) → Serves env old → IsLater old new → Serves env new
+serves_later env old new serves h =
+    subst (λ (s : Stored). Serves env s) (sym h.same) (record { number = serves.number; lives = serves.lives; judge = serves.judge })
+
+pub later_then : (old middle new : Stored) → IsLater old middle → IsLater middle new → IsLater old new
+later_then old middle new h k = record {
+  same = k.same ∙ ap (λ (s : Stored). with_history s new) h.same;
+  later = (h.later.0 ++ k.later.0, k.later.1 ∙ ap (λ (maps : List LedgerMap). maps ++ k.later.0) h.later.1 ∙ append_assoc (history old) h.later.0 k.later.0);
+}

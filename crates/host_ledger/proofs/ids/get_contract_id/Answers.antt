@@ -1,0 +1,23 @@
+use Rattle.std.proofs.Common.{[], ap, refl, sym, arith}
+use Rattle.std.proofs.lemmas.Grind.{common_steps}
+use Rattle.ledger_types.specs.declared.header.Header.{Header}
+use Rattle.host_ledger.specs.Worlds.{world_at}
+use Rattle.host_ledger.proofs.Rows.{later_same}
+use Rattle.host_ledger.proofs.ids.get_contract_id.Goals as goal
+
+pub returns : goal.returns
+returns g c = record {
+  does = λ env is rest trace. c.id_of_words.ensures.does env (ap (λ (h : Header). h.network_id) is.header) (world_at rest c.args.host.now trace) refl (sym c.new-values.ensures);
+  made = c.id_of_words.ensures.made;
+  stays = record {
+    header = refl;
+    storage = later_same _ _ refl;
+    events = ([], grind (arith, common_steps));
+    objects = refl;
+    shown = refl;
+    contract = refl;
+    caller = refl;
+    code = refl;
+    copy = λ h. h;
+  };
+}

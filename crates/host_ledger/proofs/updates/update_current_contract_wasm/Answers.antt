@@ -1,0 +1,21 @@
+use Rattle.std.proofs.Common.{refl, sym, subst}
+use Rattle.host_ledger.specs.Worlds.{IsHeld, world_at}
+use Rattle.host_ledger.proofs.Rows.{later_same}
+use Rattle.host_ledger.proofs.updates.update_current_contract_wasm.Goals as goal
+
+pub returns : goal.returns
+returns g c = record {
+  does = λ env is rest trace. c.update_code.ensures.does env is.serves (world_at rest c.args.host.now trace) refl refl refl (sym c.new-values.ensures) refl refl;
+  made = c.update_code.ensures.made;
+  stays = record {
+    header = refl;
+    storage = later_same _ _ refl;
+    events = c.update_code.ensures.later;
+    objects = refl;
+    shown = refl;
+    contract = refl;
+    caller = refl;
+    code = refl;
+    copy = λ h. subst IsHeld (sym c.update_code.ensures.storage) h;
+  };
+}

@@ -1,0 +1,26 @@
+-- What the body of a row does.
+use Rattle.std.specs.Prelude.{ℕ, List, Result, Ok, Err}
+use Rattle.host_interface.specs.declared.kinds.ArgKind.{ArgKind}
+use Rattle.host_spec.specs.declared.error.HostErr.{HostErr}
+use Rattle.host_frame.specs.Answered.{answer_of}
+use Rattle.host_frame.specs.Made.{IsAnswerMade}
+use Rattle.host_frame.specs.declared.answer.Answer.{Answer as Answer'}
+use Rattle.call_spec.specs.World.{Access, World, Env}
+use Rattle.call_spec.specs.Outcomes.{Says}
+use Rattle.call_spec.specs.Rules.{Rule, answered}
+use Rattle.host_ledger.specs.Worlds.{world_at, IsEnv, Stays}
+use Rattle.host_ledger.specs.declared.state.HostLedger.{HostLedger}
+
+-- a storage that enforces a footprint knows nothing of the accesses
+abbrev pub any : List Access → Type 0
+any trace = Unit {0}
+
+abbrev pub IsMadeIfOk : Result Answer' HostErr → Type 0
+IsMadeIfOk (Ok a) = IsAnswerMade (answer_of a)
+IsMadeIfOk (Err e) = Unit {0}
+
+-- A body returns what the row's rule says for these words, in each environment and world of the state, whatever its accesses were so far.
+pub record Answers {G : Type 0} (r : Result Answer' HostErr) (ks : List ArgKind) (rule : Env → Rule ks) (words : List ℕ) (old new : HostLedger G) : Type 0 where
+  pub does : (env : Env) → IsEnv env old → (rest : World) (trace : List Access) → Says any r answer_of (answered ks (rule env) words (world_at rest old trace)) (world_at rest new)
+  pub made : IsMadeIfOk r
+  pub stays : Stays old new

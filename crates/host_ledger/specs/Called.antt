@@ -1,0 +1,55 @@
+-- Calls of the functions over the ledger and the running frame (own).
+use Rattle.std.specs.Prelude.{◌≡◌, ◌++◌, ℕ, Bool, true, false, List, length, Result}
+use Rattle.host_interface.specs.declared.import.HostImport.{HostImport}
+use Rattle.host_interface.specs.declared.import.HostImport.TheVariants as imports
+use Rattle.host_spec.specs.Indices.{arguments_of}
+use Rattle.host_spec.specs.declared.error.HostErr.{HostErr}
+use Rattle.contract_storage.specs.Stored.{IsLater}
+use Rattle.call_spec.specs.World.{Access, World, Env}
+use Rattle.call_spec.specs.Frames.{Opener}
+use Rattle.call_spec.specs.HostFunctions.{host_function}
+use Rattle.call_spec.specs.Outcomes.{Says}
+use Rattle.host_ledger.specs.Worlds.{world_at, IsEnv, IsReady}
+use Rattle.host_ledger.specs.Answered.{any}
+use Rattle.host_ledger.specs.declared.state.HostLedger.{HostLedger}
+
+-- The functions of the modules x and l that act on the ledger or the running frame alone: all that neither upload, create nor call.
+abbrev pub is_over_ledger : HostImport → Bool
+is_over_ledger imports.ContractEvent = true
+is_over_ledger imports.GetLedgerVersion = true
+is_over_ledger imports.GetLedgerSequence = true
+is_over_ledger imports.GetLedgerTimestamp = true
+is_over_ledger imports.GetLedgerNetworkId = true
+is_over_ledger imports.GetCurrentContractAddress = true
+is_over_ledger imports.GetMaxLiveUntilLedger = true
+is_over_ledger imports.FailWithError = true
+is_over_ledger imports.PutContractData = true
+is_over_ledger imports.HasContractData = true
+is_over_ledger imports.GetContractData = true
+is_over_ledger imports.DelContractData = true
+is_over_ledger imports.ExtendContractDataTtl = true
+is_over_ledger imports.ExtendCurrentContractInstanceAndCodeTtl = true
+is_over_ledger imports.UpdateCurrentContractWasm = true
+is_over_ledger imports.GetContractId = true
+is_over_ledger _ = false
+
+-- the words are those of a call of such a function
+pub record IsLedgerCall (i : HostImport) (words : List ℕ) : Type 0 where
+  pub over_ledger : is_over_ledger i ≡ true
+  pub arity : length words ≡ length (arguments_of i)
+
+-- What a call leaves: writes and events were only added, and the frame is still the frame of this contract.
+pub record Left {G : Type 0} (old new : HostLedger G) : Type 0 where
+  pub header : new.header.now ≡ old.header.now
+  pub storage : IsLater old.storage new.storage
+  pub events : (more : List _) × (new.events ≡ old.events ++ more)
+  pub contract : new.frame.contract ≡ old.frame.contract
+  pub caller : new.frame.caller ≡ old.frame.caller
+  pub code : new.frame.code ≡ old.frame.code
+
+-- A call does what the function does with these words, in each environment and world of the state, whatever its accesses were so far.
+pub record Calls {G : Type 0} (r : Result ℕ HostErr) (i : HostImport) (words : List ℕ) (old new : HostLedger G) : Type 0 where
+  pub does : (env : Env) → IsEnv env old → (opener : Opener) (rest : World) (trace : List Access)
+      → Says any r (λ n. n) (host_function env opener i words (world_at rest old trace)) (world_at rest new)
+  pub ready : IsReady new
+  pub left : Left old new

@@ -1,0 +1,9 @@
+pub mod EventLists
+pub mod Worlds
+pub mod Answered
+pub mod Accessed
+pub mod Places
+pub mod KeyIndex
+pub mod Storing
+pub mod Rows
+pub mod Called

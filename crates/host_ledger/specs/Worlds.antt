@@ -1,0 +1,93 @@
+-- The program's state as a world.
+use Rattle.std.specs.Prelude.{◌≡◌, ◌++◌, List, Option, Some, None}
+use Rattle.std.specs.Option.{option_map}
+use Rattle.value_types.specs.declared.hash.Hash.{Hash}
+use Rattle.value_types.specs.declared.address.ScAddress.{ScAddress}
+use Rattle.value_types.specs.declared.address.ScAddress.TheVariants.{Contract}
+use Rattle.value_types.specs.Datum.{map, members_of}
+use Rattle.host_spec.specs.MapRows.{Member}
+use Rattle.host_spec.specs.Hosted.{IsHosted}
+use Rattle.object_store.specs.Shown.{shown_of, AreIndices}
+use Rattle.ledger_types.specs.Key.{key_format}
+use Rattle.ledger_types.specs.declared.key.LedgerKey.{LedgerKey}
+use Rattle.ledger_spec.specs.LedgerMap.{key_bytes}
+use Rattle.contract_storage.specs.Stored.{Stored, HasBounds, IsLater}
+use Rattle.contract_storage.specs.Footprint.{allows}
+use Rattle.contract_storage.specs.declared.access.Access.{Access as Access'}
+use Rattle.contract_storage.specs.declared.access.Access.TheVariants as kinds
+use Rattle.call_spec.specs.World.{AccessKind, Read, Extend, Write, Access, Copied, World, Env, next_seq, made_seq}
+use Rattle.host_ledger.specs.declared.state.InstanceCopy.{InstanceCopy}
+use Rattle.host_ledger.specs.declared.state.HostLedger.{HostLedger}
+
+-- ---- worlds
+
+abbrev pub copied : InstanceCopy → Copied
+copied c = record { code = c.code; storage = c.storage }
+
+abbrev pub address_of : Hash → ScAddress
+address_of contract = Contract contract
+
+-- The world with these accesses that the program's state shows. What the state does not hold is that of the given world: the rest of the
+-- frame, the open contracts and the authorisations that were used.
+abbrev pub world_at : {G : Type 0} → World → HostLedger G → List Access → World
+world_at rest h trace = record rest {
+  entries = h.storage.map;
+  events = h.events;
+  frame = record rest.frame { contract = h.frame.contract; caller = option_map address_of h.frame.caller; code = h.frame.code; copy = copied h.frame.copy; shown = shown_of h.objects h.frame.shown };
+  trace = trace;
+  meter = h.budget;
+}
+
+-- ---- environments
+
+-- how the storage names a kind of access
+abbrev pub kind_of : AccessKind → Access'
+kind_of Read = kinds.Read
+kind_of Extend = kinds.Extend
+kind_of Write = kinds.Write
+
+-- A storage makes the accesses of an environment: in its ledger, with its settings, and its judge allows what the declared keys allow.
+pub record Serves (env : Env) (s : Stored) : Type 0 where
+  pub number : s.n ≡ made_seq env
+  pub lives : s.lives ≡ env.header.settings
+  pub judge : (kind : AccessKind) (key : LedgerKey) → key_format.fits key → allows s.declared (kind_of kind) key ≡ env.judge kind (key_bytes key)
+
+-- an environment of the program's state
+pub record IsEnv {G : Type 0} (env : Env) (h : HostLedger G) : Type 0 where
+  pub header : env.header ≡ h.header.now
+  pub serves : Serves env h.storage
+
+-- ---- the state of a run
+
+-- instance storage is null or a map that the host holds
+abbrev pub IsHeld : Option (List Member) → Type 0
+IsHeld None = Unit {0}
+IsHeld (Some members) = IsHosted (map (members_of members))
+
+pub record IsReady {G : Type 0} (h : HostLedger G) : Type 0 where
+  pub bounds : HasBounds (next_seq h.header.now) h.header.now.settings
+  pub number : h.storage.n ≡ next_seq h.header.now
+  pub indices : AreIndices h.objects h.frame.shown
+  pub copy : IsHeld h.frame.copy.storage
+
+-- What every row leaves: writes and events were only added, and nothing else has changed but the budget and the frame's copy of the instance.
+pub record Stays {G : Type 0} (old new : HostLedger G) : Type 0 where
+  pub header : new.header.now ≡ old.header.now
+  pub storage : IsLater old.storage new.storage
+  pub events : (more : List _) × (new.events ≡ old.events ++ more)
+  pub objects : new.objects ≡ old.objects
+  pub shown : new.frame.shown ≡ old.frame.shown
+  pub contract : new.frame.contract ≡ old.frame.contract
+  pub caller : new.frame.caller ≡ old.frame.caller
+  pub code : new.frame.code ≡ old.frame.code
+  pub copy : IsHeld old.frame.copy.storage → IsHeld new.frame.copy.storage
+
+-- What showing a value leaves: only the budget, the values and what the frame was shown have changed.
+pub record Shows {G : Type 0} (old new : HostLedger G) : Type 0 where
+  pub header : new.header.now ≡ old.header.now
+  pub storage : new.storage ≡ old.storage
+  pub events : new.events ≡ old.events
+  pub contract : new.frame.contract ≡ old.frame.contract
+  pub caller : new.frame.caller ≡ old.frame.caller
+  pub code : new.frame.code ≡ old.frame.code
+  pub copy : copied new.frame.copy ≡ copied old.frame.copy

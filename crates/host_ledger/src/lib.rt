@@ -1,0 +1,72 @@
+//! The host's functions over the ledger and the running frame: rows of the modules l and x.
+//!
+//! The state
+//!
+//! `HostLedger` has what a transaction's run changes: storage, events, budget and values, and the running frame. `world_at` shows
+//! it as a world of call_spec. What the state does not hold is left open and quantified: the accesses so far, the authorisations
+//! that were used, the open contracts, and the frame's other fields (its function and arguments, path and linear memory). `IsEnv`
+//! says which environments fit the state: those with its header, whose judge allows the keys of a spelling that the storage
+//! declares. So a row holds over each ground, and for each footprint.
+//!
+//! How a row is written
+//!
+//! 1. The row's clause is `Answers`: the kinds of the arguments, as the table of host_interface has them, the rule of call_spec,
+//!    the words, and the state before and after. It says what the row returns, with each charge and each end, that the answer may
+//!    be shown, and what stays (`Stays`). `IsReady` is what each row needs. Later calls find it again by `Stays`.
+//! 2. A row that borrows nothing from the state is one function (`context`).
+//! 3. Any other row lends parts of the state to a body, as its last act. The body takes `Values`, so its `?`s and the drops of
+//!    its values do not touch the state. Its clause is `Runs`: the same over every world with these parts. The row's answer is the
+//!    lemma `proofs/Rows/row`.
+//! 4. A body resolves the arguments from left to right, enters, and branches as the rule does (`place_of`). Each branch ends in a
+//!    call whose clause has the branch's act of call_spec, word for word (`extend_entry`). Then the body proves itself, or by a
+//!    lemma of `proofs/Stepping`.
+//! 5. An access of the ledger is a call of `accesses`. Its clause is `Accesses`, or `Pays` if it charges. The lemmas are those of
+//!    `proofs/Linking` and `proofs/Putting`: what a call of the storage returns is how the access of call_spec ends.
+//! 6. A charge that comes before a write may be made after it: a run that the charge ends shows nothing but its budget.
+//! 7. Two acts in a row are two calls and a `match` on the first result: `proofs/Composing` has the lemmas (`extend_both`).
+//!
+//! Instance storage
+//!
+//! The entries of the frame's copy rise strictly by their keys, so `key_index` finds a key by halving. A put changes the entries in
+//! place, then tests the whole instance against the limits of values, and undoes the change if the instance exceeds them (`puts`).
+//! So a put is linear in the size of the instance.
+//!
+//! Calls
+//!
+//! `call_function` calls a function by its import, with a word for each argument. `groups` has one `match` for each number of
+//! words; `call` then shows the answer in the frame. `Calls` says what a call does, and that the state is ready for the next one.
+#![tactic(auto)]
+
+mod accesses;
+mod call;
+mod context;
+mod copies;
+mod data;
+mod errors;
+mod event_list;
+mod events;
+mod groups;
+mod ids;
+mod instance;
+mod key_index;
+mod place;
+mod puts;
+mod state;
+mod updates;
+mod values;
+
+pub use call::call_function;
+pub use context::{
+    fail_with_error, get_current_contract_address, get_ledger_network_id, get_ledger_sequence,
+    get_ledger_timestamp, get_ledger_version, get_max_live_until_ledger,
+};
+pub use data::{
+    del_contract_data, extend_contract_data_ttl, get_contract_data, has_contract_data,
+    put_contract_data,
+};
+pub use event_list::Events;
+pub use events::contract_event;
+pub use ids::get_contract_id;
+pub use instance::extend_current_contract_instance_and_code_ttl;
+pub use state::{HostLedger, InstanceCopy, Running};
+pub use updates::update_current_contract_wasm;

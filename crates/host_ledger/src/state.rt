@@ -1,0 +1,45 @@
+//! The state in which contracts run.
+
+use crate::event_list::Events;
+use budget_meter::Budget;
+use contract_storage::Storage;
+use entry_lookup::Ground;
+use ledger_types::Header;
+use object_store::{Objects, Shown};
+use value_types::{Entries, Hash};
+
+/// What a frame copies of its contract's instance.
+#[derive(Drop)]
+pub struct InstanceCopy {
+    /// The hash of the code.
+    pub code: Hash,
+    /// Instance storage. `None` is null.
+    pub storage: Option<Entries>,
+}
+
+/// What the running frame has, beside what its WebAssembly instance holds.
+#[derive(Drop)]
+pub struct Running {
+    pub contract: Hash,
+    /// The contract that called or created it, if a contract did.
+    pub caller: Option<Hash>,
+    /// The hash of the code that runs. An update of the contract's code leaves it.
+    pub code: Hash,
+    pub copy: InstanceCopy,
+    /// What was shown to it.
+    pub shown: Shown,
+}
+
+/// The state in which contracts run: the ledger's entries, events and budget of one transaction, and the running frame with its values.
+#[derive(Drop)]
+pub struct HostLedger<'a, G: Ground> {
+    /// The header of the ledger before the one that is made, with the close time of the one that is made.
+    pub header: &'a Header,
+    pub storage: Storage<'a, G>,
+    /// All events so far, the newest last.
+    pub events: Events,
+    pub budget: Budget,
+    /// The values that the running frame may refer to. They live as long as the frame.
+    pub objects: Objects,
+    pub frame: Running,
+}
