@@ -1,7 +1,7 @@
 #!/usr/bin/env python3
 """Applies sets in which each transaction extends the life of an entry of its own, in one cluster, and in stages of 512
-transactions in 8 clusters; and makes sets of as many transactions with `gen`. Prints a row for each: transactions, seconds and
-peak memory, the least of three runs.
+transactions in 8 clusters; makes sets of as many transactions with `gen`, and applies those: each of their transactions calls a
+contract. Prints a row for each: transactions, seconds and peak memory, the least of three runs.
 
 usage: bench/clusters.py PROGRAM (the built program of crates/soroban_cmd; it needs GNU time at /usr/bin/time)
 """
@@ -37,13 +37,27 @@ def staged_set(count):
     return words(1) + bytes(32) + words(1, 1, 0, len(stages)) + b"".join(map(stage, stages))
 
 
+def made_paths(folder):
+    """The paths of a made set and of the files that belong to it."""
+    return {name: os.path.join(folder, "made_" + name) for name in ("set", "ledger", "verdicts")}
+
+
 def measure_gen(program, folder, count):
     """Seconds and peak memory in MiB of making a set of this many transactions."""
-    path = {name: os.path.join(folder, "made_" + name) for name in ("set", "ledger", "verdicts")}
+    path = made_paths(folder)
     return measure([
         program, "gen", "--count", str(count), "--seed", "1",
         "--set", path["set"], "--ledger", path["ledger"], "--verdicts", path["verdicts"],
     ])
+
+
+def measure_calls(program, folder):
+    """Seconds and peak memory in MiB of applying the set that was made last."""
+    contents = {}
+    for name, path in made_paths(folder).items():
+        with open(path, "rb") as file:
+            contents[name] = file.read()
+    return measure_apply(program, folder, contents)
 
 
 def row(name, count, runs):
@@ -63,6 +77,7 @@ def main():
                 contents = {"set": made(count), **entries}
                 row(name, count, [measure_apply(program, folder, contents) for _ in range(RUNS)])
             row("`gen`", count, [measure_gen(program, folder, count) for _ in range(RUNS)])
+            row("calls", count, [measure_calls(program, folder) for _ in range(RUNS)])
 
 
 if __name__ == "__main__":

@@ -24,8 +24,9 @@ use Rattle.stage_runs.specs.declared.Extension.{Extension}
 use Rattle.stage_runs.specs.Transactions.{Effect, declared_by}
 use Rattle.stage_runs.specs.Whole as runs
 use Rattle.stage_runs.proofs.Points.{longer, left_true, right_true, both_first}
-use Rattle.apply_spec.specs.Checks.{next_seq, refusal_of}
-use Rattle.apply_spec.specs.Enforced.{Performed, all_lengthened, extended, may_extend, failed, performed, first_performed, judged, whole, result_pair, enforced, has_life}
+use Rattle.call_spec.specs.World.{next_seq}
+use Rattle.apply_spec.specs.Checks.{refusal_of}
+use Rattle.apply_spec.specs.Enforced.{Performed, unmetered, all_lengthened, extended, may_extend, failed, performed, first_performed, judged, whole, result_pair, enforced, has_life}
 use Rattle.apply_spec.specs.Extending.{extension_seen, extensions_of}
 use Rattle.apply_spec.specs.Laws.{Extends}
 use Rattle.apply_spec.proofs.Lengthened.{lengthened_kept, lengthened_at, found_all}
@@ -98,10 +99,7 @@ extension_effect header entries envelope extend_to = record {
 
 module _ (header : Header) (entries : LedgerMap) (envelope : Envelope) (extend_to : ℕ) where
   good : Performed
-  good = record {
-    outcome = Success (Inner (Extend extends.Success) ∷ []);
-    entries = all_lengthened (next_seq header) (next_seq header + extend_to) entries (declared_by envelope).read_only;
-  }
+  good = unmetered (Success (Inner (Extend extends.Success) ∷ [])) (all_lengthened (next_seq header) (next_seq header + extend_to) entries (declared_by envelope).read_only)
 
   bad : Performed
   bad = failed entries (Inner (Extend extends.Malformed))

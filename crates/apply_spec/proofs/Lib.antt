@@ -1,3 +1,4 @@
 pub mod Lengthened
 pub mod Exact
 pub mod Framed
+pub mod Called

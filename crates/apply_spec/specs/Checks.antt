@@ -1,5 +1,5 @@
 -- The checks of a transaction before it runs (own, after CAP-0021, CAP-0046-05 and CAP-0063).
-use Rattle.std.specs.Prelude.{ℕ, ◌+◌, ◌==◌, Bool, true, false, not, ◌||◌, ◌&&◌, List, [], ◌∷◌, ◌++◌, length, Option, Some, None, nat_lt, nat_le, if◌then◌else◌}
+use Rattle.std.specs.Prelude.{ℕ, ◌==◌, Bool, true, false, not, ◌||◌, ◌&&◌, List, [], ◌∷◌, ◌++◌, length, Option, Some, None, nat_lt, nat_le, if◌then◌else◌}
 use Rattle.std.specs.List.{list_all}
 use Rattle.ledger_types.specs.declared.key.LedgerKey.{LedgerKey}
 use Rattle.ledger_types.specs.declared.key.LedgerKey.TheVariants.{Account, Trustline, Offer, Data, ClaimableBalance, LiquidityPool, ContractData, ContractCode, Ttl}
@@ -16,10 +16,8 @@ use Rattle.tx_results.specs.declared.results.TransactionOutcome.{TransactionOutc
 use Rattle.tx_results.specs.declared.results.TransactionOutcome.TheVariants.{TooEarly, TooLate, MissingOperation, Malformed, SorobanInvalid}
 use Rattle.stage_runs.specs.Transactions.{footprint_in}
 use Rattle.stage_runs.specs.Whole.{has_twice}
-
--- the ledger that is being made
-abbrev pub next_seq : Header → ℕ
-next_seq header = header.seq + 1
+use Rattle.call_spec.specs.World.{next_seq}
+use Rattle.call_spec.specs.Invoked.{declared}
 
 -- ---- footprints
 
@@ -43,10 +41,6 @@ may_be_declared (Data account name) = false
 may_be_declared (ClaimableBalance id) = false
 may_be_declared (LiquidityPool pool) = false
 may_be_declared (Ttl hash) = false
-
--- all declared keys, read-only first
-abbrev pub declared_keys : Footprint → List LedgerKey
-declared_keys footprint = footprint.read_only ++ footprint.read_write
 
 -- no key occurs twice in the two lists together, and each may be declared
 abbrev pub may_be_footprint : List LedgerKey → Bool
@@ -109,7 +103,7 @@ form_checks header tx =
 
 -- the check of the footprint
 abbrev pub footprint_checks : Transaction → List (Bool × TransactionOutcome)
-footprint_checks tx = (may_be_footprint (declared_keys (footprint_of tx)), SorobanInvalid) ∷ []
+footprint_checks tx = (may_be_footprint (declared (footprint_of tx)), SorobanInvalid) ∷ []
 
 -- all checks
 abbrev pub checks_of : Header → Transaction → List (Bool × TransactionOutcome)

@@ -1,9 +1,12 @@
 -- The results of transactions and fee bumps, their runs over a map of all entries, and what these runs may leave there (own,
--- after CAP-0015, CAP-0046-05 and CAP-0046-12).
+-- after CAP-0015, CAP-0046-05 and CAP-0046-12). What becomes of a call is defined in call_spec.
 use Rattle.std.specs.Prelude.{ℕ, pos, ◌+◌, Bool, true, false, ◌&&◌, List, [], ◌∷◌, Option, None, length, nat_lt, ◌==◌, if◌then◌else◌}
 use Rattle.std.specs.List.{list_all, fold}
 use Rattle.std.specs.Option.{option_map}
+use Rattle.budget_meter.specs.declared.budget.Used.{Used}
 use Rattle.value_types.specs.declared.hash.Hash.{Hash}
+use Rattle.invoke_types.specs.declared.host_function.HostFunction.{HostFunction}
+use Rattle.invoke_types.specs.declared.success.SuccessPreimage.{SuccessPreimage}
 use Rattle.ledger_types.specs.declared.key.LedgerKey.{LedgerKey}
 use Rattle.ledger_types.specs.declared.key.LedgerKey.TheVariants.{Account, Trustline, Offer, Data, ClaimableBalance, LiquidityPool, ContractData, ContractCode, Ttl}
 use Rattle.ledger_types.specs.declared.header.Header.{Header}
@@ -14,12 +17,16 @@ use Rattle.tx_xdr.specs.declared.transaction.Operation.{Operation}
 use Rattle.tx_xdr.specs.declared.transaction.OperationBody.{OperationBody}
 use Rattle.tx_xdr.specs.declared.transaction.OperationBody.TheVariants.{InvokeHostFunction, ExtendFootprintTtl, RestoreFootprint}
 use Rattle.tx_xdr.specs.declared.transaction.Transaction.{Transaction}
+use Rattle.tx_xdr.specs.declared.transaction.TransactionExt.{TransactionExt}
+use Rattle.tx_xdr.specs.declared.transaction.TransactionExt.TheVariants as exts
 use Rattle.tx_xdr.specs.declared.envelope.Envelope.{Envelope}
 use Rattle.tx_xdr.specs.declared.envelope.Envelope.TheVariants as envelopes
 use Rattle.tx_xdr.specs.Envelope.{transaction_in}
 use Rattle.tx_xdr.specs.Hashes.{transaction_hash, envelope_hash}
 use Rattle.tx_results.specs.declared.codes.ExtendResult.TheVariants as extends
-use Rattle.tx_results.specs.declared.operation.InnerResult.TheVariants.{Extend}
+use Rattle.tx_results.specs.declared.operation.InvokeResult.{InvokeResult}
+use Rattle.tx_results.specs.declared.operation.InvokeResult.TheVariants as invokes
+use Rattle.tx_results.specs.declared.operation.InnerResult.TheVariants.{Invoke, Extend}
 use Rattle.tx_results.specs.declared.operation.OperationResult.{OperationResult}
 use Rattle.tx_results.specs.declared.operation.OperationResult.TheVariants.{Inner, NotSupported}
 use Rattle.tx_results.specs.declared.results.TransactionOutcome.{TransactionOutcome}
@@ -33,7 +40,9 @@ use Rattle.ledger_spec.specs.Changes.{raise}
 use Rattle.ledger_spec.specs.Seen.{Seen, live, absent, archived, seen}
 use Rattle.stage_runs.specs.Transactions.{Step}
 use Rattle.stage_runs.specs.Whole as runs
-use Rattle.apply_spec.specs.Checks.{footprint_of, next_seq, refusal_of}
+use Rattle.call_spec.specs.World.{next_seq}
+use Rattle.call_spec.specs.Invoked.{Invoked, invoked}
+use Rattle.apply_spec.specs.Checks.{footprint_of, refusal_of}
 
 -- ---- results
 
@@ -78,14 +87,20 @@ refusal header envelope = option_map (result_pair header.network_id envelope) (r
 
 -- ---- the run of an operation over the whole map
 
--- the outcome of a transaction, and the map then
+-- the outcome of a transaction, the success preimage of a call that succeeded, the map then, and what the run used
 pub record Performed : Type 0 where
   pub outcome : TransactionOutcome
+  pub success : Option SuccessPreimage
   pub entries : LedgerMap
+  pub used : Used
+
+-- an outcome that is not metered and has no success preimage
+abbrev pub unmetered : TransactionOutcome → LedgerMap → Performed
+unmetered outcome entries = record { outcome = outcome; success = None; entries = entries; used = runs.nothing_used }
 
 -- an operation that failed, and left the map as it was
 abbrev pub failed : LedgerMap → OperationResult → Performed
-failed entries only = record { outcome = Failed (only ∷ []); entries = entries }
+failed entries only = unmetered (Failed (only ∷ [])) entries
 
 -- ---- EXTEND_FOOTPRINT_TTL
 
@@ -123,33 +138,46 @@ all_lengthened n until entries keys = fold (lengthened n until) entries keys
 -- EXTEND_FOOTPRINT_TTL
 abbrev pub extended : Header → LedgerMap → Footprint → ℕ → Performed
 extended header entries footprint extend_to =
-    if may_extend header.settings footprint extend_to then record {
-      outcome = Success (Inner (Extend extends.Success) ∷ []);
-      entries = all_lengthened (next_seq header) (next_seq header + extend_to) entries footprint.read_only;
-    }
+    if may_extend header.settings footprint extend_to then
+    unmetered (Success (Inner (Extend extends.Success) ∷ [])) (all_lengthened (next_seq header) (next_seq header + extend_to) entries footprint.read_only)
     else failed entries (Inner (Extend extends.Malformed))
+
+-- ---- INVOKE_HOST_FUNCTION
+
+-- SUCCESS alone is txSUCCESS
+abbrev pub outcome_of_call : InvokeResult → TransactionOutcome
+outcome_of_call (invokes.Success preimage) = Success (Inner (Invoke (invokes.Success preimage)) ∷ [])
+outcome_of_call result = Failed (Inner (Invoke result) ∷ [])
+
+abbrev pub performed_call : Invoked → Performed
+performed_call end = record { outcome = outcome_of_call end.result; success = end.success; entries = end.entries; used = end.used }
+
+-- The call has the resources that the transaction declares. The checks reject a transaction without Soroban data.
+abbrev pub called : Header → LedgerMap → TransactionExt → HostFunction → Performed
+called header entries exts.None function = unmetered Malformed entries
+called header entries (exts.Soroban resources) function = performed_call (invoked header resources entries function)
 
 -- ---- the run of a transaction, and its effect
 
--- The only operation. Calls of host functions are not supported yet.
+-- the only operation
 abbrev pub performed : Header → LedgerMap → Transaction → OperationBody → Performed
 performed header entries tx (ExtendFootprintTtl extend_to) = extended header entries (footprint_of tx) extend_to
 performed header entries tx RestoreFootprint = failed entries NotSupported
-performed header entries tx (InvokeHostFunction host_function auth) = failed entries NotSupported
+performed header entries tx (InvokeHostFunction host_function auth) = called header entries tx.ext host_function
 
 -- the first operation; the checks reject a transaction without one
 abbrev pub first_performed : Header → LedgerMap → Transaction → List Operation → Performed
-first_performed header entries tx [] = record { outcome = MissingOperation; entries = entries }
+first_performed header entries tx [] = unmetered MissingOperation entries
 first_performed header entries tx (operation ∷ rest) = performed header entries tx operation.body
 
--- the run of an envelope, by that of its transaction: no operation returns a value or is metered yet
+-- the run of an envelope, by that of its transaction
 abbrev pub judged : Header → Envelope → Performed → runs.JudgedRun
 judged header envelope done = record {
   succeeded = is_success done.outcome;
   result = result_pair header.network_id envelope done.outcome;
-  success = None;
+  success = done.success;
   entries = done.entries;
-  used = runs.nothing_used;
+  used = done.used;
 }
 
 -- The run of an envelope over the whole map. A fee bump's inner transaction runs as if alone. Fees are not judged. No

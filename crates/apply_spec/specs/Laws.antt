@@ -1,19 +1,26 @@
 -- The laws of the effect of one transaction (own).
-use Rattle.std.specs.Prelude.{◌≡◌, ◌+◌, ℕ, true, [], ◌∷◌, None, map}
+use Rattle.std.specs.Prelude.{◌≡◌, ◌+◌, ℕ, true, List, [], ◌∷◌, None, map, if◌then◌else◌}
 use Rattle.ledger_types.specs.declared.header.Header.{Header}
 use Rattle.ledger_types.specs.declared.verdicts.Verdicts.{Verdicts}
+use Rattle.auth_types.specs.declared.auth_entry.AuthEntry.{AuthEntry}
+use Rattle.invoke_types.specs.declared.host_function.HostFunction.{HostFunction}
 use Rattle.tx_xdr.specs.declared.envelope.Envelope.{Envelope}
-use Rattle.tx_xdr.specs.declared.transaction.OperationBody.TheVariants.{ExtendFootprintTtl}
+use Rattle.tx_xdr.specs.declared.transaction.SorobanData.{SorobanData}
+use Rattle.tx_xdr.specs.declared.transaction.TransactionExt.TheVariants as exts
+use Rattle.tx_xdr.specs.declared.transaction.OperationBody.TheVariants.{InvokeHostFunction, ExtendFootprintTtl}
 use Rattle.tx_xdr.specs.Envelope.{transaction_in}
+use Rattle.tx_results.specs.Report.{is_good_call}
 use Rattle.tx_results.specs.declared.codes.ExtendResult.TheVariants as extends
 use Rattle.tx_results.specs.declared.operation.InnerResult.TheVariants.{Extend}
 use Rattle.tx_results.specs.declared.operation.OperationResult.TheVariants.{Inner}
 use Rattle.tx_results.specs.declared.results.TransactionOutcome.TheVariants.{Success}
 use Rattle.stage_runs.specs.Maps.{LedgerMap}
-use Rattle.stage_runs.specs.Transactions.{declared_by, IsFramed}
-use Rattle.stage_runs.specs.Whole.{nothing_used}
-use Rattle.apply_spec.specs.Checks.{next_seq, refusal_of}
-use Rattle.apply_spec.specs.Enforced.{enforced, may_extend, result_pair}
+use Rattle.stage_runs.specs.Transactions.{Effect, declared_by, IsFramed}
+use Rattle.stage_runs.specs.Whole as runs
+use Rattle.call_spec.specs.World.{next_seq}
+use Rattle.apply_spec.specs.Checks.{refusal_of}
+use Rattle.call_spec.specs.Invoked.{Invoked, invoked}
+use Rattle.apply_spec.specs.Enforced.{enforced, may_extend, outcome_of_call, result_pair}
 use Rattle.apply_spec.specs.Extending.{extensions_of}
 
 -- The effect of an envelope depends on its declared keys alone, and is at those keys alone.
@@ -36,5 +43,30 @@ ExtensionLaw = (header : Header) (verdicts : Verdicts) (entries : LedgerMap) (en
       success = None;
       changes = [];
       extensions = extensions_of (next_seq header) entries (declared_by envelope).read_only (next_seq header + extend_to);
-      used = nothing_used;
+      used = runs.nothing_used;
     }
+
+-- ---- calls
+
+-- The envelope's transaction passes its checks, and calls this host function with these resources.
+pub record Invokes (header : Header) (envelope : Envelope) (resources : SorobanData) (function : HostFunction) (auth : List AuthEntry) : Type 0 where
+  pub passes : refusal_of header (transaction_in envelope) ≡ None
+  pub operation : map (λ only. only.body) (transaction_in envelope).operations ≡ InvokeHostFunction function auth ∷ []
+  pub with_resources : (transaction_in envelope).ext ≡ exts.Soroban resources
+
+-- The result, the success preimage and the sums are those of the call. Only after SUCCESS it has a change at each read-write key, and extensions at
+-- read-only keys: of the entries that the call leaves with a longer life.
+abbrev pub effect_of_call : Header → LedgerMap → Envelope → Invoked → Effect
+effect_of_call header entries envelope end = record {
+  result = result_pair header.network_id envelope (outcome_of_call end.result);
+  success = end.success;
+  changes = if is_good_call end.result then runs.changes_of end.entries (declared_by envelope).read_write else [];
+  extensions = if is_good_call end.result then runs.extensions_of entries end.entries (declared_by envelope).read_only else [];
+  used = end.used;
+}
+
+-- Such an envelope has the effect of what becomes of the call.
+abbrev pub InvokeLaw : Type 0
+InvokeLaw = (header : Header) (verdicts : Verdicts) (entries : LedgerMap) (envelope : Envelope)
+    → (resources : SorobanData) (function : HostFunction) (auth : List AuthEntry) → Invokes header envelope resources function auth
+    → enforced header verdicts entries envelope ≡ effect_of_call header entries envelope (invoked header resources entries function)

@@ -6,7 +6,7 @@ use Rattle.tx_xdr.specs.Stages.{stages_of}
 use Rattle.tx_xdr.specs.declared.set.TxSet.{TxSet}
 use Rattle.stage_runs.specs.Maps.{LedgerMap}
 use Rattle.stage_runs.specs.Runs as runs
-use Rattle.apply_spec.specs.Checks.{next_seq}
+use Rattle.call_spec.specs.World.{next_seq}
 use Rattle.apply_spec.specs.Enforced.{enforced}
 
 -- The transactions run on the header of the ledger before, with the close time of the new one.

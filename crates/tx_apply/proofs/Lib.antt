@@ -4,3 +4,13 @@ pub mod Checked
 pub mod Declared
 pub mod Effects
 pub mod Told
+pub mod Running
+pub mod Ending
+pub mod Sums
+pub mod ByKey
+pub mod Fitting
+pub mod Paying
+pub mod Mapped
+pub mod Adding
+pub mod Making
+pub mod Arguments

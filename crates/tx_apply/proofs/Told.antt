@@ -1,4 +1,4 @@
--- The effect of an envelope is that of the outcome and the extensions that the code makes.
+-- The effect of an envelope is that of what the code makes of its transaction.
 use Rattle.std.specs.Option.{option_map}
 use Rattle.std.proofs.Common.{◌≡◌, ℕ, Bool, true, false, List, [], ◌∷◌, Option, Some, None, if◌then◌else◌, refl, sym, ap, ap₂, ◌∙◌}
 use Rattle.ledger_types.specs.declared.header.Header.{Header}
@@ -6,6 +6,9 @@ use Rattle.ledger_types.specs.declared.verdicts.Verdicts.{Verdicts}
 use Rattle.tx_xdr.specs.declared.transaction.Operation.{Operation}
 use Rattle.tx_xdr.specs.declared.transaction.OperationBody.{OperationBody}
 use Rattle.tx_xdr.specs.declared.transaction.OperationBody.TheVariants.{InvokeHostFunction, ExtendFootprintTtl, RestoreFootprint}
+use Rattle.invoke_types.specs.declared.host_function.HostFunction.{HostFunction}
+use Rattle.tx_xdr.specs.declared.transaction.TransactionExt.{TransactionExt}
+use Rattle.tx_xdr.specs.declared.transaction.TransactionExt.TheVariants as exts
 use Rattle.tx_xdr.specs.declared.envelope.Envelope.{Envelope}
 use Rattle.tx_xdr.specs.declared.envelope.Envelope.TheVariants as envelopes
 use Rattle.tx_xdr.specs.Envelope.{transaction_in}
@@ -14,23 +17,24 @@ use Rattle.tx_results.specs.Results.{outcome_in}
 use Rattle.tx_results.specs.declared.results.EnvelopeOutcome.TheVariants as outcomes
 use Rattle.tx_results.specs.declared.results.TransactionOutcome.{TransactionOutcome}
 use Rattle.tx_results.specs.declared.results.TransactionResultPair.{TransactionResultPair}
-use Rattle.stage_runs.specs.declared.Change.{Change}
 use Rattle.stage_runs.specs.Maps.{LedgerMap}
-use Rattle.stage_runs.specs.Transactions.{Effect, declared_by}
+use Rattle.stage_runs.specs.Transactions.{Effect, declared_by, footprint_in}
 use Rattle.stage_runs.specs.Whole as runs
+use Rattle.call_spec.specs.Invoked.{Invoked, invoked}
 use Rattle.apply_spec.specs.Checks.{refusal_of}
 use Rattle.apply_spec.specs.Enforced as whole
 use Rattle.apply_spec.proofs.Exact.{extended_effect}
-use Rattle.tx_apply.specs.Outcomes.{Ended, extended, performed, first_performed, unless_refused, ended}
+use Rattle.apply_spec.proofs.Called.{call_effect, invoked_tells}
+use Rattle.tx_apply.specs.Outcomes.{Ended, extended, ended_of_call, called, performed, first_performed, unless_refused, ended}
 
--- the effect of an outcome with these extensions
+-- the effect of a transaction that ended
 abbrev pub told : Header → Envelope → Ended → Effect
 told header envelope done = record {
   result = whole.result_pair header.network_id envelope done.outcome;
-  success = None;
-  changes = [];
+  success = done.success;
+  changes = done.changes;
   extensions = done.extensions;
-  used = runs.nothing_used;
+  used = done.used;
 }
 
 module _ (header : Header) (entries : LedgerMap) (envelope : Envelope) where
@@ -44,10 +48,19 @@ module _ (header : Header) (entries : LedgerMap) (envelope : Envelope) where
       ∙ sym (rw e refl)
   told_extended extend_to false e = rw e refl
 
+  -- a host function, with the resources that are given
+  told_called : (ext : TransactionExt) → (transaction_in envelope).ext ≡ ext → (function : HostFunction)
+      → effect_after (whole.called header entries ext function) ≡ told header envelope (called header entries ext function)
+  told_called exts.None e function = refl
+  told_called (exts.Soroban resources) e function =
+      let end : Invoked = invoked header resources entries function in
+      call_effect header entries envelope end (invoked_tells header resources entries function)
+      ∙ ap (λ (x : TransactionExt). told header envelope (ended_of_call entries (footprint_in x) end)) e
+
   told_performed : (body : OperationBody) → effect_after (whole.performed header entries (transaction_in envelope) body) ≡ told header envelope (performed header entries (transaction_in envelope) body)
   told_performed (ExtendFootprintTtl extend_to) = told_extended extend_to (whole.may_extend header.settings (declared_by envelope) extend_to) refl
   told_performed RestoreFootprint = refl
-  told_performed (InvokeHostFunction host_function auth) = refl
+  told_performed (InvokeHostFunction host_function auth) = told_called (transaction_in envelope).ext refl host_function
 
   told_first : (operations : List Operation)
       → effect_after (whole.first_performed header entries (transaction_in envelope) operations) ≡ told header envelope (first_performed header entries (transaction_in envelope) operations)
@@ -65,19 +78,19 @@ module _ (header : Header) (entries : LedgerMap) (envelope : Envelope) where
       (first_performed header entries (transaction_in envelope) (transaction_in envelope).operations)
       (told_first (transaction_in envelope).operations)
 
--- an envelope's result tells of a call exactly if that of its transaction does
-pub told_quiet : (header : Header) (envelope : Envelope) (outcome : TransactionOutcome) → has_preimage outcome ≡ false
-    → has_preimage (outcome_in (whole.envelope_outcome header.network_id envelope outcome)) ≡ false
-told_quiet header (envelopes.Transaction signed) outcome h = h
-told_quiet header (envelopes.FeeBump signed) outcome h =
+-- an envelope's result tells of a host function that succeeded exactly if that of its transaction does
+pub told_same : (header : Header) (envelope : Envelope) (outcome : TransactionOutcome)
+    → has_preimage (outcome_in (whole.envelope_outcome header.network_id envelope outcome)) ≡ has_preimage outcome
+told_same header (envelopes.Transaction signed) outcome = refl
+told_same header (envelopes.FeeBump signed) outcome =
     let inner = whole.inner_pair header.network_id signed.fee_bump.inner.tx outcome in
-    elim (whole.is_success outcome) as (λ (b : Bool). has_preimage (outcome_in (if b then outcomes.FeeBumpInnerSuccess inner else outcomes.FeeBumpInnerFailed inner)) ≡ false) [ true ↦ h | false ↦ h ]
+    elim (whole.is_success outcome) as (λ (b : Bool). has_preimage (outcome_in (if b then outcomes.FeeBumpInnerSuccess inner else outcomes.FeeBumpInnerFailed inner)) ≡ has_preimage outcome) [ true ↦ refl | false ↦ refl ]
 
 -- what is returned is the effect
-pub told_done : (header : Header) (verdicts : Verdicts) (entries : LedgerMap) (envelope : Envelope) (done : Ended) (pair : TransactionResultPair) (changes : List Change)
-    → done ≡ ended header entries (transaction_in envelope) → pair ≡ whole.result_pair header.network_id envelope done.outcome → changes ≡ []
-    → record { result = pair; success = None; changes = changes; extensions = done.extensions; used = runs.nothing_used } ≡ whole.enforced header verdicts entries envelope
-told_done header verdicts entries envelope done pair changes is paired unchanged =
-    ap₂ (λ (p : TransactionResultPair) (cs : List Change). let e : Effect = record { result = p; success = None; changes = cs; extensions = done.extensions; used = runs.nothing_used } in e) paired unchanged
+pub told_done : (header : Header) (verdicts : Verdicts) (entries : LedgerMap) (envelope : Envelope) (done : Ended) (pair : TransactionResultPair)
+    → done ≡ ended header entries (transaction_in envelope) → pair ≡ whole.result_pair header.network_id envelope done.outcome
+    → record { result = pair; success = done.success; changes = done.changes; extensions = done.extensions; used = done.used } ≡ whole.enforced header verdicts entries envelope
+told_done header verdicts entries envelope done pair is paired =
+    ap (λ (p : TransactionResultPair). let e : Effect = record { result = p; success = done.success; changes = done.changes; extensions = done.extensions; used = done.used } in e) paired
     ∙ ap (told header envelope) is
     ∙ sym (told_enforced header entries envelope verdicts)

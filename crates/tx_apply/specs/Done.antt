@@ -5,16 +5,21 @@ use Rattle.invoke_types.specs.Success.{success_format}
 use Rattle.ledger_types.specs.Key.{key_format}
 use Rattle.ledger_spec.specs.LedgerMap.{IsKeptAt, key_bytes}
 use Rattle.tx_results.specs.Report.{has_preimage}
-use Rattle.tx_results.specs.Results.{outcome_in, pair_format}
+use Rattle.tx_results.specs.Results.{outcome_in, outcome_format, pair_format}
 use Rattle.stage_runs.specs.declared.Change.{Change}
 use Rattle.stage_runs.specs.Transactions.{Effect}
-use Rattle.tx_apply.specs.declared.transaction.TransactionDone.{TransactionDone}
+use Rattle.tx_apply.specs.declared.results.TransactionDone.{TransactionDone}
 use Rattle.tx_apply.specs.declared.envelope.TxDone.{TxDone}
 use Rattle.tx_apply.specs.Outcomes.{Ended}
 
--- the outcome and the extensions
 abbrev pub ended_of : TransactionDone → Ended
-ended_of done = record { outcome = done.outcome; extensions = done.extensions }
+ended_of done = record {
+  outcome = done.outcome;
+  success = done.success;
+  changes = done.changes;
+  extensions = done.extensions;
+  used = done.used;
+}
 
 -- the effect
 abbrev pub effect_of : TxDone → Effect
@@ -37,5 +42,13 @@ pub record IsWithin (done : TxDone) : Type 0 where
   pub result : pair_format.fits done.result
   pub success : IfSome done.success success_format.fits
   pub preimage : is_some done.success ≡ has_preimage (outcome_in done.result.result.outcome)
+  pub changes : All CanChange done.changes
+  pub extensions : All (λ e. key_format.fits e.key) done.extensions
+
+-- The same of a transaction.
+pub record CanEnd (done : Ended) : Type 0 where
+  pub outcome : outcome_format.fits done.outcome
+  pub success : IfSome done.success success_format.fits
+  pub preimage : is_some done.success ≡ has_preimage done.outcome
   pub changes : All CanChange done.changes
   pub extensions : All (λ e. key_format.fits e.key) done.extensions

@@ -1,53 +1,96 @@
--- The outcome of a transaction with its extensions, as the code makes them: without the map that the run leaves (own, after
--- CAP-0046-12).
+-- The outcome of a transaction with its effect, as the code makes them: without the map that the run leaves (own, after
+-- CAP-0046-05 and CAP-0046-12).
 use Rattle.std.specs.Prelude.{ℕ, ◌+◌, List, [], ◌∷◌, Option, Some, None, if◌then◌else◌}
+use Rattle.budget_meter.specs.declared.budget.Used.{Used}
 use Rattle.ledger_types.specs.declared.header.Header.{Header}
+use Rattle.invoke_types.specs.declared.host_function.HostFunction.{HostFunction}
+use Rattle.invoke_types.specs.declared.success.SuccessPreimage.{SuccessPreimage}
 use Rattle.tx_xdr.specs.declared.transaction.Footprint.{Footprint}
 use Rattle.tx_xdr.specs.declared.transaction.Operation.{Operation}
 use Rattle.tx_xdr.specs.declared.transaction.OperationBody.{OperationBody}
 use Rattle.tx_xdr.specs.declared.transaction.OperationBody.TheVariants.{InvokeHostFunction, ExtendFootprintTtl, RestoreFootprint}
 use Rattle.tx_xdr.specs.declared.transaction.Transaction.{Transaction}
+use Rattle.tx_xdr.specs.declared.transaction.TransactionExt.{TransactionExt}
+use Rattle.tx_xdr.specs.declared.transaction.TransactionExt.TheVariants as exts
+use Rattle.tx_results.specs.Report.{is_good_call}
 use Rattle.tx_results.specs.declared.codes.ExtendResult.TheVariants as extends
-use Rattle.tx_results.specs.declared.operation.InnerResult.TheVariants.{Extend}
+use Rattle.tx_results.specs.declared.operation.InvokeResult.{InvokeResult}
+use Rattle.tx_results.specs.declared.operation.InnerResult.TheVariants.{Invoke, Extend}
 use Rattle.tx_results.specs.declared.operation.OperationResult.TheVariants.{Inner, NotSupported}
 use Rattle.tx_results.specs.declared.results.TransactionOutcome.{TransactionOutcome}
-use Rattle.tx_results.specs.declared.results.TransactionOutcome.TheVariants.{Success, Failed, MissingOperation}
+use Rattle.tx_results.specs.declared.results.TransactionOutcome.TheVariants.{Success, Failed, MissingOperation, Malformed}
 use Rattle.stage_runs.specs.Maps.{LedgerMap}
+use Rattle.stage_runs.specs.Whole as runs
+use Rattle.stage_runs.specs.declared.Change.{Change}
 use Rattle.stage_runs.specs.declared.Extension.{Extension}
-use Rattle.apply_spec.specs.Checks.{footprint_of, next_seq, refusal_of}
-use Rattle.apply_spec.specs.Enforced.{may_extend}
-use Rattle.apply_spec.specs.Extending.{extensions_of}
+use Rattle.call_spec.specs.World.{next_seq}
+use Rattle.call_spec.specs.Invoked.{Invoked, invoked}
+use Rattle.apply_spec.specs.Checks.{footprint_of, refusal_of}
+use Rattle.apply_spec.specs.Enforced.{may_extend, outcome_of_call}
+use Rattle.apply_spec.specs.Extending as extending
 
--- the outcome of a transaction, and its extensions
+-- the outcome of a transaction, its success preimage, changes and extensions, and what it used
 pub record Ended : Type 0 where
   pub outcome : TransactionOutcome
+  pub success : Option SuccessPreimage
+  pub changes : List Change
   pub extensions : List Extension
+  pub used : Used
 
--- an outcome without extensions
+-- an outcome that changes nothing
+abbrev pub without_changes : TransactionOutcome → Used → Ended
+without_changes outcome used = record { outcome = outcome; success = None; changes = []; extensions = []; used = used }
+
+-- an outcome of nothing that ran
 abbrev pub without_effect : TransactionOutcome → Ended
-without_effect outcome = record { outcome = outcome; extensions = [] }
+without_effect outcome = without_changes outcome runs.nothing_used
 
 -- EXTEND_FOOTPRINT_TTL
 abbrev pub extended : Header → LedgerMap → Footprint → ℕ → Ended
 extended header entries footprint extend_to =
     if may_extend header.settings footprint extend_to then record {
       outcome = Success (Inner (Extend extends.Success) ∷ []);
-      extensions = extensions_of (next_seq header) entries footprint.read_only (next_seq header + extend_to);
+      success = None;
+      changes = [];
+      extensions = extending.extensions_of (next_seq header) entries footprint.read_only (next_seq header + extend_to);
+      used = runs.nothing_used;
     }
     else without_effect (Failed (Inner (Extend extends.Malformed) ∷ []))
+
+-- ---- INVOKE_HOST_FUNCTION
+
+-- a host function that did not succeed
+abbrev pub unsuccessful : InvokeResult → Used → Ended
+unsuccessful result used = without_changes (Failed (Inner (Invoke result) ∷ [])) used
+
+abbrev pub ended_of_call : LedgerMap → Footprint → Invoked → Ended
+ended_of_call entries footprint end = record {
+  outcome = outcome_of_call end.result;
+  success = end.success;
+  changes = if is_good_call end.result then runs.changes_of end.entries footprint.read_write else [];
+  extensions = if is_good_call end.result then runs.extensions_of entries end.entries footprint.read_only else [];
+  used = end.used;
+}
+
+-- the checks reject a transaction without Soroban data
+abbrev pub called : Header → LedgerMap → TransactionExt → HostFunction → Ended
+called header entries exts.None function = without_effect Malformed
+called header entries (exts.Soroban resources) function = ended_of_call entries resources.footprint (invoked header resources entries function)
+
+-- ---- transactions
 
 -- the only operation
 abbrev pub performed : Header → LedgerMap → Transaction → OperationBody → Ended
 performed header entries tx (ExtendFootprintTtl extend_to) = extended header entries (footprint_of tx) extend_to
 performed header entries tx RestoreFootprint = without_effect (Failed (NotSupported ∷ []))
-performed header entries tx (InvokeHostFunction host_function auth) = without_effect (Failed (NotSupported ∷ []))
+performed header entries tx (InvokeHostFunction host_function auth) = called header entries tx.ext host_function
 
 -- the first operation; the checks reject a transaction without one
 abbrev pub first_performed : Header → LedgerMap → Transaction → List Operation → Ended
 first_performed header entries tx [] = without_effect MissingOperation
 first_performed header entries tx (operation ∷ rest) = performed header entries tx operation.body
 
--- a transaction that fails a check has no extensions
+-- a transaction that fails a check has no effect
 abbrev pub unless_refused : Option TransactionOutcome → Ended → Ended
 unless_refused (Some outcome) done = without_effect outcome
 unless_refused None done = done

@@ -27,7 +27,7 @@ use xdr_core::NoMemory;
 #[derive(Drop)]
 pub struct TxDone {
     pub result: TransactionResultPair,
-    /// The success preimage of a contract call that succeeded.
+    /// The success preimage of a host function that succeeded.
     pub success: Option<SuccessPreimage>,
     /// At the keys that the transaction declares read-write, in their order.
     pub changes: Items<Change, 4294967295>,
@@ -130,12 +130,9 @@ pub fn enforce<G: Ground>(
     let result = result_pair(alloc, &header.network_id, envelope, done.outcome)?;
     Ok(TxDone {
         result,
-        success: None,
-        changes: Items::from_vec(Vec::new(alloc)),
+        success: done.success,
+        changes: done.changes,
         extensions: done.extensions,
-        used: Used {
-            instructions: 0,
-            memory: 0,
-        },
+        used: done.used,
     })
 }

@@ -2,11 +2,20 @@
 #![tactic(auto)]
 
 mod bounds;
+mod call;
+mod changes;
 mod checks;
+mod entering;
 mod envelope;
 mod extend;
 mod footprint;
+mod job;
+mod reading;
+mod results;
+mod run;
+mod success;
 mod transaction;
+mod writing;
 
 pub use envelope::{TxDone, enforce};
 pub use footprint::{read_only_of, read_write_of};

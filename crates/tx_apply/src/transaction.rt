@@ -1,65 +1,34 @@
 //! Runs one transaction: its checks, then its operation.
 
-ghost use Rattle.std.specs.Prelude.{◌≡◌, [], ◌∷◌, All, IfOk, IsTrue};
+ghost use Rattle.std.specs.Prelude.{◌≡◌, All, IfOk, IsTrue};
 ghost use Rattle.ledger_types.specs.Key.{key_format};
 ghost use Rattle.ledger_spec.specs.LedgerFile.{are_settings, has_next};
+ghost use Rattle.invoke_types.specs.HostFunction.{host_function_format};
+ghost use Rattle.tx_xdr.specs.Operation.{body_format};
+ghost use Rattle.tx_xdr.specs.Transaction.{transaction_format};
+ghost use Rattle.stage_runs.specs.Transactions.{footprint_in};
 ghost use Rattle.apply_spec.specs.Checks.{footprint_of};
-ghost use Rattle.tx_apply.specs.Outcomes.{ended, extended, performed, without_effect as without_effect_in};
-ghost use Rattle.tx_apply.specs.Done.{ended_of};
+ghost use Rattle.tx_apply.specs.Outcomes.{ended, extended, called, performed};
+ghost use Rattle.tx_apply.specs.Done.{ended_of, CanEnd};
 
+use crate::call::call;
 use crate::checks::refusal_of;
 use crate::extend::{extensions, may_extend};
 use crate::footprint::{read_only_of, read_write_of};
+use crate::results::{TransactionDone, failed, nothing_used, one_result, without_effect};
 use entry_lookup::Ground;
+use invoke_types::HostFunction;
 use ledger_types::Header;
-use stage_runs::Extension;
 use std::alloc::Global;
 use tx_results::{ExtendResult, InnerResult, OperationResult, TransactionOutcome};
-use tx_xdr::{OperationBody, Transaction};
+use tx_xdr::{OperationBody, Transaction, TransactionExt};
 use value_types::Items;
 use xdr_core::NoMemory;
-
-/// The outcome of a transaction and its effect.
-#[derive(Drop)]
-pub struct TransactionDone {
-    pub outcome: TransactionOutcome,
-    /// Pending until they are put in.
-    pub extensions: Items<Extension, 4294967295>,
-}
-
-fn without_effect(alloc: Global, outcome: TransactionOutcome) -> TransactionDone
-    ensures outcome { result.outcome ≡ outcome }
-    ensures extensions { result.extensions ≡ [] }
-{
-    TransactionDone {
-        outcome,
-        extensions: Items::from_vec(Vec::new(alloc)),
-    }
-}
-
-fn one_result(
-    alloc: Global,
-    only: OperationResult,
-) -> Result<Items<OperationResult, 4294967295>, NoMemory>
-    ensures { IfOk result (λ results. results ≡ only ∷ []) }
-{
-    let mut results = Vec::new(alloc);
-    results.push(only)?;
-    Ok(Items::from_vec(results))
-}
 
 fn extension(result_of_extend: ExtendResult) -> OperationResult
     ensures { result ≡ OperationResult.Inner (InnerResult.Extend result_of_extend) }
 {
     OperationResult::Inner(InnerResult::Extend(result_of_extend))
-}
-
-/// Returns the outcome of a transaction whose only operation failed.
-fn failed(alloc: Global, only: OperationResult) -> Result<TransactionDone, NoMemory>
-    ensures { IfOk result (λ done. ended_of done ≡ without_effect_in (TransactionOutcome.Failed (only ∷ []))) }
-{
-    let results = one_result(alloc, only)?;
-    Ok(without_effect(alloc, TransactionOutcome::Failed(results)))
 }
 
 /// Runs EXTEND_FOOTPRINT_TTL.
@@ -73,7 +42,8 @@ fn extend<G: Ground>(
     requires read_only { All (λ key. key_format.fits key) (footprint_of tx.now).read_only }
     requires settings { IsTrue (are_settings header.now.settings) }
     requires next { IsTrue (has_next header.now) }
-    ensures { IfOk result (λ done. ended_of done ≡ extended header.now (G.map ground.now) (footprint_of tx.now) extend_to) }
+    ensures done { IfOk result (λ done. ended_of done ≡ extended header.now (G.map ground.now) (footprint_of tx.now) extend_to) }
+    ensures can { IfOk result (λ done. CanEnd (ended_of done)) }
 {
     let keys = read_only_of(tx);
     if !may_extend(&header.settings, keys, read_write_of(tx), extend_to) {
@@ -84,8 +54,34 @@ fn extend<G: Ground>(
     let results = one_result(alloc, extension(ExtendResult::Success))?;
     Ok(TransactionDone {
         outcome: TransactionOutcome::Success(results),
+        success: None,
+        changes: Items::from_vec(Vec::new(alloc)),
         extensions: Items::from_vec(extensions),
+        used: nothing_used(),
     })
+}
+
+/// Runs INVOKE_HOST_FUNCTION with the resources that the transaction declares.
+fn call_with<G: Ground>(
+    alloc: Global,
+    ground: &G,
+    header: &Header,
+    ext: &TransactionExt,
+    function: &HostFunction,
+) -> Result<TransactionDone, NoMemory>
+    requires function { host_function_format.fits function.now }
+    requires read_only { All (λ key. key_format.fits key) (footprint_in ext.now).read_only }
+    requires read_write { All (λ key. key_format.fits key) (footprint_in ext.now).read_write }
+    requires settings { IsTrue (are_settings header.now.settings) }
+    requires next { IsTrue (has_next header.now) }
+    ensures done { IfOk result (λ done. ended_of done ≡ called header.now (G.map ground.now) ext.now function.now) }
+    ensures can { IfOk result (λ done. CanEnd (ended_of done)) }
+{
+    match ext {
+        // The checks reject a transaction without Soroban data.
+        TransactionExt::None => Ok(without_effect(alloc, TransactionOutcome::Malformed)),
+        TransactionExt::Soroban(resources) => call(alloc, ground, header, resources, function),
+    }
 }
 
 /// Runs the only operation of a transaction that passed its checks.
@@ -96,17 +92,21 @@ fn perform<G: Ground>(
     tx: &Transaction,
     body: &OperationBody,
 ) -> Result<TransactionDone, NoMemory>
+    requires body { body_format.fits body.now }
     requires read_only { All (λ key. key_format.fits key) (footprint_of tx.now).read_only }
+    requires read_write { All (λ key. key_format.fits key) (footprint_of tx.now).read_write }
     requires settings { IsTrue (are_settings header.now.settings) }
     requires next { IsTrue (has_next header.now) }
-    ensures { IfOk result (λ done. ended_of done ≡ performed header.now (G.map ground.now) tx.now body.now) }
+    ensures done { IfOk result (λ done. ended_of done ≡ performed header.now (G.map ground.now) tx.now body.now) }
+    ensures can { IfOk result (λ done. CanEnd (ended_of done)) }
 {
     match body {
         OperationBody::ExtendFootprintTtl { extend_to } => {
             extend(alloc, ground, header, tx, *extend_to)
         }
-        OperationBody::RestoreFootprint | OperationBody::InvokeHostFunction { .. } => {
-            failed(alloc, OperationResult::NotSupported)
+        OperationBody::RestoreFootprint => failed(alloc, OperationResult::NotSupported),
+        OperationBody::InvokeHostFunction { host_function, .. } => {
+            call_with(alloc, ground, header, &tx.ext, host_function)
         }
     }
 }
@@ -118,11 +118,11 @@ pub fn run_transaction<G: Ground>(
     header: &Header,
     tx: &Transaction,
 ) -> Result<TransactionDone, NoMemory>
-    requires read_only { All (λ key. key_format.fits key) (footprint_of tx.now).read_only }
-    requires read_write { All (λ key. key_format.fits key) (footprint_of tx.now).read_write }
+    requires fits { transaction_format.fits tx.now }
     requires settings { IsTrue (are_settings header.now.settings) }
     requires next { IsTrue (has_next header.now) }
-    ensures { IfOk result (λ done. ended_of done ≡ ended header.now (G.map ground.now) tx.now) }
+    ensures done { IfOk result (λ done. ended_of done ≡ ended header.now (G.map ground.now) tx.now) }
+    ensures can { IfOk result (λ done. CanEnd (ended_of done)) }
 {
     if let Some(outcome) = refusal_of(alloc, header, tx)? {
         return Ok(without_effect(alloc, outcome));

@@ -1,0 +1,29 @@
+-- The arguments of a host function are those of its work.
+use Rattle.std.proofs.Common.{◌≡◌, List, Result, Err, Some, None, refl, sym, ap, subst, ◌∙◌}
+use Rattle.budget_meter.specs.Meter.{Meter}
+use Rattle.value_types.specs.Datum.{Datum}
+use Rattle.value_types.specs.Views.{datums}
+use Rattle.value_types.specs.declared.value.ScVal.{ScVal}
+use Rattle.host_spec.specs.declared.error.ValueErr.{ValueErr}
+use Rattle.call_spec.specs.WholeRuns.{entering, arguments_in}
+use Rattle.tx_apply.specs.Entering.{Passes, Enters}
+use Rattle.tx_apply.specs.Jobs.{work_in, values_in}
+use Rattle.tx_apply.specs.declared.job.Job.{Job}
+use Rattle.tx_apply.specs.declared.job.Job.TheVariants as jobs
+
+same_arguments : (job : Job) → arguments_in (work_in job) ≡ datums (values_in job)
+same_arguments (jobs.Call contract function args) = refl
+same_arguments (jobs.Upload code) = refl
+same_arguments (jobs.Create deployer code salt None) = refl
+same_arguments (jobs.Create deployer code salt (Some args)) = refl
+
+module _ (job : Job) (vs : List ScVal) (before later : Meter) (are : vs ≡ values_in job) where
+  these : datums vs ≡ arguments_in (work_in job)
+  these = ap datums are ∙ sym (same_arguments job)
+
+  pub passed_arguments : Passes (entering (datums vs)) before later → Passes (entering (arguments_in (work_in job))) before later
+  passed_arguments h = subst (λ (ds : List Datum). Passes (entering ds) before later) these h
+
+  pub stopped_arguments : (e : ValueErr) → (let r : Result (Unit {0}) ValueErr = Err e in Enters r (entering (datums vs)) before later)
+      → let r : Result (Unit {0}) ValueErr = Err e in Enters r (entering (arguments_in (work_in job))) before later
+  stopped_arguments e h = subst (λ (ds : List Datum). let r : Result (Unit {0}) ValueErr = Err e in Enters r (entering ds) before later) these h

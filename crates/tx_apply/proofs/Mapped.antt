@@ -1,0 +1,58 @@
+-- Facts of results, carried over.
+use Rattle.std.specs.Prelude.{IsErrAnd, IsSomeAnd}
+use Rattle.std.proofs.Common.{◌≡◌, Result, Ok, Err, IfOk, IfSome, sym, ap, subst, ◌∙◌}
+use Rattle.xdr_core.specs.declared.error.NoMemory.{NoMemory}
+use Rattle.budget_meter.specs.declared.budget.Used.{Used}
+use Rattle.tx_xdr.specs.declared.transaction.Footprint.{Footprint}
+use Rattle.tx_results.specs.declared.operation.InvokeResult.TheVariants.{Trapped, ResourceLimitExceeded}
+use Rattle.ledger_spec.specs.LedgerMap.{LedgerMap}
+use Rattle.call_spec.specs.Invoked as spec
+use Rattle.call_spec.specs.Invoked.{Invoked}
+use Rattle.host_spec.specs.Ends.{host_end}
+use Rattle.host_spec.specs.declared.error.ValueErr.{ValueErr}
+use Rattle.host_spec.specs.declared.error.HostErr.{HostErr}
+use Rattle.host_spec.specs.declared.error.HostErr.TheVariants as ends
+use Rattle.tx_apply.specs.declared.results.TransactionDone.{TransactionDone}
+use Rattle.tx_apply.specs.Running.{result_of}
+use Rattle.tx_apply.specs.Outcomes.{Ended, unsuccessful, ended_of_call}
+use Rattle.tx_apply.specs.Done.{ended_of, CanEnd}
+use Rattle.tx_apply.proofs.Effects.{call_failed_can, trapped_fits, limit_fits}
+
+-- a result that is this error
+pub by_error : {A E : Type 0} (P : Result A E → Type 0) (r : Result A E) (e : E) → IsErrAnd r (λ y. y ≡ e) → (let none : Result A E = Err e in P none) → P r
+by_error P (Ok a) e h p = absurd h
+by_error {A} {E} P (Err y) e h p = subst (λ (z : E). let none : Result A E = Err z in P none) (sym h) p
+
+abbrev Ran : Type 0
+Ran = Result TransactionDone NoMemory
+
+pub can_from : (r : Ran) (e : Ended) → CanEnd e → IfOk r (λ done. ended_of done ≡ e) → IfOk r (λ done. CanEnd (ended_of done))
+can_from (Ok done) e can h = subst CanEnd (sym h) can
+can_from (Err x) e can h = tt
+
+pub done_from : (r : Ran) (e f : Ended) → e ≡ f → IfOk r (λ done. ended_of done ≡ e) → IfOk r (λ done. ended_of done ≡ f)
+done_from (Ok done) e f is h = h ∙ is
+done_from (Err x) e f is h = tt
+
+-- ---- a host function that ended without a value
+
+abbrev IsEndOf : HostErr → Used → TransactionDone → Type 0
+IsEndOf end used done = IsSomeAnd (result_of end) (λ r. ended_of done ≡ unsuccessful r used)
+
+module _ (used : Used) where
+  pub ended_done : (m : LedgerMap) (footprint : Footprint) (x : Invoked) (r : Ran) (end : HostErr) → IfSome (result_of end) (λ k. spec.unsuccessful k m used ≡ x) → IfOk r (IsEndOf end used)
+      → IfOk r (λ done. ended_of done ≡ ended_of_call m footprint x)
+  ended_done m footprint x (Err e) end is h = tt
+  ended_done m footprint x (Ok done) (ends.Failed e) is h = h ∙ ap (ended_of_call m footprint) is
+  ended_done m footprint x (Ok done) ends.Spent is h = h ∙ ap (ended_of_call m footprint) is
+  ended_done m footprint x (Ok done) (ends.Undeclared key) is h = h ∙ ap (ended_of_call m footprint) is
+  ended_done m footprint x (Ok done) (ends.Archived key) is h = h ∙ ap (ended_of_call m footprint) is
+  ended_done m footprint x (Ok done) ends.NoMemory is h = absurd h
+
+  pub ended_can : (r : Ran) (end : HostErr) → IfOk r (IsEndOf end used) → IfOk r (λ done. CanEnd (ended_of done))
+  ended_can (Err e) end h = tt
+  ended_can (Ok done) (ends.Failed e) h = subst CanEnd (sym h) (call_failed_can Trapped used trapped_fits)
+  ended_can (Ok done) ends.Spent h = subst CanEnd (sym h) (call_failed_can ResourceLimitExceeded used limit_fits)
+  ended_can (Ok done) (ends.Undeclared key) h = subst CanEnd (sym h) (call_failed_can Trapped used trapped_fits)
+  ended_can (Ok done) (ends.Archived key) h = subst CanEnd (sym h) (call_failed_can Trapped used trapped_fits)
+  ended_can (Ok done) ends.NoMemory h = absurd h

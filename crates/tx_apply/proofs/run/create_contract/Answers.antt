@@ -1,0 +1,18 @@
+use Rattle.std.proofs.Common.{sym}
+use Rattle.value_types.specs.Datum.{address}
+use Rattle.value_types.specs.Views.{datum}
+use Rattle.value_types.specs.declared.address.ScAddress.TheVariants as addresses
+use Rattle.value_types.specs.declared.hash.Hash.{Hash}
+use Rattle.call_spec.specs.WholeRuns.{creating}
+use Rattle.contract_call.specs.Creations.{creation_of}
+use Rattle.tx_apply.proofs.Ending.{ends_failed, ends_viewed}
+use Rattle.tx_apply.proofs.run.create_contract.Goals as goal
+
+pub returns-in-Ok-clause-ends : goal.returns-in-Ok-clause-ends
+returns-in-Ok-clause-ends g c =
+    ends_viewed (creating (creation_of c.args.contract)) (λ (id : Hash). address (addresses.Contract id)) datum c.args.host.now c.create.new.host c.in-Ok.id c.contract_value.result
+    (sym c.contract_value.ensures.value) c.in-Ok.ensures.ends
+
+pub returns-in-Err-clause-ends : goal.returns-in-Err-clause-ends
+returns-in-Err-clause-ends g c =
+    ends_failed (creating (creation_of c.args.contract)) (λ (id : Hash). address (addresses.Contract id)) datum c.args.host.now c.create.new.host c.in-Err.end c.in-Err.ensures.ends

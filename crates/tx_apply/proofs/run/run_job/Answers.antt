@@ -1,0 +1,10 @@
+use Rattle.tx_apply.specs.Jobs.{work_in}
+use Rattle.tx_apply.proofs.Ending.{charged_ends, failed_ends}
+use Rattle.tx_apply.proofs.run.run_job.Goals as goal
+
+pub returns-in-Ok-clause-ends : goal.returns-in-Ok-clause-ends
+returns-in-Ok-clause-ends g c =
+    charged_ends (work_in c.args.job.now) c.args.host.now c.perform.new.host c.charged.new.budget c.in-Ok.value c.charged.result c.in-Ok.ensures.ends c.charged.ensures
+
+pub returns-in-Err-clause-ends : goal.returns-in-Err-clause-ends
+returns-in-Err-clause-ends g c = failed_ends (work_in c.args.job.now) c.args.host.now c.perform.new.host c.in-Err.end c.in-Err.ensures.ends

@@ -1,0 +1,253 @@
+//! INVOKE_HOST_FUNCTION.
+
+ghost use Rattle.std.specs.Prelude.{◌≡◌, All, IfOk, IsSomeAnd, IsTrue};
+ghost use Rattle.value_types.specs.Views.{datum, datums};
+ghost use Rattle.ledger_types.specs.Key.{key_format};
+ghost use Rattle.ledger_spec.specs.LedgerMap.{LedgerMap};
+ghost use Rattle.ledger_spec.specs.LedgerFile.{are_settings, has_next};
+ghost use Rattle.invoke_types.specs.HostFunction.{host_function_format};
+ghost use Rattle.invoke_types.specs.Success.{success_format};
+ghost use Rattle.contract_storage.specs.Differences.{AreDifferences};
+ghost use Rattle.host_spec.specs.Hosted.{IsHosted, AreHosted};
+ghost use Rattle.call_spec.specs.World.{next_seq};
+ghost use Rattle.call_spec.specs.WholeRuns.{whole};
+ghost use Rattle.call_spec.specs.Invoked.{by_run, invoked};
+ghost use Rattle.tx_apply.specs.Changed.{CanStand};
+ghost use Rattle.tx_apply.specs.Jobs.{work_in, values_in, IsSpelled};
+ghost use Rattle.tx_apply.specs.Running.{entered_run, result_of as result_of_end, successful_with, outcome_with};
+ghost use Rattle.tx_apply.specs.Outcomes.{ended_of_call, unsuccessful};
+ghost use Rattle.tx_apply.specs.Done.{ended_of, CanEnd};
+
+use crate::changes::{by_key, changes_at, extensions_at};
+use crate::entering::enter_all;
+use crate::job::{Job, job_of, values};
+use crate::reading::{declares_archived, reads_more};
+use crate::results::{TransactionDone, failed_call, nothing_used, one_result};
+use crate::run::run_job;
+use crate::success::success_hash;
+use crate::writing::writes_more;
+use budget_meter::{Budget, Limits, Used};
+use contract_call::Host;
+use contract_storage::Storage;
+use entry_lookup::Ground;
+use host_ledger::{Events, HostLedger};
+use host_spec::HostErr;
+use invoke_types::{HostFunction, SuccessPreimage};
+use ledger_types::{Header, Settings};
+use std::alloc::Global;
+use tx_results::{InnerResult, InvokeResult, OperationResult, TransactionOutcome};
+use tx_xdr::{Footprint, SorobanData};
+use value_types::{Items, ScVal};
+use xdr_core::NoMemory;
+
+/// A budget with the declared limit of instructions.
+fn budget_of(settings: &Settings, instructions: u32) -> Budget
+    requires { IsTrue (are_settings settings.now) }
+    ensures limits { result.limits ≡ record { instructions = instructions; memory = settings.now.memory_limit } }
+    ensures terms { result.terms ≡ settings.now.terms }
+    ensures used { result.used ≡ record { instructions = 0; memory = 0 } }
+{
+    let limits = Limits {
+        instructions: u64::from(instructions),
+        memory: settings.memory_limit,
+    };
+    Budget::new(limits, settings.terms)
+}
+
+/// The result of a host function that ended without a value, or `None` if memory ran out.
+fn result_of(end: &HostErr) -> Option<InvokeResult>
+    ensures { result ≡ result_of_end end.now }
+{
+    match end {
+        HostErr::Failed(_) | HostErr::Undeclared(_) | HostErr::Archived(_) => {
+            Some(InvokeResult::Trapped)
+        }
+        HostErr::Spent => Some(InvokeResult::ResourceLimitExceeded),
+        HostErr::NoMemory => None,
+    }
+}
+
+/// The outcome of a host function that ended without a value.
+fn ended(alloc: Global, end: &HostErr, used: Used) -> Result<TransactionDone, NoMemory>
+    ensures { IfOk result (λ done. IsSomeAnd (result_of_end end.now) (λ r. ended_of done ≡ unsuccessful r used)) }
+{
+    match result_of(end) {
+        Some(result_of_call) => failed_call(alloc, result_of_call, used),
+        None => Err(NoMemory),
+    }
+}
+
+/// The success preimage.
+fn success_of(value: ScVal, events: Events) -> SuccessPreimage
+    requires { IsHosted (datum value) }
+    ensures value { result ≡ record { return_value = value; events = events } }
+    ensures fits { success_format.fits result }
+{
+    let events = events.into_vec();
+    SuccessPreimage {
+        return_value: value,
+        events: Items::from_vec(events),
+    }
+}
+
+/// The outcome of a host function that succeeded.
+fn succeeded<G: Ground>(
+    alloc: Global,
+    ground: &G,
+    footprint: &Footprint,
+    changes: &[contract_storage::Change],
+    success: SuccessPreimage,
+    used: Used,
+) -> Result<TransactionDone, NoMemory>
+    requires read_only { All (λ key. key_format.fits key) footprint.now.read_only }
+    requires read_write { All (λ key. key_format.fits key) footprint.now.read_write }
+    requires changes { All CanStand changes.now }
+    requires success { success_format.fits success }
+    ensures done { IfOk result (λ done. (new : LedgerMap) → AreDifferences (G.map ground.now) new changes.now
+        → ended_of done ≡ ended_of_call (G.map ground.now) footprint.now (successful_with success new used)) }
+    ensures can { IfOk result (λ done. CanEnd (ended_of done)) }
+{
+    let hash = success_hash(alloc, &success)?;
+    let changed = by_key(alloc, changes)?;
+    let changes = changes_at(alloc, ground, &changed, footprint.read_write.as_slice())?;
+    let extensions = extensions_at(alloc, ground, &changed, footprint.read_only.as_slice())?;
+    let only = OperationResult::Inner(InnerResult::Invoke(InvokeResult::Success(hash)));
+    let results = one_result(alloc, only)?;
+    Ok(TransactionDone {
+        outcome: TransactionOutcome::Success(results),
+        success: Some(success),
+        changes: Items::from_vec(changes),
+        extensions: Items::from_vec(extensions),
+        used,
+    })
+}
+
+/// Returns the events of a run.
+fn events_of<G: Ground>(host: Host<'_, G>) -> Events
+    ensures { result ≡ host.entry.ledger.events }
+{
+    let Host { ledger, open: _ } = host;
+    let HostLedger {
+        header: _,
+        storage: _,
+        events,
+        budget: _,
+        objects: _,
+        frame: _,
+    } = ledger;
+    events
+}
+
+/// The outcome of a host function that returned a value in ledger `n`: it may have written too much.
+fn returned<G: Ground>(
+    alloc: Global,
+    ground: &G,
+    n: u32,
+    resources: &SorobanData,
+    host: Host<'_, G>,
+    value: ScVal,
+) -> Result<TransactionDone, NoMemory>
+    requires read_only { All (λ key. key_format.fits key) resources.now.footprint.read_only }
+    requires read_write { All (λ key. key_format.fits key) resources.now.footprint.read_write }
+    requires value { IsHosted (datum value) }
+    requires base { host.ledger.storage.base ≡ G.map ground.now }
+    ensures done { IfOk result (λ done. ended_of done ≡ ended_of_call (G.map ground.now) resources.now.footprint
+        (outcome_with n resources.now (G.map ground.now) value host.entry.ledger.storage.map host.entry.ledger.events host.entry.ledger.budget.used)) }
+    ensures can { IfOk result (λ done. CanEnd (ended_of done)) }
+{
+    let used = host.ledger.budget.spent();
+    let changes = host.ledger.storage.changes()?;
+    if writes_more(ground, n, &changes, resources.write_bytes) {
+        return failed_call(alloc, InvokeResult::ResourceLimitExceeded, used);
+    }
+    let success = success_of(value, events_of(host));
+    succeeded(alloc, ground, &resources.footprint, &changes, success, used)
+}
+
+/// Runs a host function whose arguments have entered the host.
+fn run<G: Ground>(
+    alloc: Global,
+    ground: &G,
+    header: &Header,
+    resources: &SorobanData,
+    job: &Job<'_>,
+    budget: Budget,
+) -> Result<TransactionDone, NoMemory>
+    requires spelled { IsSpelled job.now }
+    requires hosted { AreHosted (datums (values_in job.now)) }
+    requires read_only { All (λ key. key_format.fits key) resources.now.footprint.read_only }
+    requires read_write { All (λ key. key_format.fits key) resources.now.footprint.read_write }
+    requires settings { IsTrue (are_settings header.now.settings) }
+    requires next { IsTrue (has_next header.now) }
+    ensures done { IfOk result (λ done. ended_of done ≡ ended_of_call (G.map ground.now) resources.now.footprint
+        (by_run (next_seq header.now) resources.now (G.map ground.now) (entered_run header.now budget (work_in job.now) (G.map ground.now)))) }
+    ensures can { IfOk result (λ done. CanEnd (ended_of done)) }
+{
+    let n = header.seq + 1;
+    let storage = Storage::enforcing(
+        alloc,
+        ground,
+        n,
+        &header.settings,
+        resources.footprint.read_only.as_slice(),
+        resources.footprint.read_write.as_slice(),
+    )?;
+    let mut host = Host::new(alloc, storage, header, budget);
+    match run_job(alloc, &mut host, job) {
+        Ok(value) => returned(alloc, ground, n, resources, host, value),
+        Err(end) => ended(alloc, &end, host.ledger.budget.spent()),
+    }
+}
+
+/// Runs a host function. First its arguments enter the host.
+fn enter_and_run<G: Ground>(
+    alloc: Global,
+    ground: &G,
+    header: &Header,
+    resources: &SorobanData,
+    job: &Job<'_>,
+) -> Result<TransactionDone, NoMemory>
+    requires spelled { IsSpelled job.now }
+    requires read_only { All (λ key. key_format.fits key) resources.now.footprint.read_only }
+    requires read_write { All (λ key. key_format.fits key) resources.now.footprint.read_write }
+    requires settings { IsTrue (are_settings header.now.settings) }
+    requires next { IsTrue (has_next header.now) }
+    ensures done { IfOk result (λ done. ended_of done ≡ ended_of_call (G.map ground.now) resources.now.footprint
+        (by_run (next_seq header.now) resources.now (G.map ground.now) (whole header.now resources.now.instructions (work_in job.now) (G.map ground.now)))) }
+    ensures can { IfOk result (λ done. CanEnd (ended_of done)) }
+{
+    let mut budget = budget_of(&header.settings, resources.instructions);
+    match enter_all(&mut budget, values(job)) {
+        Ok(()) => run(alloc, ground, header, resources, job, budget),
+        Err(end) => ended(alloc, &HostErr::from(end), budget.spent()),
+    }
+}
+
+/// INVOKE_HOST_FUNCTION. The first test that holds decides.
+pub(crate) fn call<G: Ground>(
+    alloc: Global,
+    ground: &G,
+    header: &Header,
+    resources: &SorobanData,
+    function: &HostFunction,
+) -> Result<TransactionDone, NoMemory>
+    requires function { host_function_format.fits function.now }
+    requires read_only { All (λ key. key_format.fits key) resources.now.footprint.read_only }
+    requires read_write { All (λ key. key_format.fits key) resources.now.footprint.read_write }
+    requires settings { IsTrue (are_settings header.now.settings) }
+    requires next { IsTrue (has_next header.now) }
+    ensures done { IfOk result (λ done. ended_of done ≡ ended_of_call (G.map ground.now) resources.now.footprint (invoked header.now resources.now (G.map ground.now) function.now)) }
+    ensures can { IfOk result (λ done. CanEnd (ended_of done)) }
+{
+    let n = header.seq + 1;
+    let Some(job) = job_of(function) else {
+        return failed_call(alloc, InvokeResult::Malformed, nothing_used());
+    };
+    if declares_archived(ground, n, &resources.footprint) {
+        return failed_call(alloc, InvokeResult::EntryArchived, nothing_used());
+    }
+    if reads_more(ground, n, &resources.footprint, resources.disk_read_bytes) {
+        return failed_call(alloc, InvokeResult::ResourceLimitExceeded, nothing_used());
+    }
+    enter_and_run(alloc, ground, header, resources, &job)
+}

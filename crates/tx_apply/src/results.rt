@@ -1,0 +1,91 @@
+//! The outcomes of transactions, with what they do to the entries of a ledger.
+
+ghost use Rattle.std.specs.Prelude.{◌≡◌, ◌∷◌, [], IfOk};
+ghost use Rattle.stage_runs.specs.Whole.{nothing_used};
+ghost use Rattle.tx_apply.specs.Outcomes.{without_changes as without_changes_in, without_effect as without_effect_in, unsuccessful};
+ghost use Rattle.tx_apply.specs.Done.{ended_of};
+
+use budget_meter::Used;
+use invoke_types::SuccessPreimage;
+use stage_runs::{Change, Extension};
+use std::alloc::Global;
+use tx_results::{InnerResult, InvokeResult, OperationResult, TransactionOutcome};
+use value_types::Items;
+use xdr_core::NoMemory;
+
+/// The outcome of a transaction and its effect.
+#[derive(Drop)]
+pub struct TransactionDone {
+    pub outcome: TransactionOutcome,
+    /// The success preimage of a host function that succeeded.
+    pub success: Option<SuccessPreimage>,
+    /// At the keys that the transaction declares read-write, in their order.
+    pub changes: Items<Change, 4294967295>,
+    /// Pending until they are put in.
+    pub extensions: Items<Extension, 4294967295>,
+    pub used: Used,
+}
+
+/// The sums of a transaction that ran nothing.
+pub(crate) fn nothing_used() -> Used
+    ensures { result ≡ nothing_used }
+{
+    Used {
+        instructions: 0,
+        memory: 0,
+    }
+}
+
+fn without_changes(alloc: Global, outcome: TransactionOutcome, used: Used) -> TransactionDone
+    ensures { ended_of result ≡ without_changes_in outcome used }
+{
+    TransactionDone {
+        outcome,
+        success: None,
+        changes: Items::from_vec(Vec::new(alloc)),
+        extensions: Items::from_vec(Vec::new(alloc)),
+        used,
+    }
+}
+
+/// Returns an outcome without an effect, of a transaction that ran nothing.
+pub(crate) fn without_effect(alloc: Global, outcome: TransactionOutcome) -> TransactionDone
+    ensures { ended_of result ≡ without_effect_in outcome }
+{
+    without_changes(alloc, outcome, nothing_used())
+}
+
+/// Returns the results of a transaction with one operation.
+pub(crate) fn one_result(
+    alloc: Global,
+    only: OperationResult,
+) -> Result<Items<OperationResult, 4294967295>, NoMemory>
+    ensures { IfOk result (λ results. results ≡ only ∷ []) }
+{
+    let mut results = Vec::new(alloc);
+    results.push(only)?;
+    Ok(Items::from_vec(results))
+}
+
+/// Returns the outcome of a transaction whose only operation failed.
+pub(crate) fn failed(alloc: Global, only: OperationResult) -> Result<TransactionDone, NoMemory>
+    ensures { IfOk result (λ done. ended_of done ≡ without_effect_in (TransactionOutcome.Failed (only ∷ []))) }
+{
+    let results = one_result(alloc, only)?;
+    Ok(without_effect(alloc, TransactionOutcome::Failed(results)))
+}
+
+/// Returns the outcome of a transaction whose host function did not succeed, with the sums that it used.
+pub(crate) fn failed_call(
+    alloc: Global,
+    result_of_call: InvokeResult,
+    used: Used,
+) -> Result<TransactionDone, NoMemory>
+    ensures { IfOk result (λ done. ended_of done ≡ unsuccessful result_of_call used) }
+{
+    let results = one_result(
+        alloc,
+        OperationResult::Inner(InnerResult::Invoke(result_of_call)),
+    )?;
+    Ok(without_changes(alloc, TransactionOutcome::Failed(results), used))
+}

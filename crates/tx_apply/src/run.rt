@@ -1,0 +1,202 @@
+//! Runs a host function in the host.
+
+ghost use Rattle.std.specs.Prelude.{◌≡◌, ◌<◌, ◌^◌, length, IfOk, IfErr};
+ghost use Rattle.std.specs.Option.{option_map};
+ghost use Rattle.value_types.specs.Hash.{hash_format};
+ghost use Rattle.value_types.specs.Datum.{bytes, address as address_datum};
+ghost use Rattle.value_types.specs.Views.{datum, datums};
+ghost use Rattle.value_types.specs.declared.address.ScAddress.TheVariants as addresses;
+ghost use Rattle.host_spec.specs.Hosted.{IsHosted, AreHosted, size_of as size_in};
+ghost use Rattle.call_spec.specs.Acts.{paying};
+ghost use Rattle.call_spec.specs.WholeRuns.{calling, uploading, creating};
+ghost use Rattle.contract_call.specs.Creations.{args_of, creation_of, AreArgsHosted};
+ghost use Rattle.contract_call.specs.Ended.{Ends};
+ghost use Rattle.contract_call.specs.Worlds.{MayRun};
+ghost use Rattle.tx_apply.specs.Jobs.{work_in, values_in, datums_in, IsSpelled};
+ghost use Rattle.tx_apply.specs.Entering.{Enters};
+ghost use Rattle.tx_apply.specs.Running.{Charges, EndsCharged};
+
+use crate::job::Job;
+use budget_meter::{Budget, Kind};
+use contract_call::{Host, NewContract, create, invoke, upload};
+use entry_lookup::Ground;
+use host_frame::{charge, size_of};
+use host_spec::{HostErr, ValueErr};
+use std::alloc::Global;
+use value_types::{Blob, Hash, ScAddress, ScVal};
+
+/// Says that a hash has a spelling.
+#[tactic(auto, unfolding(value_types::specs::Hash::hash_format))]
+fn hold_hash(hash: Hash)
+    ensures { hash_format.fits hash }
+{
+    let _ = hash;
+}
+
+/// A hash as a value of bytes.
+fn hash_value(alloc: Global, hash: Hash) -> Result<ScVal, ValueErr>
+    ensures value { IfOk result (λ value. datum value ≡ bytes hash.0) }
+    ensures hosted { IfOk result (λ value. IsHosted (datum value)) }
+    ensures memory { IfErr result (λ e. e ≡ ValueErr.NoMemory) }
+{
+    hold_hash(hash);
+    let content = hash.0.to_vec(alloc)?;
+    Ok(ScVal::Bytes(Blob::from_vec(content)))
+}
+
+/// The address of a contract as a value.
+fn contract_value(id: Hash) -> ScVal
+    ensures value { datum result ≡ address_datum (addresses.Contract id) }
+    ensures hosted { IsHosted (datum result) }
+{
+    hold_hash(id);
+    ScVal::Address(ScAddress::Contract(id))
+}
+
+/// Clones values.
+fn clone_values(alloc: Global, values: &[ScVal]) -> Result<Vec<ScVal>, ValueErr>
+    ensures ok { IfOk result (λ v. v.items ≡ values.now) }
+    ensures memory { IfErr result (λ e. e ≡ ValueErr.NoMemory) }
+{
+    Ok(values.to_vec(alloc)?)
+}
+
+/// Calls a function of a contract.
+fn call<G: Ground>(
+    alloc: Global,
+    host: &mut Host<'_, G>,
+    contract: ScAddress,
+    function: &[u8],
+    args: &[ScVal],
+) -> Result<ScVal, HostErr>
+    requires ready { MayRun host.old }
+    requires args { AreHosted (datums args.now) }
+    ensures ends { Ends (calling contract function.now (datums args.now)) result datum host.old host.new }
+    ensures base { host.new.ledger.storage.base ≡ host.old.ledger.storage.base }
+    ensures hosted { IfOk result (λ value. IsHosted (datum value)) }
+{
+    let args = clone_values(alloc, args)?;
+    invoke(host, contract, function, args)
+}
+
+/// Uploads a code.
+fn upload_code<G: Ground>(
+    alloc: Global,
+    host: &mut Host<'_, G>,
+    code: &[u8],
+) -> Result<ScVal, HostErr>
+    requires ready { MayRun host.old }
+    requires size { length code.now < 2 ^ 32 }
+    ensures ends { Ends (uploading code.now) result datum host.old host.new }
+    ensures base { host.new.ledger.storage.base ≡ host.old.ledger.storage.base }
+    ensures hosted { IfOk result (λ value. IsHosted (datum value)) }
+{
+    match upload(host, code) {
+        Ok(hash) => Ok(hash_value(alloc, hash)?),
+        Err(end) => Err(end),
+    }
+}
+
+/// Clones the arguments of a constructor.
+fn clone_args(alloc: Global, args: Option<&[ScVal]>) -> Result<Option<Vec<ScVal>>, ValueErr>
+    ensures ok { IfOk result (λ clone. option_map args_of clone ≡ option_map datums_in args.entry) }
+    ensures memory { IfErr result (λ e. e ≡ ValueErr.NoMemory) }
+{
+    match args {
+        None => Ok(None),
+        Some(args) => Ok(Some(clone_values(alloc, args)?)),
+    }
+}
+
+/// Creates a contract.
+fn create_contract<G: Ground>(
+    host: &mut Host<'_, G>,
+    contract: NewContract,
+) -> Result<ScVal, HostErr>
+    requires ready { MayRun host.old }
+    requires args { AreArgsHosted contract.args }
+    ensures ends { Ends (creating (creation_of contract)) result datum host.old host.new }
+    ensures base { host.new.ledger.storage.base ≡ host.old.ledger.storage.base }
+    ensures hosted { IfOk result (λ value. IsHosted (datum value)) }
+{
+    match create(host, contract) {
+        Ok(id) => Ok(contract_value(id)),
+        Err(end) => Err(end),
+    }
+}
+
+/// Calls, uploads or creates.
+fn perform<G: Ground>(
+    alloc: Global,
+    host: &mut Host<'_, G>,
+    job: &Job<'_>,
+) -> Result<ScVal, HostErr>
+    requires ready { MayRun host.old }
+    requires spelled { IsSpelled job.now }
+    requires hosted { AreHosted (datums (values_in job.now)) }
+    ensures ends { Ends (work_in job.now) result datum host.old host.new }
+    ensures base { host.new.ledger.storage.base ≡ host.old.ledger.storage.base }
+    ensures hosted { IfOk result (λ value. IsHosted (datum value)) }
+{
+    match job {
+        Job::Call {
+            contract,
+            function,
+            args,
+        } => call(alloc, host, *contract, function, args),
+        Job::Upload(code) => upload_code(alloc, host, code),
+        Job::Create {
+            deployer,
+            code,
+            salt,
+            args,
+        } => {
+            let args = clone_args(alloc, *args)?;
+            create_contract(
+                host,
+                NewContract {
+                    deployer: *deployer,
+                    code: *code,
+                    salt: *salt,
+                    args,
+                },
+            )
+        }
+    }
+}
+
+/// Charges the value that is returned.
+fn charge_value(budget: &mut Budget, value: &ScVal) -> Result<(), ValueErr>
+    requires { IsHosted (datum value.now) }
+    ensures { Enters result (paying Kind.ValSer (size_in (datum value.now))) budget.old budget.new }
+{
+    charge(budget, Kind::ValSer, size_of(value))
+}
+
+/// Returns the value after its charge.
+fn charged(budget: &mut Budget, value: ScVal) -> Result<ScVal, HostErr>
+    requires { IsHosted (datum value) }
+    ensures { Charges result value budget.old budget.new }
+{
+    charge_value(budget, &value)?;
+    Ok(value)
+}
+
+/// Runs a host function whose arguments have entered the host. Returns its value after the charge for it.
+pub(crate) fn run_job<G: Ground>(
+    alloc: Global,
+    host: &mut Host<'_, G>,
+    job: &Job<'_>,
+) -> Result<ScVal, HostErr>
+    requires ready { MayRun host.old }
+    requires spelled { IsSpelled job.now }
+    requires hosted { AreHosted (datums (values_in job.now)) }
+    ensures ends { EndsCharged (work_in job.now) result host.old host.new }
+    ensures base { host.new.ledger.storage.base ≡ host.old.ledger.storage.base }
+    ensures hosted { IfOk result (λ value. IsHosted (datum value)) }
+{
+    match perform(alloc, host, job) {
+        Ok(value) => charged(&mut host.ledger.budget, value),
+        Err(end) => Err(end),
+    }
+}
