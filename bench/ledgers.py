@@ -25,10 +25,10 @@ def words(*numbers):
     return b"".join(struct.pack(">I", number) for number in numbers)
 
 
-def header():
-    """What stands before the entries in the file of a ledger."""
+def header(memory_limit=41943040):
+    """What stands before the entries in the file of a ledger whose transactions have this memory limit, in bytes."""
     fields = words(1) + NETWORK + words(100) + struct.pack(">Q", 1000) + words(16, 4096, 3110400)
-    return fields + struct.pack(">Q", 41943040) + b"".join(words(*row) for row in SETTINGS)
+    return fields + struct.pack(">Q", memory_limit) + b"".join(words(*row) for row in SETTINGS)
 
 
 def key(number):

@@ -6,11 +6,10 @@ usage: bench/loops.py PART_BENCH (the built program of crates/part_bench; it nee
 
 import os
 import re
-import resource
 import subprocess
 import tempfile
 
-from measure import program_argument
+from measure import processor_seconds, program_argument
 
 LOOPS = """(module (memory 16)
 (func (export "count") (result i64) (local i64)
@@ -32,12 +31,6 @@ LOOPS = """(module (memory 16)
     (br_if $l (i64.lt_u (local.tee $n (i64.add (local.get $n) (i64.const 1))) (i64.const 8000000)))) (local.get $sum))
 )"""
 NAMES = ["count", "fibonacci", "sieve", "calls"]
-
-
-def processor_seconds():
-    """Seconds of processor time of all commands that have ended."""
-    used = resource.getrusage(resource.RUSAGE_CHILDREN)
-    return used.ru_utime + used.ru_stime
 
 
 def timed(*command):

@@ -1,6 +1,9 @@
-"""What the scripts of this folder share: their one argument, and the seconds and peak memory of a command."""
+"""What the scripts of this folder share: their one argument, and the seconds, processor time, instructions and peak memory of a
+command."""
 
 import os
+import re
+import resource
 import subprocess
 import sys
 import time
@@ -12,6 +15,12 @@ def program_argument(about):
         print(about.strip().split("\n\n")[-1], file=sys.stderr)
         sys.exit(2)
     return os.path.abspath(sys.argv[1])
+
+
+def processor_seconds():
+    """Seconds of processor time of all commands that have ended."""
+    used = resource.getrusage(resource.RUSAGE_CHILDREN)
+    return used.ru_utime + used.ru_stime
 
 
 def measure(command):
@@ -29,8 +38,17 @@ def measure(command):
     return seconds, int(done.stderr.split()[-1]) / 1024
 
 
-def measure_apply(program, folder, contents):
-    """Seconds and peak memory in MiB of applying a set to a ledger.
+def instructions(command):
+    """The processor's instructions of a command, counted by callgrind."""
+    how = ["valgrind", "--tool=callgrind", "--callgrind-out-file=/dev/null"]
+    done = subprocess.run([*how, *command], stdout=subprocess.DEVNULL, stderr=subprocess.PIPE, text=True)
+    if done.returncode != 0:
+        sys.exit(f"{command[0]} ended with {done.returncode}: {done.stderr}")
+    return int(re.search(r"Collected : (\d+)", done.stderr)[1])
+
+
+def apply_command(program, folder, contents):
+    """The command that applies a set to a ledger.
 
     The contents of the files `set`, `ledger` and `verdicts` are given by name; they are stored in the folder.
     """
@@ -38,7 +56,12 @@ def measure_apply(program, folder, contents):
     for name, data in contents.items():
         with open(path[name], "wb") as file:
             file.write(data)
-    return measure([
+    return [
         program, "apply", "--set", path["set"], "--ledger", path["ledger"], "--verdicts", path["verdicts"],
         "--close-time", "1001", "--workers", "1", "--report", path["report"], "--ledger-out", path["next"],
-    ])
+    ]
+
+
+def measure_apply(program, folder, contents):
+    """Seconds and peak memory in MiB of applying a set to a ledger, as `apply_command` does."""
+    return measure(apply_command(program, folder, contents))

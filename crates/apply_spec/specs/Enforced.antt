@@ -186,6 +186,6 @@ abbrev pub whole : Header → Verdicts → runs.JudgedStep
 whole header verdicts entries envelope =
     judged header envelope (first_performed header entries (transaction_in envelope) (transaction_in envelope).operations)
 
--- The effect of an envelope: of one that fails its checks its result alone, else what its run may leave at its declared keys.
+-- The effect of an envelope. If a check fails, it is the result alone. Otherwise it is what the run changes at the declared keys.
 abbrev pub enforced : Header → Verdicts → Step
 enforced header verdicts = runs.enforced (whole header verdicts) (refusal header)

@@ -1,4 +1,3 @@
 pub mod Editing
-pub mod Fitting
 pub mod Hashing
 pub mod Reading

@@ -34,7 +34,7 @@ use Rattle.host_ledger.specs.declared.state.InstanceCopy.{InstanceCopy}
 use Rattle.call_parts.specs.Entered.{IsTested, IsEntered, opens_instance}
 use Rattle.call_parts.specs.Steps.{Returns}
 use Rattle.call_parts.proofs.Reading.{Opens}
-use Rattle.call_parts.proofs.Entries.{instance_value}
+use Rattle.call_parts.proofs.EntryLaws.{instance_value}
 
 -- ---- what accesses find
 

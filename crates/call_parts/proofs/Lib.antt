@@ -1,7 +1,7 @@
 pub mod Joining
 pub mod Reading
 pub mod Writing
-pub mod Entries
+pub mod EntryLaws
 pub mod InstanceLaws
 pub mod Payloads
 pub mod Stepping

@@ -7,41 +7,18 @@ ghost use Rattle.ledger_types.specs.Entry.{entry_format, key_of};
 ghost use Rattle.ledger_spec.specs.LedgerMap.{HasCodeHash};
 ghost use Rattle.contract_storage.specs.Stored.{IsLater};
 ghost use Rattle.call_spec.specs.World.{Read, Write};
-ghost use Rattle.call_spec.specs.Accesses.{access, puts, entry_size};
+ghost use Rattle.call_spec.specs.Accesses.{access, puts};
 ghost use Rattle.call_spec.specs.Creating.{is_there};
-ghost use Rattle.host_ledger.specs.Accessed.{Accesses, end_of};
+ghost use Rattle.host_ledger.specs.Accessed.{Accesses};
 ghost use Rattle.call_parts.specs.Steps.{Steps};
 
 use crate::charges::pay;
-use crate::errors::NO_ENTRY;
 use budget_meter::{Budget, Kind};
-use contract_storage::{StoErr, Storage};
+use contract_storage::Storage;
 use entry_lookup::Ground;
+use host_ledger::{end_of, size_of};
 use host_spec::HostErr;
 use ledger_types::{LedgerEntry, LedgerKey};
-use value_xdr::Xdr;
-
-/// The end of a call of the storage with this key.
-pub(crate) fn end_of(key: LedgerKey, error: StoErr) -> HostErr
-    ensures { result ≡ end_of key error }
-{
-    match error {
-        StoErr::Undeclared => HostErr::Undeclared(key),
-        StoErr::Archived => HostErr::Archived(key),
-        StoErr::Missing => NO_ENTRY,
-        StoErr::BadExtend(error) => HostErr::Failed(error),
-        StoErr::NoMemory => HostErr::NoMemory,
-    }
-}
-
-/// The bytes of an entry.
-#[tactic(auto, unfolding(call_spec::specs::Accesses::entry_size))]
-pub(crate) fn size_of(entry: &LedgerEntry) -> u64
-    requires { entry_format.fits entry.now }
-    ensures { result ≡ entry_size entry.now }
-{
-    entry.size()
-}
 
 /// Whether there is a live entry at a key.
 pub(crate) fn is_there<G: Ground>(
@@ -69,7 +46,8 @@ fn clone_key(key: &LedgerKey) -> Result<LedgerKey, HostErr>
     }
 }
 
-/// Puts an entry at its key. The charge for it comes after the put, which a run that the charge ends does not show.
+/// Puts an entry at its key. The charge comes after the put. If it exceeds a limit, the run ends and its writes are dropped, so
+/// the order cannot be seen.
 pub(crate) fn put<G: Ground>(
     storage: &mut Storage<'_, G>,
     budget: &mut Budget,
@@ -79,7 +57,8 @@ pub(crate) fn put<G: Ground>(
     requires key { key ≡ key_of entry }
     requires fits { entry_format.fits entry }
     requires hashed { HasCodeHash entry.data }
-    ensures does { Steps result (λ u. u) (λ env. access env Write key (puts env entry tt)) storage.old storage.new budget.old budget.new }
+    ensures does { Steps result (λ u. u)
+        (λ env. access env Write key (puts env entry tt)) storage.old storage.new budget.old budget.new }
     ensures later { IsLater storage.old storage.new }
 {
     let size = size_of(&entry);

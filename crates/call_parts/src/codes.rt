@@ -19,14 +19,15 @@ ghost use Rattle.host_ledger.specs.Accessed.{Accesses};
 ghost use Rattle.call_parts.specs.Entered.{judges_module, judges};
 ghost use Rattle.call_parts.specs.Steps.{Steps, Charges, Returns};
 
-use crate::accesses::{end_of, is_there, put};
+use crate::accesses::{is_there, put};
 use crate::charges::pay;
-use crate::errors::{NO_ENTRY, NO_MODULE};
-use crate::keys::{code_entry, code_hash, code_key};
+use crate::entries::{code_entry, code_hash};
+use crate::errors::NO_MODULE;
 use crate::modules::load_module;
 use budget_meter::{Budget, Kind};
 use contract_storage::Storage;
 use entry_lookup::Ground;
+use host_ledger::{NO_ENTRY, code_key, end_of};
 use host_spec::HostErr;
 use ledger_types::{LedgerEntry, LedgerEntryData};
 use std::alloc::Global;

@@ -3,9 +3,6 @@
 use host_spec::HostErr;
 use value_types::{ScError, ScErrorCode};
 
-/// There is no live entry.
-pub(crate) const NO_ENTRY: HostErr = HostErr::Failed(ScError::Storage(ScErrorCode::MissingValue));
-
 /// The value of an instance entry is no instance.
 pub(crate) const NO_INSTANCE: HostErr = HostErr::Failed(ScError::Storage(
     ScErrorCode::UnexpectedType,

@@ -1,11 +1,9 @@
 //! How a frame's run begins and ends.
 
-ghost use Rattle.std.specs.Prelude.{ℕ, List, [], ◌∷◌, ◌++◌, IfOk, Some};
+ghost use Rattle.std.specs.Prelude.{[], ◌∷◌, IfOk, Some};
 ghost use Rattle.budget_meter.specs.declared.kind.Kind.TheVariants as kinds;
 ghost use Rattle.value_types.specs.Views.{datum, datums};
-ghost use Rattle.host_spec.specs.Acts.{state, Says, then_do, gives as values_gives};
-ghost use Rattle.host_spec.specs.Answers.{given, value as given_value};
-ghost use Rattle.host_spec.specs.Hosted.{IsHosted, IsMade};
+ghost use Rattle.host_spec.specs.Hosted.{IsHosted};
 ghost use Rattle.host_spec.specs.VecRows.{all_given};
 ghost use Rattle.host_spec.specs.Words.{meaning};
 ghost use Rattle.object_store.specs.Shown.{shown_of, AreIndices};
@@ -17,8 +15,8 @@ ghost use Rattle.call_parts.specs.Steps.{Charges, Shows, Returns};
 use crate::charges::pay;
 use crate::errors::{HIDDEN_ERROR, INVALID_VALUE};
 use budget_meter::{Budget, Kind};
-use host_frame::{Answer, give};
-use host_spec::{HostErr, ValueErr};
+use host_frame::give_each;
+use host_spec::HostErr;
 use object_store::{Objects, Shown, TakeErr};
 use tagged_val::Val;
 use value_types::{ScError, ScVal};
@@ -46,46 +44,6 @@ pub fn charge_run(budget: &mut Budget, module: &Module) -> Result<(), HostErr>
         Ok(()) => pay(budget, Kind::InvokeVmFunction, 1),
         Err(error) => Err(error),
     }
-}
-
-/// Shows one more value, and adds its word.
-fn give_next(
-    objects: &mut Objects,
-    shown: &mut Shown,
-    budget: &mut Budget,
-    mut words: Vec<u64>,
-    item: ScVal,
-) -> Result<Vec<u64>, ValueErr>
-    requires made { IsMade (datum item) }
-    requires indices { AreIndices objects.old shown.old }
-    ensures does { (memory : List ℕ) → Says result (λ after. after.items)
-        (then_do (given (given_value (datum item)) (state (shown_of objects.old shown.old) memory budget.old)) (λ word. values_gives (words.items ++ word ∷ [])))
-        (state (shown_of objects.new shown.new) memory budget.new) }
-    ensures indices { AreIndices objects.new shown.new }
-{
-    let word = give(objects, shown, budget, Answer::Value(item))?;
-    words.push(word)?;
-    Ok(words)
-}
-
-/// The words of values, in order.
-fn give_each(
-    objects: &mut Objects,
-    shown: &mut Shown,
-    budget: &mut Budget,
-    items: Vec<ScVal>,
-) -> Result<Vec<u64>, ValueErr>
-    requires made { AreMade (datums items.items) }
-    requires indices { AreIndices objects.old shown.old }
-    ensures does { (memory : List ℕ) → Says result (λ words. words.items)
-        (all_given (datums items.items) (state (shown_of objects.old shown.old) memory budget.old)) (state (shown_of objects.new shown.new) memory budget.new) }
-    ensures indices { AreIndices objects.new shown.new }
-{
-    let mut words = Vec::with_capacity(objects.allocator(), items.len())?;
-    for item in items {
-        words = give_next(objects, shown, budget, words, item)?;
-    }
-    Ok(words)
 }
 
 /// Shows the arguments of a call, one by one. Returns their words.

@@ -11,7 +11,7 @@ ghost use Rattle.call_spec.specs.Creating.{paying_id};
 ghost use Rattle.call_parts.specs.Steps.{Charges};
 
 use crate::charges::pay;
-use crate::keys::hold_hash;
+use crate::entries::hold_hash;
 use budget_meter::{Budget, Kind};
 use host_spec::HostErr;
 use invoke_types::{Preimage, contract_id};

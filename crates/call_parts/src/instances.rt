@@ -22,15 +22,15 @@ ghost use Rattle.host_ledger.specs.Worlds.{IsHeld, copied};
 ghost use Rattle.call_parts.specs.Entered.{IsTested, IsEntered, opens_instance};
 ghost use Rattle.call_parts.specs.Steps.{Steps, Charges, Returns};
 
-use crate::accesses::{end_of, put, size_of};
+use crate::accesses::put;
 use crate::charges::pay;
+use crate::entries::instance_entry;
 use crate::errors::{EXISTS, NO_INSTANCE, NOT_WASM};
-use crate::keys::{instance_entry, instance_key};
 use budget_meter::{Budget, Kind};
 use contract_storage::Storage;
 use entry_lookup::Ground;
 use host_frame::entry;
-use host_ledger::InstanceCopy;
+use host_ledger::{InstanceCopy, end_of, instance_key, size_of};
 use host_spec::HostErr;
 use ledger_spec::first_life;
 use ledger_types::{LedgerEntry, LedgerEntryData, Settings};

@@ -13,11 +13,11 @@ mod accesses;
 mod charges;
 mod codes;
 mod demands;
+mod entries;
 mod errors;
 mod frames;
 mod ids;
 mod instances;
-mod keys;
 mod modules;
 
 pub use codes::{find_code, upload};

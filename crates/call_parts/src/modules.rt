@@ -49,7 +49,8 @@ pub fn paid_module(
     len: u64,
     module: Option<LinkedModule>,
 ) -> Result<LinkedModule, HostErr>
-    ensures { Charges result (λ m. m) (paying kinds.VmInstantiation len (with_module «module» (λ m. gives m))) budget.old budget.new }
+    ensures { Charges result (λ m. m) (paying kinds.VmInstantiation len
+        (with_module «module» (λ m. gives m))) budget.old budget.new }
 {
     match pay(budget, Kind::VmInstantiation, len) {
         Ok(()) => linked(module),

@@ -73,6 +73,7 @@ admits named env enter call path contract =
 -- The tests in their order: another frame may be open; the address is a contract's; the name is not reserved; the contract has no open frame;
 -- its instance is there, is an instance, runs WebAssembly, and has storage that may enter the host; its code is there and is a valid, linked
 -- module, which exports the function with this arity; its segments fit.
+-- `named`: the name is one that the caller may call
 abbrev pub calls_if : Bool → Env → Opener → Call → Act Datum
 calls_if named env opener call = begins (λ path. with_opener opener (λ enter. with_contract call.address (admits named env enter call path)))
 

@@ -163,7 +163,7 @@ NeverArchivedLaw = (header : Header) (instructions : ℕ) (work : Work) (footpri
 
 -- ---- operations
 
--- two outcomes, over m and over n, that differ in nothing but what their maps have at other keys, which is what m and n have there
+-- Two outcomes with the same result, preimage and sums. Their maps agree at declared keys. At other keys each map is unchanged.
 pub record AlikeInvoked (may : Judge) (m n : LedgerMap) (one other : Invoked) : Type 0 where
   pub result : one.result ≡ other.result
   pub success : one.success ≡ other.success

@@ -21,7 +21,7 @@ abbrev pub stopped_kind : {A : Type 0} → Out A → AccessKind
 stopped_kind (Undeclared a w) = a.kind
 stopped_kind _ = Read
 
--- An end that nothing catches: only the budget of this world counts, and what the program says of the accesses.
+-- An end that no `try_call` catches. Only the budget is compared. `traced` is what is known of the trace.
 abbrev pub EndsSo : {A : Type 0} → (List Access → Type 0) → Failure → Out A → World → Type 0
 EndsSo traced e out w = traced (trace_of out) × (out ≡ Bad e (world_of out)) × ((world_of out).meter ≡ w.meter)
 
@@ -30,8 +30,8 @@ abbrev pub StopsSo : {A : Type 0} → (List Access → Type 0) → LedgerKey →
 StopsSo traced key out w =
     traced (trace_of out) × (out ≡ Undeclared (record { kind = stopped_kind out; key = key; used = w.meter.used }) (world_of out)) × ((world_of out).meter ≡ w.meter)
 
--- A call of the program does what an act does, and leaves a world that is given for each trace. The program may know something of the trace. Memory
--- may run out at any time.
+-- The Rust function returns what the act returns. The act's final world is `left` of its trace. `traced` is what is known of the trace: a storage
+-- that records accesses knows it, one that enforces a footprint does not. Out of memory is always allowed.
 abbrev pub Says : {A B : Type 0} → (List Access → Type 0) → Result A HostErr → (A → B) → Out B → (List Access → World) → Type 0
 Says traced (Ok a) view out left = traced (trace_of out) × (out ≡ Good (view a) (left (trace_of out)))
 Says traced (Err (ends.Failed e)) view out left = traced (trace_of out) × (out ≡ Bad (Failed e) (left (trace_of out)))

@@ -64,7 +64,7 @@ pub record Frame : Type 0 where
   -- how many calls and creates it has begun
   pub begun : ℕ
 
--- the transaction outside all frames, which belongs to no contract
+-- the transaction outside all frames, which belongs to no contract; only its path and its count are read
 abbrev pub outside : Frame
 outside = record {
   contract = hash_of [];

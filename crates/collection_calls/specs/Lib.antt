@@ -1,4 +1,3 @@
 pub mod Found
-pub mod KeyIndex
 pub mod Parts
 pub mod Unpacked

@@ -3,7 +3,6 @@
 
 mod clones;
 mod from_memory;
-mod key_index;
 mod map_parts;
 mod maps;
 mod seeking;

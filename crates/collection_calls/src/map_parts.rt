@@ -10,17 +10,16 @@ ghost use Rattle.host_spec.specs.VecRows.{vec_answer};
 ghost use Rattle.host_spec.specs.declared.error.ValueErr.TheVariants as errs;
 ghost use Rattle.host_frame.specs.Answered.{answer_of};
 ghost use Rattle.host_frame.specs.Made.{IsAnswerMade};
-ghost use Rattle.collection_calls.specs.KeyIndex.{IsThere, IsGap};
+ghost use Rattle.host_frame.specs.KeyIndex.{IsThere, IsGap};
 
 use crate::clones::{joined_entries, joined_entries_by};
-use crate::key_index::index_of;
-use host_frame::Answer;
+use host_frame::{Answer, index_of};
 use host_spec::ValueErr;
 use std::alloc::Global;
 use value_types::{Entry, ScVal, ScVals};
 
 /// The value of a key.
-#[tactic(auto, using(crate::proofs::KeyLaws::value_there, crate::proofs::KeyLaws::value_gap, crate::proofs::KeyLaws::val_made))]
+#[tactic(auto, using(host_frame::proofs::KeyLaws::value_there, host_frame::proofs::KeyLaws::value_gap, host_frame::proofs::KeyLaws::val_made))]
 pub fn value_at<'a>(key: &ScVal, entries: &'a [Entry]) -> Option<&'a ScVal>
     requires { IsHosted (map (members_of (datum_pairs entries.now))) }
     ensures found { MatchOption result (value_at (datum key.now) (datum_pairs entries.now) ≡ None) (λ v. value_at (datum key.now) (datum_pairs entries.now) ≡ Some (datum v.now)) }
@@ -47,7 +46,7 @@ pub fn has_key(key: &ScVal, entries: &[Entry]) -> bool
 }
 
 /// The key at an index.
-#[tactic(auto, using(crate::proofs::KeyLaws::entry_here, crate::proofs::KeyLaws::entry_past, crate::proofs::KeyLaws::key_made))]
+#[tactic(auto, using(crate::proofs::KeyLaws::entry_here, crate::proofs::KeyLaws::entry_past, host_frame::proofs::KeyLaws::key_made))]
 pub fn key_at(entries: &[Entry], index: usize) -> Option<&ScVal>
     requires { IsHosted (map (members_of (datum_pairs entries.now))) }
     ensures found { MatchOption result (option_map (λ m. m.0) (slice_get (datum_pairs entries.now) index) ≡ None)
@@ -63,7 +62,7 @@ pub fn key_at(entries: &[Entry], index: usize) -> Option<&ScVal>
 }
 
 /// The value at an index.
-#[tactic(auto, using(crate::proofs::KeyLaws::entry_here, crate::proofs::KeyLaws::entry_past, crate::proofs::KeyLaws::val_made))]
+#[tactic(auto, using(crate::proofs::KeyLaws::entry_here, crate::proofs::KeyLaws::entry_past, host_frame::proofs::KeyLaws::val_made))]
 pub fn val_at(entries: &[Entry], index: usize) -> Option<&ScVal>
     requires { IsHosted (map (members_of (datum_pairs entries.now))) }
     ensures found { MatchOption result (option_map (λ m. m.1) (slice_get (datum_pairs entries.now) index) ≡ None)
@@ -211,7 +210,7 @@ fn map_left_out(
 }
 
 /// The map without a key, if it has it.
-#[tactic(auto, using(crate::proofs::KeyLaws::value_is_there, crate::proofs::KeyLaws::value_gap))]
+#[tactic(auto, using(crate::proofs::KeyLaws::value_is_there, host_frame::proofs::KeyLaws::value_gap))]
 pub fn map_without(
     alloc: Global,
     entries: &[Entry],

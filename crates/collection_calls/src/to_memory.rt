@@ -16,50 +16,10 @@ ghost use Rattle.collection_calls.specs.Unpacked.{given_to};
 
 use crate::clones::clones_of;
 use budget_meter::{Budget, Kind};
-use host_frame::{Answer, OTHER_COUNT, Values, charge, enter, give, in_memory};
+use host_frame::{Answer, OTHER_COUNT, Values, charge, enter, give_each, in_memory};
 use host_spec::ValueErr;
 use object_store::{Objects, Shown};
 use value_types::ScVal;
-
-/// Gives one more value, and adds its word.
-fn give_next(
-    objects: &mut Objects,
-    shown: &mut Shown,
-    budget: &mut Budget,
-    mut words: Vec<u64>,
-    item: ScVal,
-) -> Result<Vec<u64>, ValueErr>
-    requires made { IsMade (datum item) }
-    requires indices { AreIndices objects.old shown.old }
-    ensures does { (memory : List ℕ) → Says result (λ after. after.items)
-        (then_do (given (given_value (datum item)) (state (shown_of objects.old shown.old) memory budget.old)) (λ word. gives (words.items ++ word ∷ [])))
-        (state (shown_of objects.new shown.new) memory budget.new) }
-    ensures indices { AreIndices objects.new shown.new }
-{
-    let word = give(objects, shown, budget, Answer::Value(item))?;
-    words.push(word)?;
-    Ok(words)
-}
-
-/// The words of values, in order.
-fn give_each(
-    objects: &mut Objects,
-    shown: &mut Shown,
-    budget: &mut Budget,
-    items: Vec<ScVal>,
-) -> Result<Vec<u64>, ValueErr>
-    requires made { AreMade (datums items.items) }
-    requires indices { AreIndices objects.old shown.old }
-    ensures does { (memory : List ℕ) → Says result (λ words. words.items)
-        (all_given (datums items.items) (state (shown_of objects.old shown.old) memory budget.old)) (state (shown_of objects.new shown.new) memory budget.new) }
-    ensures indices { AreIndices objects.new shown.new }
-{
-    let mut words = Vec::with_capacity(objects.allocator(), items.len())?;
-    for item in items {
-        words = give_next(objects, shown, budget, words, item)?;
-    }
-    Ok(words)
-}
 
 /// Writes a word, its lowest byte first.
 fn write_word(memory: &mut [u8], at: usize, word: u64)

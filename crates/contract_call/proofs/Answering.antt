@@ -11,7 +11,6 @@ use Rattle.host_interface.specs.declared.kinds.ArgKind.TheVariants as kinds
 use Rattle.host_spec.specs.Acts as values
 use Rattle.host_spec.specs.Arguments.{argument, dispatched}
 use Rattle.xdr_spec.specs.Format.{opaque}
-use Rattle.ledger_types.specs.declared.header.Header.{Header}
 use Rattle.value_types.specs.Datum.{Datum, bytes}
 use Rattle.host_interface.specs.declared.kinds.ArgKind.{ArgKind}
 use Rattle.host_interface.specs.declared.import.HostImport.{HostImport}
@@ -19,11 +18,11 @@ use Rattle.host_spec.specs.Answers.{Answer, value, given}
 use Rattle.host_spec.specs.Hosted.{IsHosted}
 use Rattle.host_spec.specs.declared.error.HostErr.{HostErr}
 use Rattle.host_spec.specs.declared.error.HostErr.TheVariants as ends
-use Rattle.object_store.specs.Shown.{shown_of, AreIndices}
-use Rattle.contract_storage.specs.Stored.{Stored, HasBounds}
+use Rattle.object_store.specs.Shown.{shown_of}
+use Rattle.contract_storage.specs.Stored.{Stored}
 use Rattle.host_frame.specs.Answered.{answer_of}
 use Rattle.host_frame.specs.declared.answer.Answer.{Answer as Answer'}
-use Rattle.call_spec.specs.World.{Pair, Access, Copied, World, Env, next_seq}
+use Rattle.call_spec.specs.World.{Pair, Access, Copied, World, Env}
 use Rattle.call_spec.specs.Acts.{Failed, Out, Good, Bad, Undeclared, Act, world_of, then_do, after, gives, lift}
 use Rattle.call_spec.specs.Creating.{uploads, upload_wasm}
 use Rattle.call_spec.specs.Demands.{demand, met, invocation, requires as demands, require_auth, require_auth_for_args}
@@ -34,6 +33,7 @@ use Rattle.call_spec.specs.Rules.{Rule, nothing, answered, returning}
 use Rattle.host_ledger.specs.Answered.{any, Answers, IsMadeIfOk}
 use Rattle.host_ledger.specs.Accessed.{Runs}
 use Rattle.host_ledger.proofs.Rows.{later_same}
+use Rattle.host_ledger.proofs.Steps.{ready_after}
 use Rattle.call_parts.specs.Steps.{Steps, Returns}
 use Rattle.host_ledger.specs.Called.{Calls, Left}
 use Rattle.host_ledger.specs.Worlds.{address_of, world_at, IsReady, Stays as StaysLedger}
@@ -63,24 +63,16 @@ same_count (Err ends.NoMemory) view out new rest p = tt
 
 -- ---- what stays
 
-pub stays_ledger : {G : Type 0} (old : Host G) (new : HostLedger G) → MayRun old → IsReady new → Left old.ledger new → StaysIn old (around old new)
-stays_ledger old new ready after left = record {
+pub stays_ledger : {G : Type 0} (old : Host G) (new : HostLedger G) → IsReady new → Left old.ledger new → StaysIn old (around old new)
+stays_ledger old new after left = record {
   left = left;
   contracts = refl;
-  ready = record { ledger = after; lives = ap (λ (s : Stored). s.lives) left.storage.same ∙ ready.lives ∙ sym (ap (λ (h : Header). h.settings) left.header) };
-}
-
-ready_later : {G : Type 0} (old new : HostLedger G) → IsReady old → StaysLedger old new → IsReady new
-ready_later old new ready stays = record {
-  bounds = subst (λ (h : Header). HasBounds (next_seq h) h.settings) (sym stays.header) ready.bounds;
-  number = ap (λ (s : Stored). s.n) stays.storage.same ∙ ready.number ∙ ap next_seq (sym stays.header);
-  indices = subst (λ o. AreIndices o new.frame.shown) (sym stays.objects) (subst (λ s. AreIndices old.objects s) (sym stays.shown) ready.indices);
-  copy = stays.copy ready.copy;
+  ready = record { ledger = after };
 }
 
 pub stays_row : {G : Type 0} (old : Host G) (new : HostLedger G) → MayRun old → StaysLedger old.ledger new → StaysIn old (around old new)
 stays_row old new ready stays =
-    stays_ledger old new ready (ready_later old.ledger new ready.ledger stays)
+    stays_ledger old new (ready_after old.ledger new ready.ledger stays)
     (record { header = stays.header; storage = stays.storage; events = stays.events; contract = stays.contract; caller = stays.caller; code = stays.code })
 
 -- ---- what is done

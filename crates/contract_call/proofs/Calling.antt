@@ -31,7 +31,7 @@ use Rattle.contract_call.specs.declared.targets.ContractCall.{ContractCall}
 use Rattle.contract_call.proofs.Joining.{stop, go_on, same_act, fails_as, as_fails, traced, keep_count}
 use Rattle.contract_call.proofs.Showing.{shown_as}
 use Rattle.contract_call.proofs.Splitting.{calls_first}
-use Rattle.contract_call.proofs.Stepping.{serves_later}
+use Rattle.host_ledger.proofs.Composing.{serves_later}
 
 -- ---- acts of the host, one after another
 

@@ -170,4 +170,4 @@ ends_so work r view old new ready does footprint declared m agree rest =
     let one = done_under all_allowed header work start in
     ended may m (first_rejected may (world_of one).trace) one (done_under may header work w) rest r view old new (done_back old may header work rest)
     (end_to_end_law header work footprint start old.ledger.storage.map agree refl)
-    (does env (record { header = refl; serves = record { number = ready.ledger.number; lives = ready.lives; judge = judges footprint old.ledger.storage.declared declared } }) rest [])
+    (does env (record { header = refl; serves = record { number = ready.ledger.number; lives = ready.ledger.lives; judge = judges footprint old.ledger.storage.declared declared } }) rest [])

@@ -35,8 +35,7 @@ stays_by old m ready = record {
   };
   contracts = refl;
   ready = record {
-    ledger = record { bounds = ready.ledger.bounds; number = ready.ledger.number; indices = ready.ledger.indices; copy = ready.ledger.copy };
-    lives = ready.lives;
+    ledger = record { bounds = ready.ledger.bounds; number = ready.ledger.number; lives = ready.ledger.lives; indices = ready.ledger.indices; copy = ready.ledger.copy };
   };
 }
 

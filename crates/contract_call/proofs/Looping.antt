@@ -26,11 +26,11 @@ use Rattle.call_spec.specs.Outcomes.{Says, trace_of, stopped_kind}
 use Rattle.host_ledger.specs.Answered.{any}
 use Rattle.host_ledger.specs.Worlds.{IsEnv}
 use Rattle.contract_call.specs.Worlds.{world_in, ending}
-use Rattle.contract_storage.specs.Stored.{Stored, IsLater, history, with_history}
+use Rattle.contract_storage.proofs.Going.{again}
 use Rattle.host_ledger.proofs.Rows.{later_same}
 use Rattle.contract_call.specs.Worlds.{MayRun}
 use Rattle.contract_call.specs.Running.{DoesOver, StaysIn}
-use Rattle.contract_call.proofs.Stepping.{serves_later}
+use Rattle.host_ledger.proofs.Composing.{serves_later}
 use Rattle.contract_call.specs.declared.host.Host.{Host}
 use Rattle.contract_call.proofs.Joining.{keep_both, says_stopped, traced}
 use Rattle.contract_call.proofs.Showing.{shown_as}
@@ -215,17 +215,11 @@ run_refused m room i0 i i1 h0 h h2 b f words row e before after follows tells na
 
 -- ---- the state
 
-pub later_twice : (s t u : Stored) → IsLater s t → IsLater t u → IsLater s u
-later_twice s t u h k = record {
-  same = k.same ∙ ap (λ (x : Stored). with_history x u) h.same;
-  later = (h.later.0 ++ k.later.0, k.later.1 ∙ ap (λ x. x ++ k.later.0) h.later.1 ∙ append_assoc (history s) h.later.0 k.later.0);
-}
-
 pub stays_twice : {G : Type 0} (h0 h h2 : Host G) (b : Meter) → StaysIn h0 h → StaysIn (paid h b) h2 → StaysIn h0 h2
 stays_twice h0 h h2 b one two = record {
   left = record {
     header = two.left.header ∙ one.left.header;
-    storage = later_twice h0.ledger.storage h.ledger.storage h2.ledger.storage one.left.storage two.left.storage;
+    storage = again h0.ledger.storage h.ledger.storage h2.ledger.storage one.left.storage two.left.storage;
     events = (one.left.events.0 ++ two.left.events.0, two.left.events.1 ∙ ap (λ x. x ++ two.left.events.0) one.left.events.1 ∙ append_assoc h0.ledger.events one.left.events.0 two.left.events.0);
     contract = two.left.contract ∙ one.left.contract;
     caller = two.left.caller ∙ one.left.caller;
@@ -251,8 +245,7 @@ stays_same h ready = record {
 
 pub may_pay : {G : Type 0} (h : Host G) (b : Meter) → MayRun h → MayRun (paid h b)
 may_pay h b ready = record {
-  ledger = record { bounds = ready.ledger.bounds; number = ready.ledger.number; indices = ready.ledger.indices; copy = ready.ledger.copy };
-  lives = ready.lives;
+  ledger = record { bounds = ready.ledger.bounds; number = ready.ledger.number; lives = ready.ledger.lives; indices = ready.ledger.indices; copy = ready.ledger.copy };
 }
 
 pub env_in : {G : Type 0} (old new : Host G) → StaysIn old new → (env : Env) → IsEnv env old.ledger → IsEnv env new.ledger

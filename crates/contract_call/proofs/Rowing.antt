@@ -29,7 +29,8 @@ use Rattle.contract_call.specs.Made.{IsValued}
 use Rattle.contract_call.specs.Taken.{TakesIn}
 use Rattle.contract_call.specs.declared.host.Host.{Host}
 use Rattle.contract_call.proofs.Joining.{stop, go_on, same_act, fails_as, as_fails, keep_count}
-use Rattle.contract_call.proofs.Looping.{env_in, later_twice}
+use Rattle.contract_storage.proofs.Going.{again}
+use Rattle.contract_call.proofs.Looping.{env_in}
 use Rattle.contract_call.proofs.Showing.{shown_as}
 
 -- an act around the running frame, in it
@@ -108,17 +109,17 @@ still old new ready stays = record {
   ledger = record {
     bounds = subst (λ (h : Header). HasBounds (next_seq h) h.settings) (sym stays.header) ready.ledger.bounds;
     number = ap (λ (s : Stored). s.n) stays.storage.same ∙ ready.ledger.number ∙ ap next_seq (sym stays.header);
+    lives = ap (λ (s : Stored). s.lives) stays.storage.same ∙ ready.ledger.lives ∙ ap (λ (h : Header). h.settings) (sym stays.header);
     indices = subst (λ (f : Running). AreIndices new.ledger.objects f.shown) (sym stays.frame) (subst (λ o. AreIndices o old.ledger.frame.shown) (sym stays.objects) ready.ledger.indices);
     copy = subst (λ (f : Running). IsHeld f.copy.storage) (sym stays.frame) ready.ledger.copy;
   };
-  lives = ap (λ (s : Stored). s.lives) stays.storage.same ∙ ready.lives ∙ ap (λ (h : Header). h.settings) (sym stays.header);
 }
 
 pub stays_on : {G : Type 0} (old mid new : Host G) → StaysIn old mid → Stays mid new → StaysIn old new
 stays_on old mid new one two = record {
   left = record {
     header = two.header ∙ one.left.header;
-    storage = later_twice old.ledger.storage mid.ledger.storage new.ledger.storage one.left.storage two.storage;
+    storage = again old.ledger.storage mid.ledger.storage new.ledger.storage one.left.storage two.storage;
     events = (one.left.events.0 ++ two.events.0, two.events.1 ∙ ap (λ x. x ++ two.events.0) one.left.events.1 ∙ append_assoc old.ledger.events one.left.events.0 two.events.0);
     contract = ap (λ (f : Running). f.contract) two.frame ∙ one.left.contract;
     caller = ap (λ (f : Running). f.caller) two.frame ∙ one.left.caller;

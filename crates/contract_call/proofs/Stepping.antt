@@ -1,17 +1,13 @@
 -- Steps over the ledger and the budget, one after another.
-use Rattle.std.proofs.Common.{◌≡◌, Result, Ok, Err, refl, sym, ap, subst}
+use Rattle.std.proofs.Common.{◌≡◌, Result, Ok, Err, refl, ap}
 use Rattle.budget_meter.specs.Meter.{Meter}
 use Rattle.host_spec.specs.declared.error.HostErr.{HostErr}
 use Rattle.contract_storage.specs.Stored.{Stored, IsLater}
 use Rattle.call_spec.specs.World.{Env}
 use Rattle.call_spec.specs.Acts.{Act, Good, after, gives}
-use Rattle.host_ledger.specs.Worlds.{Serves}
+use Rattle.host_ledger.proofs.Composing.{serves_later}
 use Rattle.call_parts.specs.Steps.{Steps}
 use Rattle.contract_call.proofs.Joining.{stop, go_on, fails_as, as_fails}
-
--- a later state serves the same environments
-pub serves_later : (env : Env) (old new : Stored) → IsLater old new → Serves env old → Serves env new
-serves_later env old new later s = subst (λ (x : Stored). Serves env x) (sym later.same) (record { number = s.number; lives = s.lives; judge = s.judge })
 
 pub steps_on : {A B C D : Type 0} (a : A) (r : Result C HostErr) (view : A → B) (other : C → D) (act : Env → Act B) (next : Env → B → Act D) (old mid new : Stored) (before middle last : Meter)
     → IsLater old mid → (let given : Result A HostErr = Ok a in Steps given view act old mid before middle) → Steps r other (λ env. next env (view a)) mid new middle last

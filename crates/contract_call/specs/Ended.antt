@@ -14,8 +14,8 @@ use Rattle.call_spec.specs.WholeRuns.{Work, all_allowed, done_under}
 use Rattle.contract_call.specs.Worlds.{world_around}
 use Rattle.contract_call.specs.declared.host.Host.{Host}
 
--- The end of a run over all entries of the map m, as the program gives it over its storage, which agrees with m on the keys that may be read. At a
--- failure entries and events are as before. Of the other ends only the budget's sums count.
+-- Compares the result of the Rust function with the end of the whole run over the map m. The storage agrees with m on the keys that may be read. After
+-- a failure, entries and events are as before the call. After Spent and Archived only the budget is compared.
 abbrev pub IsEnd : {A B G : Type 0} → Judge → LedgerMap → Out B → Result A HostErr → (A → B) → Host G → Host G → Type 0
 IsEnd may m (Good b w) (Ok a) view old new =
     (b ≡ view a) × (new.ledger.budget ≡ w.meter) × (new.ledger.events ≡ w.events) × Maps may m old.ledger.storage.map w.entries new.ledger.storage.map
@@ -26,15 +26,15 @@ IsEnd may m (Bad (Archived key) w) (Err (ends.Archived k)) view old new = (k ≡
 IsEnd may m out (Err ends.NoMemory) view old new = Unit {0}
 IsEnd may m _ _ view old new = ⊥
 
--- The first access that is not declared decides, with the sums at that access.
+-- The first undeclared access decides, with the sums at that access.
 abbrev pub EndsBy : {A B G : Type 0} → Judge → LedgerMap → Option Access → Out B → Result A HostErr → (A → B) → Host G → Host G → Type 0
 EndsBy may m (Some a) out (Err (ends.Undeclared key)) view old new = (key ≡ a.key) × (new.ledger.budget.used ≡ a.used)
 EndsBy may m (Some a) out (Err ends.NoMemory) view old new = Unit {0}
 EndsBy may m (Some a) out _ view old new = ⊥
 EndsBy may m None out r view old new = IsEnd may m out r view old new
 
--- For every map that agrees with the storage on the keys that its footprint declares, the work ends as its run over that map does. That run knows
--- no footprint.
+-- Take any map that agrees with the storage on the declared keys. The Rust function ends as the whole run over that map, or at the first undeclared
+-- access of that run. The whole run checks no footprint.
 abbrev pub Ends : {A G : Type 0} → Work → Result A HostErr → (A → Datum) → Host G → Host G → Type 0
 Ends work r view old new = (footprint : Footprint) → IsFootprint footprint.read_only footprint.read_write old.ledger.storage.declared
     → (m : LedgerMap) → Agree (by_footprint footprint) m old.ledger.storage.map → (rest : World)

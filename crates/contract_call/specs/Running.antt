@@ -47,12 +47,12 @@ pub record StaysIn {G : Type 0} (old new : Host G) : Type 0 where
   pub contracts : new.open.items ≡ old.open.items
   pub ready : MayRun new
 
--- A call of the program does an act of a frame with this instance at its start.
+-- `RunsIn` for a frame that started with this instance
 abbrev pub DoesFrom : {A B G : Type 0} → Copied → Result A HostErr → (A → B) → (Env → Act B) → Host G → Host G → Type 0
 DoesFrom first r view act old new = (env : Env) → IsEnv env old.ledger → (rest : World) (trace : List Access) → rest.frame.first ≡ first
     → (let out = act env (world_in rest old trace) in Says any r view out (world_in (ending rest out) new))
 
--- A call of the program does an act of the frame with this linear memory, and leaves another one.
+-- `DoesIn` for a frame whose linear memory is `before` at the start and `after` at the end
 abbrev pub DoesOver : {A B G : Type 0} → List ℕ → List ℕ → Result A HostErr → (A → B) → (Env → Act B) → Host G → Host G → Type 0
 DoesOver before after r view act old new = (env : Env) → IsEnv env old.ledger → (rest : World) (trace : List Access) → rest.frame.memory ≡ before
     → (let out = act env (world_in rest old trace) in Says any r view out (world_in (resting (with_memory after rest) out) new))

@@ -18,7 +18,7 @@ use Rattle.host_ledger.specs.Worlds.{IsEnv}
 use Rattle.contract_call.specs.Worlds.{world_in, DoesIn}
 use Rattle.contract_call.specs.declared.host.Host.{Host}
 
--- With the arguments that were taken, after its charges, the act goes on as `next` says. Without them it fails like this.
+-- `Ok a`: after the charges of the call, the act goes on as `next a`. `Err e`: the act ends with e, and only the budget has changed.
 abbrev pub Takes : {A : Type 0} → Result A HostErr → Act Answer → (A → Act Answer) → List Datum → Meter → Meter → Type 0
 Takes (Ok a) act next shown before after = (w : World) → w.frame.shown ≡ shown → w.meter ≡ before → act w ≡ next a (record w { meter = after })
 Takes (Err e) act next shown before after = (w : World) → w.frame.shown ≡ shown → w.meter ≡ before
@@ -28,7 +28,7 @@ Takes (Err e) act next shown before after = (w : World) → w.frame.shown ≡ sh
 abbrev pub creates_here : Env → Opener → Creation → Act Answer
 creates_here env opener c = with_frame (λ frame. returning (creates env opener (Some (Contract frame.contract)) c) (λ id. address (Contract id)))
 
--- the same of a call of the program in the frame that runs
+-- `Takes` for the running frame of a host
 abbrev pub TakesIn : {A G : Type 0} → Result A HostErr → (Env → Act Answer) → (Env → A → Act Answer) → Host G → Host G → Type 0
 TakesIn (Ok a) act next old new = (env : Env) → IsEnv env old.ledger → (rest : World) (trace : List Access) → act env (world_in rest old trace) ≡ next env a (world_in rest new trace)
 TakesIn (Err e) act next old new = let none : Result Answer' HostErr = Err e in DoesIn none answer_of act old new

@@ -20,12 +20,12 @@ pub record IsBack {G : Type 0} (mark : Mark) (old new : Host G) : Type 0 where
   pub events : new.ledger.events ≡ take mark.events old.ledger.events
   pub rest : new ≡ record old { ledger = record old.ledger { storage = new.ledger.storage; events = new.ledger.events } }
 
--- A failure goes back to the mark. Any other end changes nothing.
+-- A failure restores the mark. Any other end changes nothing.
 abbrev pub Undoes : {G : Type 0} → Mark → HostErr → Host G → Host G → Type 0
 Undoes mark (ends.Failed e) old new = IsBack mark old new
 Undoes mark _ old new = new ≡ old
 
--- A failure goes back to the mark, and the value of its error comes in its place. Any other end changes nothing.
+-- A failure restores the mark and is returned as a value. Any other end changes nothing.
 abbrev pub Catches : {G : Type 0} → Mark → HostErr → Result ScVal HostErr → Host G → Host G → Type 0
 Catches mark (ends.Failed e) r old new = (r ≡ Ok (values.Error (passed_on e))) × IsBack mark old new
 Catches mark e r old new = (r ≡ Err e) × (new ≡ old)

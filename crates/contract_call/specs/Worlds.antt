@@ -30,11 +30,11 @@ world_around rest h trace = record rest {
 abbrev pub world_in : {G : Type 0} → World → Host G → List Access → World
 world_in rest h trace = world_at (record rest { contracts = contracts_of h }) h.ledger trace
 
--- The state does not hold how many calls and creates the frame has begun: it is that at the act's end.
+-- `Host` does not count the calls and creates that the frame has begun. The count is that of the act's final world.
 abbrev pub resting : {A : Type 0} → World → Out A → World
 resting rest out = record rest { frame = record rest.frame { begun = (world_of out).frame.begun } }
 
--- nor the frame's linear memory, after an act that may write to it
+-- The same for the linear memory: `Host` does not hold it, and the act may write to it.
 abbrev pub ending : {A : Type 0} → World → Out A → World
 ending rest out = record rest { frame = record rest.frame { memory = (world_of out).frame.memory; begun = (world_of out).frame.begun } }
 
@@ -43,8 +43,8 @@ with_memory memory w = record w { frame = record w.frame { memory = memory } }
 
 -- ---- acts
 
--- A call of the program does an act of every environment of the state, in every world that the state shows, whatever its frame and its accesses so
--- far.
+-- The Rust function returns what the act returns, and leaves the host that the act leaves. This holds for every environment that fits the host, every
+-- running frame and every earlier trace.
 abbrev pub DoesAround : {A B G : Type 0} → Result A HostErr → (A → B) → (Env → Act B) → Host G → Host G → Type 0
 DoesAround r view act old new = (env : Env) → IsEnv env old.ledger → (rest : World) (trace : List Access)
     → (let out = act env (world_around rest old trace) in Says any r view out (world_around (resting rest out) new))
@@ -61,10 +61,9 @@ RunsIn r view act old new = (env : Env) → IsEnv env old.ledger → (rest : Wor
 
 -- ---- the state
 
--- the storage has the settings of the ledger, and the running frame is in order
+-- the ledger's state and the running frame are in order
 pub record MayRun {G : Type 0} (h : Host G) : Type 0 where
   pub ledger : IsReady h.ledger
-  pub lives : h.ledger.storage.lives ≡ h.ledger.header.now.settings
 
 -- What a call leaves: writes and events were only added, and the running frame is as before.
 pub record Stays {G : Type 0} (old new : Host G) : Type 0 where

@@ -3,7 +3,7 @@
 ghost use Rattle.std.specs.Prelude.{◌≡◌, ℕ, List, [], ◌∷◌, length, IfOk};
 ghost use Rattle.value_types.specs.Views.{datum, datums};
 ghost use Rattle.host_spec.specs.Hosted.{IsHosted};
-ghost use Rattle.host_frame.specs.Made.{AreMade};
+ghost use Rattle.host_frame.specs.Made.{AreMade, IsMemory};
 ghost use Rattle.host_spec.specs.Indices.{arguments_of};
 ghost use Rattle.budget_meter.specs.Meter.{Meter};
 ghost use Rattle.wasm_spec.specs.Runs.{Run};
@@ -84,7 +84,9 @@ fn call_target<G: Ground>(
     requires ready { MayRun host.old }
     requires held { IsHeld found.copy.storage }
     requires args { AreMade (datums call.args.items) }
-    ensures does { (path : List ℕ) → DoesAround result datum (λ env. enters_at (framed env (host_of env (opener_of env room))) (call_of call.entry) path (target found)) host.old host.new }
+    ensures does { (path : List ℕ) → DoesAround result datum
+        (λ env. enters_at (framed env (host_of env (opener_of env room))) (call_of call.entry) path
+        (target found)) host.old host.new }
     ensures hosted { IfOk result (λ value. IsHosted (datum value)) }
     ensures stays { Stays host.old host.new }
 {
@@ -110,8 +112,10 @@ fn enter<G: Ground>(
     requires ready { MayRun host.old }
     requires frame { IsNewFrame frame }
     requires args { AreMade (datums args.items) }
-    ensures does { (path : List ℕ) → DoesAround result datum (λ env. with_start (start_of «module».now function.now (length (datums args.items)))
-        (λ index store. framed env (host_of env (opener_of env room)) (entered frame function.now (datums args.items) path «module».now index store))) host.old host.new }
+    ensures does { (path : List ℕ) → DoesAround result datum
+        (λ env. with_start (start_of «module».now function.now (length (datums args.items)))
+        (λ index store. framed env (host_of env (opener_of env room))
+        (entered frame function.now (datums args.items) path «module».now index store))) host.old host.new }
     ensures hosted { IfOk result (λ value. IsHosted (datum value)) }
     ensures stays { Stays host.old host.new }
 {
@@ -136,8 +140,10 @@ fn open<G: Ground>(
     requires frame { IsNewFrame frame }
     requires args { AreMade (datums args.items) }
     requires starts { (index : ℕ) × (store : Store) × IsFresh instance «module».now index (length (datums args.items)) store }
-    ensures does { (function path : List ℕ) (index : ℕ) (store : Store) → IsFresh instance.entry «module».now index (length (datums args.items)) store
-        → DoesAround result datum (λ env. framed env (host_of env (opener_of env room)) (entered frame function (datums args.items) path «module».now index store)) host.old host.new }
+    ensures does { (function path : List ℕ) (index : ℕ) (store : Store)
+        → IsFresh instance.entry «module».now index (length (datums args.items)) store
+        → DoesAround result datum (λ env. framed env (host_of env (opener_of env room))
+        (entered frame function (datums args.items) path «module».now index store)) host.old host.new }
     ensures hosted { IfOk result (λ value. IsHosted (datum value)) }
     ensures stays { Stays host.old host.new }
 {
@@ -168,7 +174,8 @@ fn inside<G: Ground>(
     requires args { AreMade (datums args.items) }
     requires starts { (index : ℕ) × (store : Store) × IsFresh instance «module».now index (length (datums args.items)) store }
     ensures does { (e : Entered) → e.module_ ≡ «module».now → e.args ≡ datums args.items → Starts instance.entry e
-        → DoesFrom (copied first.now) result datum (λ env. after (started (host_of env (opener_of env room) «module».now) e) (finished env)) host.old host.new }
+        → DoesFrom (copied first.now) result datum
+        (λ env. after (started (host_of env (opener_of env room) «module».now) e) (finished env)) host.old host.new }
     ensures hosted { IfOk result (λ value. IsHosted (datum value)) }
     ensures stays { StaysIn host.old host.new }
 {
@@ -197,7 +204,8 @@ fn run<G: Ground>(
     requires phase { instance.phase ≡ CallPhase.Ready }
     requires source { instance.source ≡ «module».now }
     ensures does { (go : Meter → Run) → Does instance.entry go
-        → RunsIn result (λ word. word) (λ env. with_world (λ w. w.meter) (λ meter. runs (host_of env (opener_of env room) «module».now) (go meter))) host.old host.new }
+        → RunsIn result (λ word. word) (λ env. with_world (λ w. w.meter)
+        (λ meter. runs (host_of env (opener_of env room) «module».now) (go meter))) host.old host.new }
     ensures stays { StaysIn host.old host.new }
 {
     let mut instance = instance;
@@ -230,7 +238,9 @@ fn answer<G: Ground>(
 ) -> Result<u64, HostErr>
     requires ready { MayRun host.old }
     requires arity { length words.now ≡ length (arguments_of «import») }
-    ensures does { DoesOver memory.old memory.new result (λ word. word) (λ env. host_function env (opener_of env room) «import» words.now) host.old host.new }
+    requires memory { IsMemory memory.old }
+    ensures does { DoesOver memory.old memory.new result (λ word. word)
+        (λ env. host_function env (opener_of env room) «import» words.now) host.old host.new }
     ensures size { length memory.new ≡ length memory.old }
     ensures stays { StaysIn host.old host.new }
 {
@@ -273,7 +283,9 @@ fn answer<G: Ground>(
 fn call_row<G: Ground>(host: &mut Host<'_, G>, room: u32, words: &[u64]) -> Result<Answer, HostErr>
     requires ready { MayRun host.old }
     requires arity { length words.now ≡ 3 }
-    ensures does { DoesIn result answer_of (λ env. answered (kinds.Address ∷ kinds.Symbol ∷ kinds.Vec ∷ []) (call_in env (opener_of env room)) words.now) host.old host.new }
+    ensures does { DoesIn result answer_of
+        (λ env. answered (kinds.Address ∷ kinds.Symbol ∷ kinds.Vec ∷ [])
+        (call_in env (opener_of env room)) words.now) host.old host.new }
     ensures made { IsMadeIfOk result }
     ensures stays { StaysIn host.old host.new }
 {
@@ -306,7 +318,9 @@ fn call_row<G: Ground>(host: &mut Host<'_, G>, room: u32, words: &[u64]) -> Resu
 fn try_row<G: Ground>(host: &mut Host<'_, G>, room: u32, words: &[u64]) -> Result<Answer, HostErr>
     requires ready { MayRun host.old }
     requires arity { length words.now ≡ 3 }
-    ensures does { DoesIn result answer_of (λ env. answered (kinds.Address ∷ kinds.Symbol ∷ kinds.Vec ∷ []) (try_in env (opener_of env room)) words.now) host.old host.new }
+    ensures does { DoesIn result answer_of
+        (λ env. answered (kinds.Address ∷ kinds.Symbol ∷ kinds.Vec ∷ [])
+        (try_in env (opener_of env room)) words.now) host.old host.new }
     ensures made { IsMadeIfOk result }
     ensures stays { StaysIn host.old host.new }
 {
@@ -345,7 +359,9 @@ fn create_row<G: Ground>(
 ) -> Result<Answer, HostErr>
     requires ready { MayRun host.old }
     requires arity { length words.now ≡ 3 }
-    ensures does { DoesIn result answer_of (λ env. answered (kinds.Address ∷ kinds.Bytes ∷ kinds.Bytes ∷ []) (create_contract env (opener_of env room)) words.now) host.old host.new }
+    ensures does { DoesIn result answer_of
+        (λ env. answered (kinds.Address ∷ kinds.Bytes ∷ kinds.Bytes ∷ [])
+        (create_contract env (opener_of env room)) words.now) host.old host.new }
     ensures made { IsMadeIfOk result }
     ensures stays { StaysIn host.old host.new }
 {
@@ -364,7 +380,9 @@ fn construct_row<G: Ground>(
 ) -> Result<Answer, HostErr>
     requires ready { MayRun host.old }
     requires arity { length words.now ≡ 4 }
-    ensures does { DoesIn result answer_of (λ env. answered (kinds.Address ∷ kinds.Bytes ∷ kinds.Bytes ∷ kinds.Vec ∷ []) (create_contract_with_constructor env (opener_of env room)) words.now) host.old host.new }
+    ensures does { DoesIn result answer_of
+        (λ env. answered (kinds.Address ∷ kinds.Bytes ∷ kinds.Bytes ∷ kinds.Vec ∷ [])
+        (create_contract_with_constructor env (opener_of env room)) words.now) host.old host.new }
     ensures made { IsMadeIfOk result }
     ensures stays { StaysIn host.old host.new }
 {
@@ -383,7 +401,8 @@ fn create_here<G: Ground>(
 ) -> Result<Answer, HostErr>
     requires ready { MayRun host.old }
     requires args { AreArgsHosted contract.args }
-    ensures does { DoesIn result answer_of (λ env. creates_here env (opener_of env room) (creation_of contract)) host.old host.new }
+    ensures does { DoesIn result answer_of
+        (λ env. creates_here env (opener_of env room) (creation_of contract)) host.old host.new }
     ensures made { IsMadeIfOk result }
     ensures stays { StaysIn host.old host.new }
 {
@@ -402,7 +421,8 @@ pub(crate) fn create<G: Ground>(
 ) -> Result<Hash, HostErr>
     requires ready { MayRun host.old }
     requires args { AreArgsHosted contract.args }
-    ensures does { DoesAround result (λ id. id) (λ env. creates env (opener_of env room) (option_map address_of creator) (creation_of contract)) host.old host.new }
+    ensures does { DoesAround result (λ id. id)
+        (λ env. creates env (opener_of env room) (option_map address_of creator) (creation_of contract)) host.old host.new }
     ensures stays { Stays host.old host.new }
 {
     match made(host, creator, &contract) {
@@ -423,7 +443,9 @@ fn construct<G: Ground>(
 ) -> Result<Hash, HostErr>
     requires ready { MayRun host.old }
     requires args { AreArgsHosted contract.args }
-    ensures does { (path : List ℕ) → DoesAround result (λ id. id) (λ env. constructing (opener_of env room) (option_map address_of creator) id (creation_of contract) path «module».now) host.old host.new }
+    ensures does { (path : List ℕ) → DoesAround result (λ id. id)
+        (λ env. constructing (opener_of env room) (option_map address_of creator) id
+        (creation_of contract) path «module».now) host.old host.new }
     ensures stays { Stays host.old host.new }
 {
     let alloc = host.allocator();

@@ -5,7 +5,7 @@ ghost use Rattle.std.specs.Option.{option_map, unwrap_or};
 ghost use Rattle.value_types.specs.Datum.{address as address_datum};
 ghost use Rattle.value_types.specs.Views.{datum, datums};
 ghost use Rattle.value_types.specs.declared.address.ScAddress.TheVariants as addresses;
-ghost use Rattle.wasm_spec.specs.Instances.{function_exported, function_named};
+ghost use Rattle.wasm_spec.specs.Instances.{function_named};
 ghost use Rattle.host_spec.specs.Answers.{value};
 ghost use Rattle.host_spec.specs.Hosted.{IsHosted, AreHosted};
 ghost use Rattle.host_frame.specs.Answered.{answer_of};
@@ -30,14 +30,13 @@ use call_parts::{demand, find_code, load_module, make_instance, new_id, paid_mod
 use contract_storage::Storage;
 use entry_lookup::Ground;
 use host_frame::Answer;
-use host_ledger::HostLedger;
+use host_ledger::{HostLedger, made_seq};
 use host_spec::HostErr;
 use ledger_types::{Header, Settings};
 use module_loader::LinkedModule;
 use std::alloc::Global;
 use value_types::{Hash, ScAddress, ScVal};
-use wasm_check::same_name;
-use wasm_spec::{Export, ExportKind};
+use wasm_run::function_named;
 
 /// A contract that was made, with the module of its code.
 #[derive(Drop)]
@@ -62,7 +61,8 @@ fn authorised_id(
     contract: &NewContract,
 ) -> Result<Hash, HostErr>
     ensures does { (env : Env) → env.header ≡ header.now → (path : List ℕ)
-        → Charges result (λ id. id) (demanding env (option_map address_of creator) (creation_of contract.now) path) budget.old budget.new }
+        → Charges result (λ id. id) (demanding env (option_map address_of creator)
+        (creation_of contract.now) path) budget.old budget.new }
     ensures id { IfOk result (λ id. id ≡ new_id_of header.now (creation_of contract.now)) }
 {
     match new_id(
@@ -114,7 +114,8 @@ fn instantiate<G: Ground>(
     requires number { storage.old.n ≡ n }
     requires settings { storage.old.lives ≡ settings.now }
     requires bounds { HasBounds n settings.now }
-    ensures does { Steps result (λ m. m) (λ env. instantiating env id hash (length, «module»)) storage.old storage.new budget.old budget.new }
+    ensures does { Steps result (λ m. m)
+        (λ env. instantiating env id hash (length, «module»)) storage.old storage.new budget.old budget.new }
     ensures later { IsLater storage.old storage.new }
 {
     match make_instance(storage, budget, n, settings, id, hash) {
@@ -147,14 +148,6 @@ fn build<G: Ground>(
     }
 }
 
-/// The number of the ledger that is made.
-fn made_seq(header: &Header) -> u32
-    requires { HasBounds (next_seq header.now) header.now.settings }
-    ensures { result ≡ next_seq header.now }
-{
-    header.seq + 1
-}
-
 /// Makes a contract over the ledger's entries: its id, the authorisation of its deployer, its code, its instance.
 fn create_over<G: Ground>(
     alloc: Global,
@@ -167,8 +160,10 @@ fn create_over<G: Ground>(
     requires bounds { HasBounds (next_seq header.now) header.now.settings }
     requires number { storage.old.n ≡ next_seq header.now }
     requires lives { storage.old.lives ≡ header.now.settings }
-    ensures does { (path : List ℕ) (env : Env) → env.header ≡ header.now → Serves env storage.old → (w : World) → w.entries ≡ storage.old.map → w.meter ≡ budget.old
-        → Says any result (λ m. m.module) (making env (option_map address_of creator) (creation_of contract.now) path w) (λ trace. record w { entries = storage.new.map; trace = trace; meter = budget.new }) }
+    ensures does { (path : List ℕ) (env : Env) → env.header ≡ header.now → Serves env storage.old → (w : World)
+        → w.entries ≡ storage.old.map → w.meter ≡ budget.old
+        → Says any result (λ m. m.module) (making env (option_map address_of creator) (creation_of contract.now) path w)
+        (λ trace. record w { entries = storage.new.map; trace = trace; meter = budget.new }) }
     ensures id { IfOk result (λ m. m.id ≡ new_id_of header.now (creation_of contract.now)) }
     ensures later { IsLater storage.old storage.new }
 {
@@ -199,9 +194,10 @@ fn create_in<G: Ground>(
     contract: &NewContract,
 ) -> Result<Created, HostErr>
     requires ready { IsReady ledger.old }
-    requires lives { ledger.old.storage.lives ≡ ledger.old.header.now.settings }
-    ensures does { (path : List ℕ) (env : Env) → IsEnv env ledger.old → (w : World) → w.entries ≡ ledger.old.storage.map → w.meter ≡ ledger.old.budget
-        → Says any result (λ m. m.module) (making env (option_map address_of creator) (creation_of contract.now) path w) (λ trace. record w { entries = ledger.new.storage.map; trace = trace; meter = ledger.new.budget }) }
+    ensures does { (path : List ℕ) (env : Env) → IsEnv env ledger.old → (w : World) → w.entries ≡ ledger.old.storage.map
+        → w.meter ≡ ledger.old.budget
+        → Says any result (λ m. m.module) (making env (option_map address_of creator) (creation_of contract.now) path w)
+        (λ trace. record w { entries = ledger.new.storage.map; trace = trace; meter = ledger.new.budget }) }
     ensures id { IfOk result (λ m. m.id ≡ new_id_of ledger.old.header.now (creation_of contract.now)) }
     ensures later { IsLater ledger.old.storage ledger.new.storage }
     ensures kept { ledger.new ≡ record ledger.old { storage = ledger.new.storage; budget = ledger.new.budget } }
@@ -223,7 +219,8 @@ pub(crate) fn made<G: Ground>(
     contract: &NewContract,
 ) -> Result<Created, HostErr>
     requires ready { MayRun host.old }
-    ensures does { (path : List ℕ) → DoesAround result (λ m. m.module) (λ env. making env (option_map address_of creator) (creation_of contract.now) path) host.old host.new }
+    ensures does { (path : List ℕ) → DoesAround result (λ m. m.module)
+        (λ env. making env (option_map address_of creator) (creation_of contract.now) path) host.old host.new }
     ensures id { IfOk result (λ m. m.id ≡ new_id_of host.old.ledger.header.now (creation_of contract.now)) }
     ensures stays { Stays host.old host.new }
 {
@@ -242,35 +239,11 @@ pub(crate) fn given_args(alloc: Global, args: Option<Vec<ScVal>>) -> Vec<ScVal>
     }
 }
 
-/// Whether an export names a function.
-fn is_function(export: &Export) -> bool
-    ensures { result ≡ is_some (function_exported export.now.kind export.now.index) }
-{
-    match export.kind {
-        ExportKind::Function => true,
-        ExportKind::Table => false,
-        ExportKind::Memory => false,
-        ExportKind::Global => false,
-    }
-}
-
-/// Whether a function is exported under the name.
-fn has_function(name: &[u8], exports: &[Export]) -> bool
-    ensures { result ≡ is_some (function_named name.now exports.now) }
-{
-    for export in exports {
-        if same_name(export.name.as_slice(), name) {
-            return is_function(export);
-        }
-    }
-    false
-}
-
 /// Whether a module has a constructor.
 pub(crate) fn has_constructor(module: &LinkedModule) -> bool
     ensures { result ≡ is_some (function_named CONSTRUCTOR «module».now.exports) }
 {
-    has_function(b"__constructor", module.valid().module().exports.as_slice())
+    function_named(b"__constructor", module.valid().module().exports.as_slice()).is_some()
 }
 
 /// The id of a contract without a constructor, if there are no arguments.

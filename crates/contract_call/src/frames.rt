@@ -58,7 +58,8 @@ fn write_if_changed<G: Ground>(
     requires number { storage.old.n ≡ n }
     ensures does { (env : Env) → Serves env storage.old → (w : World) → w.entries ≡ storage.old.map → w.meter ≡ budget.old
         → w.frame.contract ≡ contract → w.frame.first ≡ copied first.now → w.frame.copy ≡ copied copy.now
-        → Says any result (λ u. u) (writes_instance env w) (λ trace. record w { entries = storage.new.map; trace = trace; meter = budget.new }) }
+        → Says any result (λ u. u) (writes_instance env w)
+        (λ trace. record w { entries = storage.new.map; trace = trace; meter = budget.new }) }
     ensures later { IsLater storage.old storage.new }
 {
     if is_same(first, copy) {
@@ -81,8 +82,10 @@ pub(crate) fn finish<G: Ground>(
     requires number { storage.old.n ≡ n }
     requires indices { AreIndices objects.now frame.now.shown }
     ensures does { (env : Env) → Serves env storage.old → (w : World) → w.entries ≡ storage.old.map → w.meter ≡ budget.old
-        → w.frame.shown ≡ shown_of objects.now frame.now.shown → w.frame.contract ≡ frame.now.contract → w.frame.first ≡ copied first.now → w.frame.copy ≡ copied frame.now.copy
-        → Says any result datum (finished env word w) (λ trace. record w { entries = storage.new.map; trace = trace; meter = budget.new }) }
+        → w.frame.shown ≡ shown_of objects.now frame.now.shown → w.frame.contract ≡ frame.now.contract
+        → w.frame.first ≡ copied first.now → w.frame.copy ≡ copied frame.now.copy
+        → Says any result datum (finished env word w)
+        (λ trace. record w { entries = storage.new.map; trace = trace; meter = budget.new }) }
     ensures hosted { IfOk result (λ value. IsHosted (datum value)) }
     ensures later { IsLater storage.old storage.new }
 {

@@ -16,7 +16,8 @@ use object_store::{Objects, Shown};
 use std::alloc::Global;
 use value_types::Hash;
 
-/// The state of one transaction's run: what the functions over the ledger work on, and the contracts with an open frame.
+/// The state of one transaction's run: what the functions over the ledger work on, and the contracts with an open frame. It serves
+/// one `invoke`, `upload` or `create`.
 #[derive(Drop)]
 pub struct Host<'a, G: Ground> {
     pub ledger: HostLedger<'a, G>,

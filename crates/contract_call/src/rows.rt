@@ -36,23 +36,12 @@ use contract_storage::Storage;
 use entry_lookup::Ground;
 use host_frame::{Answer, Values, enter, give};
 use host_interface::HostImport;
-use host_ledger::HostLedger;
+use host_ledger::{HostLedger, made_seq};
 use host_spec::HostErr;
 use host_values::call_function;
 use ledger_types::Header;
 use std::alloc::Global;
 use value_types::{Hash, ScAddress};
-
-/// Whether the memory has at most 64 pages, as each linear memory has.
-fn hold_memory(memory: &[u8]) -> Result<(), HostErr>
-    ensures ok { IfOk result (λ _. IsMemory memory.now) }
-    ensures memory { IfErr result (λ e. e ≡ ends.NoMemory) }
-{
-    if memory.len() > 4_194_304 {
-        return Err(HostErr::NoMemory);
-    }
-    Ok(())
-}
 
 /// Calls a function over values, over the ledger's state.
 fn value_in<G: Ground>(
@@ -65,7 +54,8 @@ fn value_in<G: Ground>(
     requires indices { AreIndices ledger.old.objects ledger.old.frame.shown }
     requires memory { IsMemory memory.old }
     ensures does { (env : Env) (opener : Opener) (rest : World) (trace : List Access) → rest.frame.memory ≡ memory.old
-        → Says any result (λ word. word) (host_function env opener «import» words.now (world_at rest ledger.old trace)) (world_at (with_memory memory.new rest) ledger.new) }
+        → Says any result (λ word. word) (host_function env opener «import» words.now (world_at rest ledger.old trace))
+        (world_at (with_memory memory.new rest) ledger.new) }
     ensures indices { AreIndices ledger.new.objects ledger.new.frame.shown }
     ensures kept { ledger.new ≡ record ledger.old { objects = ledger.new.objects; budget = ledger.new.budget; frame = record ledger.old.frame { shown = ledger.new.frame.shown } } }
 {
@@ -92,13 +82,12 @@ pub(crate) fn value_answer<G: Ground>(
     requires ready { MayRun host.old }
     requires over_values { is_some (value_rule «import») ≡ true }
     requires arity { length words.now ≡ length (arguments_of «import») }
-    ensures does { (opener : Opener) → DoesOver memory.old memory.new result (λ word. word) (λ env. host_function env opener «import» words.now) host.old host.new }
+    requires memory { IsMemory memory.old }
+    ensures does { (opener : Opener) → DoesOver memory.old memory.new result (λ word. word)
+        (λ env. host_function env opener «import» words.now) host.old host.new }
     ensures stays { StaysIn host.old host.new }
 {
-    match hold_memory(memory) {
-        Err(error) => Err(error),
-        Ok(()) => value_in(&mut host.ledger, import, words, memory),
-    }
+    value_in(&mut host.ledger, import, words, memory)
 }
 
 /// Calls a function over the ledger and the running frame.
@@ -110,7 +99,8 @@ pub(crate) fn ledger_answer<G: Ground>(
     requires ready { MayRun host.old }
     requires over_ledger { is_over_ledger «import» ≡ true }
     requires arity { length words.now ≡ length (arguments_of «import») }
-    ensures does { (opener : Opener) → DoesIn result (λ word. word) (λ env. host_function env opener «import» words.now) host.old host.new }
+    ensures does { (opener : Opener) → DoesIn result (λ word. word)
+        (λ env. host_function env opener «import» words.now) host.old host.new }
     ensures stays { StaysIn host.old host.new }
 {
     host_ledger::call_function(&mut host.ledger, import, words)
@@ -120,7 +110,9 @@ pub(crate) fn ledger_answer<G: Ground>(
 fn show<G: Ground>(ledger: &mut HostLedger<'_, G>, answer: Answer) -> Result<u64, HostErr>
     requires made { IsAnswerMade (answer_of answer) }
     requires indices { AreIndices ledger.old.objects ledger.old.frame.shown }
-    ensures does { (rest : World) (trace : List Access) → Says any result (λ word. word) (lift (given (answer_of answer)) (world_at rest ledger.old trace)) (world_at rest ledger.new) }
+    ensures does { (rest : World) (trace : List Access)
+        → Says any result (λ word. word) (lift (given (answer_of answer)) (world_at rest ledger.old trace))
+        (world_at rest ledger.new) }
     ensures indices { AreIndices ledger.new.objects ledger.new.frame.shown }
     ensures kept { ledger.new ≡ record ledger.old { objects = ledger.new.objects; budget = ledger.new.budget; frame = record ledger.old.frame { shown = ledger.new.frame.shown } } }
 {
@@ -140,21 +132,15 @@ pub(crate) fn shown<G: Ground>(
 ) -> Result<u64, HostErr>
     requires ready { MayRun host.old }
     requires made { IsMadeIfOk made }
-    ensures does { (start : Host G) (act : Env → Act AnswerData) → StaysIn start host.old → DoesIn made answer_of act start host.old → DoesIn result (λ word. word) (λ env. after (act env) (λ answer. lift (given answer))) start host.new }
+    ensures does { (start : Host G) (act : Env → Act AnswerData) → StaysIn start host.old
+        → DoesIn made answer_of act start host.old
+        → DoesIn result (λ word. word) (λ env. after (act env) (λ answer. lift (given answer))) start host.new }
     ensures stays { StaysIn host.old host.new }
 {
     match made {
         Err(error) => Err(error),
         Ok(answer) => show(&mut host.ledger, answer),
     }
-}
-
-/// The number of the ledger that is made.
-fn made_seq(header: &Header) -> u32
-    requires { HasBounds (next_seq header.now) header.now.settings }
-    ensures { result ≡ next_seq header.now }
-{
-    header.seq + 1
 }
 
 /// A hash as an answer. Its only error is memory.
@@ -179,7 +165,8 @@ fn uploaded<G: Ground>(
 ) -> Result<Answer, HostErr>
     requires few { length code.now < 2 ^ 32 }
     requires number { storage.old.n ≡ n }
-    ensures does { Steps result answer_of (λ env. returning (uploads env code.now) (λ hash. bytes hash.0)) storage.old storage.new budget.old budget.new }
+    ensures does { Steps result answer_of
+        (λ env. returning (uploads env code.now) (λ hash. bytes hash.0)) storage.old storage.new budget.old budget.new }
     ensures made { IsMadeIfOk result }
     ensures later { IsLater storage.old storage.new }
 {
@@ -199,7 +186,9 @@ fn upload_body<G: Ground>(
     a: u64,
 ) -> Result<Answer, HostErr>
     requires { storage.old.n ≡ n }
-    ensures does { (contract : Hash) (copy : Copied) → Runs result (kinds.Bytes ∷ []) upload_wasm (a ∷ []) values.now contract storage.old storage.new budget.old budget.new copy copy }
+    ensures does { (contract : Hash) (copy : Copied)
+        → Runs result (kinds.Bytes ∷ []) upload_wasm
+        (a ∷ []) values.now contract storage.old storage.new budget.old budget.new copy copy }
     ensures made { IsMadeIfOk result }
     ensures later { IsLater storage.old storage.new }
 {
@@ -231,13 +220,14 @@ pub(crate) fn upload_row<G: Ground>(
 {
     match words {
         [a] => upload_in(&mut host.ledger, *a),
-        _ => Err(HostErr::NoMemory),
+        _ => unreachable!(),
     }
 }
 
 /// Void, if the caller authorises a call: it has to be the contract with this address.
 fn authorised(caller: Option<Hash>, address: ScAddress) -> Result<Answer, HostErr>
-    ensures does { (args : List Datum) (w : World) → w.frame.caller ≡ option_map address_of caller → Says any result answer_of (demands address args w.frame w) (λ trace. w) }
+    ensures does { (args : List Datum) (w : World) → w.frame.caller ≡ option_map address_of caller
+        → Says any result answer_of (demands address args w.frame w) (λ trace. w) }
     ensures made { IsMadeIfOk result }
 {
     match demand(caller, address) {
@@ -254,7 +244,8 @@ fn auth_body(
     a: u64,
 ) -> Result<Answer, HostErr>
     ensures does { (w : World) → w.meter ≡ budget.old → w.frame.shown ≡ values.now → w.frame.caller ≡ option_map address_of caller
-        → Says any result answer_of (answered (kinds.Address ∷ []) require_auth (a ∷ []) w) (λ trace. record w { meter = budget.new }) }
+        → Says any result answer_of (answered (kinds.Address ∷ []) require_auth (a ∷ []) w)
+        (λ trace. record w { meter = budget.new }) }
     ensures made { IsMadeIfOk result }
 {
     let address = values.address(a)?;
@@ -281,7 +272,7 @@ pub(crate) fn auth_row<G: Ground>(host: &mut Host<'_, G>, words: &[u64]) -> Resu
 {
     match words {
         [a] => auth_in(&mut host.ledger, *a),
-        _ => Err(HostErr::NoMemory),
+        _ => unreachable!(),
     }
 }
 
@@ -294,7 +285,8 @@ fn auth_for_args_body(
     b: u64,
 ) -> Result<Answer, HostErr>
     ensures does { (w : World) → w.meter ≡ budget.old → w.frame.shown ≡ values.now → w.frame.caller ≡ option_map address_of caller
-        → Says any result answer_of (answered (kinds.Address ∷ kinds.Vec ∷ []) require_auth_for_args (a ∷ b ∷ []) w) (λ trace. record w { meter = budget.new }) }
+        → Says any result answer_of (answered (kinds.Address ∷ kinds.Vec ∷ []) require_auth_for_args (a ∷ b ∷ []) w)
+        (λ trace. record w { meter = budget.new }) }
     ensures made { IsMadeIfOk result }
 {
     let address = values.address(a)?;
@@ -323,12 +315,13 @@ pub(crate) fn auth_for_args_row<G: Ground>(
 ) -> Result<Answer, HostErr>
     requires ready { MayRun host.old }
     requires arity { length words.now ≡ 2 }
-    ensures does { DoesIn result answer_of (λ env. answered (kinds.Address ∷ kinds.Vec ∷ []) require_auth_for_args words.now) host.old host.new }
+    ensures does { DoesIn result answer_of
+        (λ env. answered (kinds.Address ∷ kinds.Vec ∷ []) require_auth_for_args words.now) host.old host.new }
     ensures made { IsMadeIfOk result }
     ensures stays { StaysIn host.old host.new }
 {
     match words {
         [a, b] => auth_for_args_in(&mut host.ledger, *a, *b),
-        _ => Err(HostErr::NoMemory),
+        _ => unreachable!(),
     }
 }

@@ -18,7 +18,7 @@ ghost use Rattle.contract_call.specs.Running.{IsNewFrame, StaysIn, DoesFrom};
 use crate::frames::{argument_words, finish};
 use crate::host::Host;
 use entry_lookup::Ground;
-use host_ledger::{HostLedger, InstanceCopy, Running};
+use host_ledger::{HostLedger, InstanceCopy, Running, made_seq};
 use host_spec::HostErr;
 use module_loader::LinkedModule;
 use object_store::Shown;
@@ -79,7 +79,8 @@ pub(crate) fn begin<G: Ground>(
 ) -> Result<Vec<u64>, HostErr>
     requires ready { MayRun host.old }
     requires made { AreMade (datums args.items) }
-    ensures does { DoesIn result (λ words. words.items) (λ env. argument_words_in «module».now.memories (datums args.items)) host.old host.new }
+    ensures does { DoesIn result (λ words. words.items)
+        (λ env. argument_words_in «module».now.memories (datums args.items)) host.old host.new }
     ensures count { IfOk result (λ words. length words.items ≡ length (datums args.items)) }
     ensures stays { StaysIn host.old host.new }
 {
@@ -87,11 +88,11 @@ pub(crate) fn begin<G: Ground>(
 }
 
 /// The number of the ledger that is made.
-fn made_seq<G: Ground>(ledger: &HostLedger<'_, G>) -> u32
+fn made_in<G: Ground>(ledger: &HostLedger<'_, G>) -> u32
     requires { IsReady ledger.now }
     ensures { result ≡ ledger.now.storage.n }
 {
-    ledger.header.seq + 1
+    made_seq(ledger.header)
 }
 
 /// Ends the ledger's running frame, whose code returned a word.
@@ -101,14 +102,17 @@ fn end_in<G: Ground>(
     word: u64,
 ) -> Result<ScVal, HostErr>
     requires ready { IsReady ledger.old }
-    ensures does { (env : Env) → Serves env ledger.old.storage → (w : World) → w.entries ≡ ledger.old.storage.map → w.meter ≡ ledger.old.budget
-        → w.frame.shown ≡ shown_of ledger.old.objects ledger.old.frame.shown → w.frame.contract ≡ ledger.old.frame.contract → w.frame.first ≡ copied first.now → w.frame.copy ≡ copied ledger.old.frame.copy
-        → Says any result datum (finished env word w) (λ trace. record w { entries = ledger.new.storage.map; trace = trace; meter = ledger.new.budget }) }
+    ensures does { (env : Env) → Serves env ledger.old.storage → (w : World) → w.entries ≡ ledger.old.storage.map
+        → w.meter ≡ ledger.old.budget
+        → w.frame.shown ≡ shown_of ledger.old.objects ledger.old.frame.shown → w.frame.contract ≡ ledger.old.frame.contract
+        → w.frame.first ≡ copied first.now → w.frame.copy ≡ copied ledger.old.frame.copy
+        → Says any result datum (finished env word w)
+        (λ trace. record w { entries = ledger.new.storage.map; trace = trace; meter = ledger.new.budget }) }
     ensures hosted { IfOk result (λ value. IsHosted (datum value)) }
     ensures later { IsLater ledger.old.storage ledger.new.storage }
     ensures stays { ledger.new ≡ record ledger.old { storage = ledger.new.storage; budget = ledger.new.budget } }
 {
-    let n = made_seq(ledger);
+    let n = made_in(ledger);
     finish(
         &mut ledger.storage,
         &mut ledger.budget,

@@ -60,7 +60,8 @@ fn is_running(open: &[Hash], contract: Hash) -> bool
 
 /// The contract at the address, if its function may be called now.
 fn admitted(open: &[Hash], address: ScAddress, function: &[u8]) -> Result<Hash, HostErr>
-    ensures { (w : World) → w.contracts ≡ reverse open.now → Says any result (λ c. c) (tests function.now address (λ c. gives c) w) (λ trace. w) }
+    ensures { (w : World) → w.contracts ≡ reverse open.now
+        → Says any result (λ c. c) (tests function.now address (λ c. gives c) w) (λ trace. w) }
 {
     let ScAddress::Contract(contract) = address else {
         return Err(OTHER_TYPE);
@@ -83,7 +84,8 @@ fn with_module<G: Ground>(
     copy: InstanceCopy,
 ) -> Result<Target, HostErr>
     requires { IsHeld copy.storage }
-    ensures does { Steps result target (λ env. after (module_at env copy.code) (λ m. gives (record { contract = contract; instance = copied copy; module_ = m }))) storage.now storage.now budget.old budget.new }
+    ensures does { Steps result target (λ env. after (module_at env copy.code)
+        (λ m. gives (record { contract = contract; instance = copied copy; module_ = m }))) storage.now storage.now budget.old budget.new }
     ensures held { IfOk result (λ t. IsHeld t.copy.storage) }
 {
     match call_module(alloc, storage, budget, copy.code) {
@@ -121,8 +123,10 @@ pub(crate) fn target_of<G: Ground>(
     address: ScAddress,
     function: &[u8],
 ) -> Result<Target, HostErr>
-    ensures does { (env : Env) → Serves env storage.now → (w : World) → w.entries ≡ storage.now.map → w.meter ≡ budget.old → w.contracts ≡ reverse open.now
-        → Says any result target (target_of_in function.now address env w) (λ trace. record w { trace = trace; meter = budget.new }) }
+    ensures does { (env : Env) → Serves env storage.now → (w : World) → w.entries ≡ storage.now.map → w.meter ≡ budget.old
+        → w.contracts ≡ reverse open.now
+        → Says any result target (target_of_in function.now address env w)
+        (λ trace. record w { trace = trace; meter = budget.new }) }
     ensures held { IfOk result (λ t. IsHeld t.copy.storage) }
 {
     match admitted(open, address, function) {
@@ -138,8 +142,10 @@ fn target_in<G: Ground>(
     contract: ScAddress,
     function: &[u8],
 ) -> Result<Target, HostErr>
-    ensures does { (env : Env) → Serves env ledger.old.storage → (w : World) → w.entries ≡ ledger.old.storage.map → w.meter ≡ ledger.old.budget → w.contracts ≡ reverse open.now
-        → Says any result target (target_of_in function.now contract env w) (λ trace. record w { trace = trace; meter = ledger.new.budget }) }
+    ensures does { (env : Env) → Serves env ledger.old.storage → (w : World) → w.entries ≡ ledger.old.storage.map
+        → w.meter ≡ ledger.old.budget → w.contracts ≡ reverse open.now
+        → Says any result target (target_of_in function.now contract env w)
+        (λ trace. record w { trace = trace; meter = ledger.new.budget }) }
     ensures held { IfOk result (λ t. IsHeld t.copy.storage) }
     ensures stays { ledger.new ≡ record ledger.old { budget = ledger.new.budget } }
 {

@@ -110,7 +110,8 @@ pub(crate) fn caught<G: Ground>(
 ) -> Result<ScVal, HostErr>
     requires made { IfOk made (λ value. IsHosted (datum value)) }
     requires room { mark.storage.writes ≤ length host.old.ledger.storage.past }
-    ensures does { (start : Host' G) (act : Env → Act Datum) → Marks mark start → Stays start host.old → DoesAround made datum act start host.old
+    ensures does { (start : Host' G) (act : Env → Act Datum) → Marks mark start → Stays start host.old
+        → DoesAround made datum act start host.old
         → DoesAround result datum (λ env. catching (act env)) start host.new }
     ensures stays { (start : Host' G) → Marks mark start → Stays start host.old → Stays start host.new }
     ensures hosted { IfOk result (λ value. IsHosted (datum value)) }

@@ -27,7 +27,7 @@ use crate::works::NewContract;
 use budget_meter::Budget;
 use entry_lookup::Ground;
 use host_frame::{Values, enter};
-use host_ledger::HostLedger;
+use host_ledger::{HostLedger, clone_values};
 use host_spec::{HostErr, ValueErr};
 use std::alloc::Global;
 use value_types::{Hash, ScAddress, ScVal};
@@ -38,14 +38,6 @@ pub(crate) struct CallArgs {
     pub contract: ScAddress,
     pub function: Vec<u8>,
     pub args: Vec<ScVal>,
-}
-
-/// Clones values. Its only error is memory.
-fn clone_values(alloc: Global, values: &[ScVal]) -> Result<Vec<ScVal>, ValueErr>
-    ensures ok { IfOk result (λ v. v.items ≡ values.now) }
-    ensures memory { IfErr result (λ e. e ≡ errs.NoMemory) }
-{
-    Ok(values.to_vec(alloc)?)
 }
 
 /// Clones bytes. Its only error is memory.
@@ -66,7 +58,8 @@ pub(crate) fn call_args(
     c: u64,
 ) -> Result<CallArgs, HostErr>
     ensures takes { (rule : Rule (kinds.Address ∷ kinds.Symbol ∷ kinds.Vec ∷ []))
-        → Takes result (answered (kinds.Address ∷ kinds.Symbol ∷ kinds.Vec ∷ []) rule (a ∷ b ∷ c ∷ [])) (λ x. rule x.contract x.function.items (datums x.args.items)) values.now budget.old budget.new }
+        → Takes result (answered (kinds.Address ∷ kinds.Symbol ∷ kinds.Vec ∷ []) rule (a ∷ b ∷ c ∷ []))
+        (λ x. rule x.contract x.function.items (datums x.args.items)) values.now budget.old budget.new }
     ensures hosted { IfOk result (λ x. AreHosted (datums x.args.items)) }
 {
     let contract = values.address(a)?;
@@ -102,7 +95,8 @@ fn new_contract(
     args: Option<Vec<ScVal>>,
 ) -> Result<NewContract, HostErr>
     ensures takes { (env : Env) (opener : Opener) (shown : List Datum) (meter : Meter)
-        → Takes result (creates_by env opener deployer code.now salt.now (option_map args_of args)) (λ x. creates_here env opener (creation_of x)) shown meter meter }
+        → Takes result (creates_by env opener deployer code.now salt.now (option_map args_of args))
+        (λ x. creates_here env opener (creation_of x)) shown meter meter }
     ensures args { IfOk result (λ x. x.args ≡ args) }
 {
     match hash_of(code) {
@@ -128,7 +122,8 @@ pub(crate) fn create_args(
     c: u64,
 ) -> Result<NewContract, HostErr>
     ensures takes { (env : Env) (opener : Opener)
-        → Takes result (answered (kinds.Address ∷ kinds.Bytes ∷ kinds.Bytes ∷ []) (create_contract env opener) (a ∷ b ∷ c ∷ [])) (λ x. creates_here env opener (creation_of x)) values.now budget.old budget.new }
+        → Takes result (answered (kinds.Address ∷ kinds.Bytes ∷ kinds.Bytes ∷ []) (create_contract env opener) (a ∷ b ∷ c ∷ []))
+        (λ x. creates_here env opener (creation_of x)) values.now budget.old budget.new }
     ensures hosted { IfOk result (λ x. AreArgsHosted x.args) }
 {
     let deployer = values.address(a)?;
@@ -149,7 +144,9 @@ pub(crate) fn constructor_args(
     d: u64,
 ) -> Result<NewContract, HostErr>
     ensures takes { (env : Env) (opener : Opener)
-        → Takes result (answered (kinds.Address ∷ kinds.Bytes ∷ kinds.Bytes ∷ kinds.Vec ∷ []) (create_contract_with_constructor env opener) (a ∷ b ∷ c ∷ d ∷ [])) (λ x. creates_here env opener (creation_of x)) values.now budget.old budget.new }
+        → Takes result (answered (kinds.Address ∷ kinds.Bytes ∷ kinds.Bytes ∷ kinds.Vec ∷ [])
+        (create_contract_with_constructor env opener) (a ∷ b ∷ c ∷ d ∷ []))
+        (λ x. creates_here env opener (creation_of x)) values.now budget.old budget.new }
     ensures hosted { IfOk result (λ x. AreArgsHosted x.args) }
 {
     let deployer = values.address(a)?;
@@ -170,7 +167,9 @@ fn call_taken<G: Ground>(
 ) -> Result<CallArgs, HostErr>
     requires { AreIndices ledger.old.objects ledger.old.frame.shown }
     ensures takes { (rule : Rule (kinds.Address ∷ kinds.Symbol ∷ kinds.Vec ∷ []))
-        → Takes result (answered (kinds.Address ∷ kinds.Symbol ∷ kinds.Vec ∷ []) rule (a ∷ b ∷ c ∷ [])) (λ x. rule x.contract x.function.items (datums x.args.items)) (shown_of ledger.old.objects ledger.old.frame.shown) ledger.old.budget ledger.new.budget }
+        → Takes result (answered (kinds.Address ∷ kinds.Symbol ∷ kinds.Vec ∷ []) rule (a ∷ b ∷ c ∷ []))
+        (λ x. rule x.contract x.function.items (datums x.args.items))
+        (shown_of ledger.old.objects ledger.old.frame.shown) ledger.old.budget ledger.new.budget }
     ensures hosted { IfOk result (λ x. AreHosted (datums x.args.items)) }
     ensures paid { ledger.new ≡ record ledger.old { budget = ledger.new.budget } }
 {
@@ -186,13 +185,14 @@ pub(crate) fn call_words<G: Ground>(
     requires ready { MayRun host.old }
     requires arity { length words.now ≡ 3 }
     ensures takes { (rule : Env → Rule (kinds.Address ∷ kinds.Symbol ∷ kinds.Vec ∷ []))
-        → TakesIn result (λ env. answered (kinds.Address ∷ kinds.Symbol ∷ kinds.Vec ∷ []) (rule env) words.now) (λ env x. rule env x.contract x.function.items (datums x.args.items)) host.old host.new }
+        → TakesIn result (λ env. answered (kinds.Address ∷ kinds.Symbol ∷ kinds.Vec ∷ []) (rule env) words.now)
+        (λ env x. rule env x.contract x.function.items (datums x.args.items)) host.old host.new }
     ensures hosted { IfOk result (λ x. AreHosted (datums x.args.items)) }
     ensures stays { StaysIn host.old host.new }
 {
     match words {
         [a, b, c] => call_taken(&mut host.ledger, *a, *b, *c),
-        _ => Err(HostErr::NoMemory),
+        _ => unreachable!(),
     }
 }
 
@@ -205,7 +205,9 @@ fn create_taken<G: Ground>(
 ) -> Result<NewContract, HostErr>
     requires { AreIndices ledger.old.objects ledger.old.frame.shown }
     ensures takes { (env : Env) (opener : Opener)
-        → Takes result (answered (kinds.Address ∷ kinds.Bytes ∷ kinds.Bytes ∷ []) (create_contract env opener) (a ∷ b ∷ c ∷ [])) (λ x. creates_here env opener (creation_of x)) (shown_of ledger.old.objects ledger.old.frame.shown) ledger.old.budget ledger.new.budget }
+        → Takes result (answered (kinds.Address ∷ kinds.Bytes ∷ kinds.Bytes ∷ []) (create_contract env opener) (a ∷ b ∷ c ∷ []))
+        (λ x. creates_here env opener (creation_of x))
+        (shown_of ledger.old.objects ledger.old.frame.shown) ledger.old.budget ledger.new.budget }
     ensures hosted { IfOk result (λ x. AreArgsHosted x.args) }
     ensures paid { ledger.new ≡ record ledger.old { budget = ledger.new.budget } }
 {
@@ -221,13 +223,14 @@ pub(crate) fn create_words<G: Ground>(
     requires ready { MayRun host.old }
     requires arity { length words.now ≡ 3 }
     ensures takes { (opener : Env → Opener)
-        → TakesIn result (λ env. answered (kinds.Address ∷ kinds.Bytes ∷ kinds.Bytes ∷ []) (create_contract env (opener env)) words.now) (λ env x. creates_here env (opener env) (creation_of x)) host.old host.new }
+        → TakesIn result (λ env. answered (kinds.Address ∷ kinds.Bytes ∷ kinds.Bytes ∷ [])
+        (create_contract env (opener env)) words.now) (λ env x. creates_here env (opener env) (creation_of x)) host.old host.new }
     ensures hosted { IfOk result (λ x. AreArgsHosted x.args) }
     ensures stays { StaysIn host.old host.new }
 {
     match words {
         [a, b, c] => create_taken(&mut host.ledger, *a, *b, *c),
-        _ => Err(HostErr::NoMemory),
+        _ => unreachable!(),
     }
 }
 
@@ -241,7 +244,9 @@ fn construct_taken<G: Ground>(
 ) -> Result<NewContract, HostErr>
     requires { AreIndices ledger.old.objects ledger.old.frame.shown }
     ensures takes { (env : Env) (opener : Opener)
-        → Takes result (answered (kinds.Address ∷ kinds.Bytes ∷ kinds.Bytes ∷ kinds.Vec ∷ []) (create_contract_with_constructor env opener) (a ∷ b ∷ c ∷ d ∷ [])) (λ x. creates_here env opener (creation_of x)) (shown_of ledger.old.objects ledger.old.frame.shown) ledger.old.budget ledger.new.budget }
+        → Takes result (answered (kinds.Address ∷ kinds.Bytes ∷ kinds.Bytes ∷ kinds.Vec ∷ [])
+        (create_contract_with_constructor env opener) (a ∷ b ∷ c ∷ d ∷ [])) (λ x. creates_here env opener (creation_of x))
+        (shown_of ledger.old.objects ledger.old.frame.shown) ledger.old.budget ledger.new.budget }
     ensures hosted { IfOk result (λ x. AreArgsHosted x.args) }
     ensures paid { ledger.new ≡ record ledger.old { budget = ledger.new.budget } }
 {
@@ -257,13 +262,14 @@ pub(crate) fn construct_words<G: Ground>(
     requires ready { MayRun host.old }
     requires arity { length words.now ≡ 4 }
     ensures takes { (opener : Env → Opener)
-        → TakesIn result (λ env. answered (kinds.Address ∷ kinds.Bytes ∷ kinds.Bytes ∷ kinds.Vec ∷ []) (create_contract_with_constructor env (opener env)) words.now)
+        → TakesIn result (λ env. answered (kinds.Address ∷ kinds.Bytes ∷ kinds.Bytes ∷ kinds.Vec ∷ [])
+        (create_contract_with_constructor env (opener env)) words.now)
         (λ env x. creates_here env (opener env) (creation_of x)) host.old host.new }
     ensures hosted { IfOk result (λ x. AreArgsHosted x.args) }
     ensures stays { StaysIn host.old host.new }
 {
     match words {
         [a, b, c, d] => construct_taken(&mut host.ledger, *a, *b, *c, *d),
-        _ => Err(HostErr::NoMemory),
+        _ => unreachable!(),
     }
 }

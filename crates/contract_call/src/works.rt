@@ -41,7 +41,8 @@ pub fn invoke<G: Ground>(
 ) -> Result<ScVal, HostErr>
     requires ready { MayRun host.old }
     requires args { AreHosted (datums args.items) }
-    ensures does { DoesAround result datum (λ env. done_under env.judge env.header (calling contract function.now (datums args.items))) host.old host.new }
+    ensures does { DoesAround result datum
+        (λ env. done_under env.judge env.header (calling contract function.now (datums args.items))) host.old host.new }
     ensures ends { Ends (calling contract function.now (datums args.items)) result datum host.old host.new }
     ensures base { host.new.ledger.storage.base ≡ host.old.ledger.storage.base }
     ensures hosted { IfOk result (λ value. IsHosted (datum value)) }
@@ -63,7 +64,8 @@ pub fn invoke<G: Ground>(
 fn upload_in<G: Ground>(ledger: &mut HostLedger<'_, G>, code: &[u8]) -> Result<Hash, HostErr>
     requires ready { IsReady ledger.old }
     requires size { length code.now < 2 ^ 32 }
-    ensures does { Steps result (λ hash. hash) (λ env. uploads env code.now) ledger.old.storage ledger.new.storage ledger.old.budget ledger.new.budget }
+    ensures does { Steps result (λ hash. hash)
+        (λ env. uploads env code.now) ledger.old.storage ledger.new.storage ledger.old.budget ledger.new.budget }
     ensures later { IsLater ledger.old.storage ledger.new.storage }
     ensures stays { ledger.new ≡ record ledger.old { storage = ledger.new.storage; budget = ledger.new.budget } }
 {
@@ -81,7 +83,8 @@ fn upload_in<G: Ground>(ledger: &mut HostLedger<'_, G>, code: &[u8]) -> Result<H
 pub fn upload<G: Ground>(host: &mut Host<'_, G>, code: &[u8]) -> Result<Hash, HostErr>
     requires ready { MayRun host.old }
     requires size { length code.now < 2 ^ 32 }
-    ensures does { DoesAround result (λ hash. bytes hash.0) (λ env. done_under env.judge env.header (uploading code.now)) host.old host.new }
+    ensures does { DoesAround result (λ hash. bytes hash.0)
+        (λ env. done_under env.judge env.header (uploading code.now)) host.old host.new }
     ensures ends { Ends (uploading code.now) result (λ hash. bytes hash.0) host.old host.new }
     ensures base { host.new.ledger.storage.base ≡ host.old.ledger.storage.base }
 {
@@ -106,7 +109,8 @@ pub struct NewContract {
 pub fn create<G: Ground>(host: &mut Host<'_, G>, contract: NewContract) -> Result<Hash, HostErr>
     requires ready { MayRun host.old }
     requires args { AreArgsHosted contract.args }
-    ensures does { DoesAround result (λ id. address_datum (addresses.Contract id)) (λ env. done_under env.judge env.header (creating (creation_of contract))) host.old host.new }
+    ensures does { DoesAround result (λ id. address_datum (addresses.Contract id))
+        (λ env. done_under env.judge env.header (creating (creation_of contract))) host.old host.new }
     ensures ends { Ends (creating (creation_of contract)) result (λ id. address_datum (addresses.Contract id)) host.old host.new }
     ensures base { host.new.ledger.storage.base ≡ host.old.ledger.storage.base }
 {

@@ -3,6 +3,7 @@
 ghost use denote.Param.Send.{IsSync};
 
 use crate::calls::call;
+use crate::ledger_calls::{ledger_calls, names_ledger_call};
 use crate::prepared::Prepared;
 use crate::words::{small, word};
 use budget_meter::Limits;
@@ -42,7 +43,7 @@ impl Judge for HostCases {
         let outcome = match case.kind {
             "small" => small(alloc, fragments, case.words),
             "word" => word(alloc, case.words),
-            "host" => call(alloc, &self.prepared, NO_LIMITS, case.words),
+            "host" => any_call(alloc, &self.prepared, NO_LIMITS, case.words),
             "within" => within(alloc, &self.prepared, case.words),
             _ => {
                 self.prepared.prepare(alloc, fragments, case)?;
@@ -66,5 +67,19 @@ fn within(alloc: Global, prepared: &Prepared, rest: &str) -> Result<String, Case
         instructions: number(instructions)?,
         memory: number(memory)?,
     };
-    call(alloc, prepared, limits, rest)
+    any_call(alloc, prepared, limits, rest)
+}
+
+/// A call of a function over values, or calls of functions over the ledger.
+fn any_call(
+    alloc: Global,
+    prepared: &Prepared,
+    limits: Limits,
+    rest: &str,
+) -> Result<String, CaseErr> {
+    if names_ledger_call(rest) {
+        ledger_calls(alloc, prepared, limits, rest)
+    } else {
+        call(alloc, prepared, limits, rest)
+    }
 }

@@ -1,4 +1,5 @@
-//! Judges tables of cases of the functions that a contract's code calls: words, and functions over values.
+//! Judges tables of cases of the functions that a contract's code calls: words, functions over values, and functions
+//! over the ledger.
 //!
 //! docs/CASES.md describes a table's lines.
 #![tactic(auto)]
@@ -7,6 +8,10 @@ mod calls;
 mod errors;
 mod frames;
 mod kinds;
+mod ledger_calls;
+mod ledger_outcomes;
+mod ledger_prepared;
+mod ledger_states;
 mod outcomes;
 mod prepared;
 mod words;

@@ -1,5 +1,6 @@
 //! What a call finds: the terms of its budget, the objects that its frame has shown, and the linear memory.
 
+use crate::ledger_prepared::PreparedLedger;
 use case_text::{Case, CaseErr, Fragments, count, first_word};
 use std::alloc::Global;
 
@@ -15,6 +16,8 @@ pub struct Prepared {
     /// The value that all further objects are, as XDR.
     pub filler: Vec<u8>,
     pub memory: Vec<u8>,
+    /// What calls over the ledger find besides.
+    pub ledger: PreparedLedger,
 }
 
 impl Prepared {
@@ -26,6 +29,7 @@ impl Prepared {
             filled: 0,
             filler: Vec::new(alloc),
             memory: Vec::new(alloc),
+            ledger: PreparedLedger::new(alloc),
         }
     }
 
@@ -45,7 +49,7 @@ impl Prepared {
                 self.filler = fragments.bytes(alloc, filler)?;
             }
             "memory" => self.memory = fragments.bytes(alloc, line.words)?,
-            _ => return Err(CaseErr::Lacks("a kind of case")),
+            _ => self.ledger.prepare(alloc, fragments, line)?,
         }
         Ok(())
     }
@@ -64,7 +68,8 @@ impl Prepared {
     }
 }
 
-fn values(alloc: Global, fragments: &Fragments, words: &str) -> Result<Vec<Vec<u8>>, CaseErr> {
+/// VALUE..: the bytes of each.
+pub fn values(alloc: Global, fragments: &Fragments, words: &str) -> Result<Vec<Vec<u8>>, CaseErr> {
     let mut values = Vec::new(alloc);
     if !words.is_empty() {
         for word in words.split(' ') {

@@ -41,7 +41,9 @@ fn show_object(
 ) -> Result<u64, ValueErr>
     requires made { IsObjectMade (datum value) }
     requires indices { AreIndices objects.old shown.old }
-    ensures does { (memory : List ℕ) → Says result (λ n. n) (shown_as_object (datum value) (state (shown_of objects.old shown.old) memory budget.old)) (state (shown_of objects.new shown.new) memory budget.new) }
+    ensures does { (memory : List ℕ) → Says result (λ n. n)
+        (shown_as_object (datum value) (state (shown_of objects.old shown.old) memory budget.old))
+        (state (shown_of objects.new shown.new) memory budget.new) }
     ensures indices { AreIndices objects.new shown.new }
 {
     let size = measured(&value);
@@ -66,7 +68,9 @@ pub fn give(
 ) -> Result<u64, ValueErr>
     requires made { IsAnswerMade (answer_of answer) }
     requires indices { AreIndices objects.old shown.old }
-    ensures does { (memory : List ℕ) → Says result (λ n. n) (given (answer_of answer) (state (shown_of objects.old shown.old) memory budget.old)) (state (shown_of objects.new shown.new) memory budget.new) }
+    ensures does { (memory : List ℕ) → Says result (λ n. n)
+        (given (answer_of answer) (state (shown_of objects.old shown.old) memory budget.old))
+        (state (shown_of objects.new shown.new) memory budget.new) }
     ensures indices { AreIndices objects.new shown.new }
 {
     match answer {

@@ -11,7 +11,8 @@ use tagged_val::Val;
 
 /// Charges the budget. The clause holds whatever was shown and whatever the memory holds, so a caller needs no state.
 pub fn charge(budget: &mut Budget, kind: Kind, input: u64) -> Result<(), ValueErr>
-    ensures { (shown : List Datum) (memory : List ℕ) → Says result (λ u. u) (charged kind input (state shown memory budget.old)) (state shown memory budget.new) }
+    ensures { (shown : List Datum) (memory : List ℕ)
+        → Says result (λ u. u) (charged kind input (state shown memory budget.old)) (state shown memory budget.new) }
 {
     match budget.charge(kind, input) {
         Ok(()) => Ok(()),
@@ -21,7 +22,8 @@ pub fn charge(budget: &mut Budget, kind: Kind, input: u64) -> Result<(), ValueEr
 
 /// Charges a visit of each object among the words.
 fn visit(budget: &mut Budget, words: &[u64]) -> Result<(), ValueErr>
-    ensures { (shown : List Datum) (memory : List ℕ) → Says result (λ u. u) (visited words.now (state shown memory budget.old)) (state shown memory budget.new) }
+    ensures { (shown : List Datum) (memory : List ℕ)
+        → Says result (λ u. u) (visited words.now (state shown memory budget.old)) (state shown memory budget.new) }
 {
     match words {
         [] => Ok(()),
@@ -37,7 +39,8 @@ fn visit(budget: &mut Budget, words: &[u64]) -> Result<(), ValueErr>
 /// Charges a call with these words: its dispatch, then a visit of each object. The words are the tagged ones in the order of the
 /// arguments, without those that are numbers of 64 bits themselves.
 pub fn enter(budget: &mut Budget, words: &[u64]) -> Result<(), ValueErr>
-    ensures { (shown : List Datum) (memory : List ℕ) → Says result (λ u. u) (dispatched words.now (state shown memory budget.old)) (state shown memory budget.new) }
+    ensures { (shown : List Datum) (memory : List ℕ)
+        → Says result (λ u. u) (dispatched words.now (state shown memory budget.old)) (state shown memory budget.new) }
 {
     charge(budget, Kind::DispatchHostFunction, 1)?;
     visit(budget, words)

@@ -38,8 +38,10 @@ mod answer;
 mod answers;
 mod charges;
 mod errors;
+mod giving;
 mod held;
 mod host_entry;
+mod key_index;
 mod laws;
 mod memory;
 mod sizes;
@@ -52,8 +54,10 @@ pub use errors::{
     ABSENT_KEY, FULL_FRAME, INVALID_VALUE, OTHER_COUNT, OTHER_TYPE, OUTSIDE_MEMORY, OUTSIDE_OBJECT,
     TOO_LARGE,
 };
+pub use giving::give_each;
 pub use held::{Held, HeldText};
 pub use host_entry::{are_characters, entry, is_symbol};
+pub use key_index::index_of;
 pub use laws::entered_is_hosted;
 pub use memory::{in_memory, range, write};
 pub use sizes::{measured, size_of};

@@ -25,7 +25,8 @@ pub fn in_memory(memory: &[u8], from: u32, len: u64) -> Result<(), ValueErr>
 pub fn range(memory: &[u8], from: u32, len: u64) -> Result<&[u8], ValueErr>
     requires { len < 2 ^ 40 }
     ensures { MatchResult result
-        (λ s. (nat_le (from + len) (length memory.now) ≡ true) × (s.now ≡ slice_range memory.now from (from + len)) × (length s.now ≡ len))
+        (λ s. (nat_le (from + len) (length memory.now) ≡ true) × (s.now ≡ slice_range memory.now from (from + len))
+        × (length s.now ≡ len))
         (λ e. (nat_le (from + len) (length memory.now) ≡ false) × (e ≡ errs.Failed outside)) }
 {
     let start = from as usize;

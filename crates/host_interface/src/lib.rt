@@ -7,9 +7,11 @@
 mod import;
 mod kinds;
 mod laws;
+mod names;
 mod rows;
 
 pub use import::HostImport;
 pub use kinds::{ArgKind, ResultKind};
 pub use laws::names_differ;
+pub use names::import_named;
 pub use rows::{HOST_ROWS, HostRow, TableRow};

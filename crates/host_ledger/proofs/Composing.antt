@@ -1,9 +1,9 @@
 -- One act after another.
-use Rattle.std.proofs.Common.{List, ◌++◌, Result, Ok, Err, sym, ap, subst, ◌∙◌, append_assoc}
+use Rattle.std.proofs.Common.{List, Result, Ok, Err, sym, ap, subst}
 use Rattle.ledger_spec.specs.LedgerMap.{LedgerMap}
 use Rattle.host_spec.specs.declared.error.HostErr.{HostErr}
 use Rattle.host_spec.specs.declared.error.HostErr.TheVariants as ends
-use Rattle.contract_storage.specs.Stored.{Stored, IsLater, with_history, history}
+use Rattle.contract_storage.specs.Stored.{Stored, IsLater}
 use Rattle.call_spec.specs.World.{Access, World, Env}
 use Rattle.call_spec.specs.Acts.{Act, Out, Good, Bad, Undeclared, then_do}
 use Rattle.call_spec.specs.Outcomes.{Says, trace_of}
@@ -37,12 +37,6 @@ goes_then {A} {B} f g out next left then x q h k =
 
 -- ---- storages
 
-pub serves_later : (env : Env) (old new : Stored) → Serves env old → IsLater old new → Serves env new
-serves_later env old new serves h =
-    subst (λ (s : Stored). Serves env s) (sym h.same) (record { number = serves.number; lives = serves.lives; judge = serves.judge })
-
-pub later_then : (old middle new : Stored) → IsLater old middle → IsLater middle new → IsLater old new
-later_then old middle new h k = record {
-  same = k.same ∙ ap (λ (s : Stored). with_history s new) h.same;
-  later = (h.later.0 ++ k.later.0, k.later.1 ∙ ap (λ (maps : List LedgerMap). maps ++ k.later.0) h.later.1 ∙ append_assoc (history old) h.later.0 k.later.0);
-}
+pub serves_later : (env : Env) (old new : Stored) → IsLater old new → Serves env old → Serves env new
+serves_later env old new later serves =
+    subst (λ (s : Stored). Serves env s) (sym later.same) (record { number = serves.number; lives = serves.lives; judge = serves.judge })

@@ -18,7 +18,7 @@ use Rattle.invoke_types.specs.Event.{event_format, type_format}
 use Rattle.invoke_types.specs.declared.event.ContractEventType.TheVariants as types
 use Rattle.host_spec.specs.Hosted.{IsHosted}
 use Rattle.call_spec.specs.Events.{executable_topic, update_event}
-use Rattle.host_ledger.proofs.Fitting.{shallow_fits, hosted_fits}
+use Rattle.host_frame.proofs.Fitting.{shallow_fits, hosted_fits}
 
 -- the values of a list, of which trees were made
 pub all_same : (vs : List ScVal) → map scval (datums vs) ≡ vs

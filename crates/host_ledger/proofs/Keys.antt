@@ -26,7 +26,7 @@ use Rattle.value_xdr.specs.Bytes.{IsBounded}
 use Rattle.host_frame.proofs.Decoding.{spelled_bounded}
 use Rattle.host_spec.specs.Hosted.{IsHosted}
 use Rattle.call_spec.specs.Keys.{data_key_of, data_entry_of, instance_key, code_key}
-use Rattle.host_ledger.proofs.Fitting.{hosted_fits, shallow_fits}
+use Rattle.host_frame.proofs.Fitting.{hosted_fits, shallow_fits}
 
 pub same_scval : (v : ScVal) → scval (datum v) ≡ v
 same_scval v = scval-datum v

@@ -1,7 +1,6 @@
 pub mod EventLists
 pub mod Linking
 pub mod Making
-pub mod Fitting
 pub mod Keys
 pub mod KeyLaws
 pub mod Editing

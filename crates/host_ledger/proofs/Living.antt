@@ -34,7 +34,7 @@ goes_second : (a : Answer') (q : Result Answer' HostErr) (first second : Env →
     → IsLater old middle → Accesses q answer_of second middle new → Accesses q answer_of (λ env. after (first env) (λ _. second env)) old new
 goes_second a q first second old middle new h later k env serves w i =
     goes_then answer_of answer_of (first env w) (λ _. second env) (λ trace. record w { entries = middle.map; trace = trace }) (λ trace. record w { entries = new.map; trace = trace }) a q (h env serves w i)
-    (λ trace. k env (serves_later env old middle serves later) (record w { entries = middle.map; trace = trace }) refl)
+    (λ trace. k env (serves_later env old middle later serves) (record w { entries = middle.map; trace = trace }) refl)
 
 -- the extension at a key that is another
 at_same : (q : Result Answer' HostErr) (key same : LedgerKey) (threshold extend_to : ℕ) (old new : Stored) → key ≡ same → Accesses q answer_of (λ env. extending env key threshold extend_to) old new

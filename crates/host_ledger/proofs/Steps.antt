@@ -105,10 +105,11 @@ row_goes : (ks : List ArgKind) (o : Option (Rule ks)) (other : Option (List ℕ 
 row_goes ks None other words w left then a q h k = absurd h
 row_goes ks (Some rule) other words w left then a q h k = goes_then answer_of (λ (n : ℕ). n) (answered ks rule words w) (λ answer. lift (given answer)) left then a q h k
 
-ready_after : {G : Type 0} (old new : HostLedger G) → IsReady old → Stays old new → IsReady new
+pub ready_after : {G : Type 0} (old new : HostLedger G) → IsReady old → Stays old new → IsReady new
 ready_after old new ready stays = record {
   bounds = subst (λ (h : _). HasBounds (next_seq h) h.settings) (sym stays.header) ready.bounds;
   number = ap (λ (s : Stored). s.n) stays.storage.same ∙ ready.number ∙ ap next_seq (sym stays.header);
+  lives = ap (λ (s : Stored). s.lives) stays.storage.same ∙ ready.lives ∙ ap (λ (h : _). h.settings) (sym stays.header);
   indices = subst (λ (o : _). AreIndices o new.frame.shown) (sym stays.objects) (subst (λ (p : _). AreIndices old.objects p) (sym stays.shown) ready.indices);
   copy = stays.copy ready.copy;
 }
@@ -137,6 +138,7 @@ ready_shown : {G : Type 0} (old new : HostLedger G) → IsReady old → Shows ol
 ready_shown old new ready shows indices = record {
   bounds = subst (λ (h : _). HasBounds (next_seq h) h.settings) (sym shows.header) ready.bounds;
   number = ap (λ (s : Stored). s.n) shows.storage ∙ ready.number ∙ ap next_seq (sym shows.header);
+  lives = ap (λ (s : Stored). s.lives) shows.storage ∙ ready.lives ∙ ap (λ (h : _). h.settings) (sym shows.header);
   indices = indices;
   copy = subst (λ (c : _). IsHeld c.storage) (sym shows.copy) ready.copy;
 }

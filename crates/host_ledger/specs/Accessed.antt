@@ -52,8 +52,8 @@ Pays r act old new before after =
     (env : Env) → Serves env old → (w : World) → w.entries ≡ old.map → w.meter ≡ before
     → Says any r answer_of (act env w) (λ trace. record w { entries = new.map; trace = trace; meter = after })
 
--- A body returns what the row's rule says for these words, in every environment that the storage serves, and every world with its entries, these
--- shown values, this budget, this contract and this copy of its instance.
+-- The body returns what the row's rule returns for these words. This holds for every environment of the storage, and every world with these entries,
+-- shown values, budget, contract and copy of its instance.
 abbrev pub Runs : Result Answer' HostErr → (ks : List ArgKind) → (Env → Rule ks) → List ℕ → List Datum → Hash → Stored → Stored → Meter → Meter → Copied → Copied → Type 0
 Runs r ks rule words shown contract old new before after copy changed =
     (env : Env) → Serves env old → (w : World) → w.entries ≡ old.map → w.meter ≡ before → w.frame.shown ≡ shown → w.frame.contract ≡ contract → w.frame.copy ≡ copy

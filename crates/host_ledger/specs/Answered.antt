@@ -11,7 +11,7 @@ use Rattle.call_spec.specs.Rules.{Rule, answered}
 use Rattle.host_ledger.specs.Worlds.{world_at, IsEnv, Stays}
 use Rattle.host_ledger.specs.declared.state.HostLedger.{HostLedger}
 
--- a storage that enforces a footprint knows nothing of the accesses
+-- no fact about the trace, since a storage that enforces a footprint does not record accesses
 abbrev pub any : List Access → Type 0
 any trace = Unit {0}
 
@@ -19,7 +19,7 @@ abbrev pub IsMadeIfOk : Result Answer' HostErr → Type 0
 IsMadeIfOk (Ok a) = IsAnswerMade (answer_of a)
 IsMadeIfOk (Err e) = Unit {0}
 
--- A body returns what the row's rule says for these words, in each environment and world of the state, whatever its accesses were so far.
+-- The body returns what the row's rule returns for these words. This holds for every environment and world of the state, and every earlier trace.
 pub record Answers {G : Type 0} (r : Result Answer' HostErr) (ks : List ArgKind) (rule : Env → Rule ks) (words : List ℕ) (old new : HostLedger G) : Type 0 where
   pub does : (env : Env) → IsEnv env old → (rest : World) (trace : List Access) → Says any r answer_of (answered ks (rule env) words (world_at rest old trace)) (world_at rest new)
   pub made : IsMadeIfOk r

@@ -1,5 +1,5 @@
 -- Calls of the functions over the ledger and the running frame (own).
-use Rattle.std.specs.Prelude.{◌≡◌, ◌++◌, ℕ, Bool, true, false, List, length, Result}
+use Rattle.std.specs.Prelude.{◌≡◌, ◌++◌, ℕ, Bool, true, false, List, length, Option, Some, None, Result}
 use Rattle.host_interface.specs.declared.import.HostImport.{HostImport}
 use Rattle.host_interface.specs.declared.import.HostImport.TheVariants as imports
 use Rattle.host_spec.specs.Indices.{arguments_of}
@@ -38,6 +38,11 @@ pub record IsLedgerCall (i : HostImport) (words : List ℕ) : Type 0 where
   pub over_ledger : is_over_ledger i ≡ true
   pub arity : length words ≡ length (arguments_of i)
 
+-- the words are those of a call of such a function, which is named
+abbrev pub IsNamedCall : Option HostImport → List ℕ → Type 0
+IsNamedCall None words = ⊥
+IsNamedCall (Some i) words = IsLedgerCall i words
+
 -- What a call leaves: writes and events were only added, and the frame is still the frame of this contract.
 pub record Left {G : Type 0} (old new : HostLedger G) : Type 0 where
   pub header : new.header.now ≡ old.header.now
@@ -53,3 +58,8 @@ pub record Calls {G : Type 0} (r : Result ℕ HostErr) (i : HostImport) (words :
       → Says any r (λ n. n) (host_function env opener i words (world_at rest old trace)) (world_at rest new)
   pub ready : IsReady new
   pub left : Left old new
+
+-- A call by name does what the function of that name does.
+abbrev pub CallsNamed : {G : Type 0} → Result ℕ HostErr → Option HostImport → List ℕ → HostLedger G → HostLedger G → Type 0
+CallsNamed r None words old new = ⊥
+CallsNamed r (Some i) words old new = Calls r i words old new

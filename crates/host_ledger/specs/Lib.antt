@@ -3,7 +3,6 @@ pub mod Worlds
 pub mod Answered
 pub mod Accessed
 pub mod Places
-pub mod KeyIndex
 pub mod Storing
 pub mod Rows
 pub mod Called

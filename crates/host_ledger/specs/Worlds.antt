@@ -64,9 +64,12 @@ abbrev pub IsHeld : Option (List Member) → Type 0
 IsHeld None = Unit {0}
 IsHeld (Some members) = IsHosted (map (members_of members))
 
+-- The storage was made with the number of the ledger that is made and with the header's settings, words index what was shown, and instance storage
+-- is held. A row needs this state, and leaves such a state.
 pub record IsReady {G : Type 0} (h : HostLedger G) : Type 0 where
   pub bounds : HasBounds (next_seq h.header.now) h.header.now.settings
   pub number : h.storage.n ≡ next_seq h.header.now
+  pub lives : h.storage.lives ≡ h.header.now.settings
   pub indices : AreIndices h.objects h.frame.shown
   pub copy : IsHeld h.frame.copy.storage
 

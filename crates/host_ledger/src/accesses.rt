@@ -27,8 +27,8 @@ use host_spec::HostErr;
 use ledger_types::{LedgerEntry, LedgerEntryData, LedgerKey};
 use value_xdr::Xdr;
 
-/// The end of a call of the storage with this key.
-pub(crate) fn end_of(key: LedgerKey, error: StoErr) -> HostErr
+/// The error of a host function whose access of this key the storage rejected.
+pub fn end_of(key: LedgerKey, error: StoErr) -> HostErr
     ensures { result ≡ end_of key error }
 {
     match error {
@@ -105,7 +105,8 @@ pub(crate) fn extend<G: Ground>(
 #[tactic(auto, using(crate::proofs::Keys::value_bounded), unfolding(call_spec::specs::Accesses::entry_size))]
 fn opened(budget: &mut Budget, found: &LedgerEntry) -> Result<Answer, HostErr>
     requires { entry_format.fits found.now }
-    ensures does { (key : LedgerKeyData) (w : World) → w.meter ≡ budget.old → Says any result answer_of (opens key found.now w) (λ trace. record w { trace = trace; meter = budget.new }) }
+    ensures does { (key : LedgerKeyData) (w : World) → w.meter ≡ budget.old
+        → Says any result answer_of (opens key found.now w) (λ trace. record w { trace = trace; meter = budget.new }) }
     ensures made { IsMadeIfOk result }
 {
     charge(budget, Kind::ValDeser, found.size())?;
@@ -140,7 +141,8 @@ pub(crate) fn get<G: Ground>(
 #[tactic(auto, using(crate::proofs::Putting::paid_good, crate::proofs::Putting::paid_spent))]
 fn paid(budget: &mut Budget, size: u64) -> Result<Answer, HostErr>
     ensures does { (w : World) (map : LedgerMap) → w.meter ≡ budget.old
-        → Says any result answer_of (paying Kind.ValSer size (sets (with_entries map) nothing) w) (λ trace. record w { entries = map; trace = trace; meter = budget.new }) }
+        → Says any result answer_of (paying Kind.ValSer size (sets (with_entries map) nothing) w)
+        (λ trace. record w { entries = map; trace = trace; meter = budget.new }) }
     ensures made { IsMadeIfOk result }
 {
     match budget.charge(Kind::ValSer, size) {
@@ -149,16 +151,17 @@ fn paid(budget: &mut Budget, size: u64) -> Result<Answer, HostErr>
     }
 }
 
-/// The bytes of an entry.
+/// The size of an entry, in XDR bytes.
 #[tactic(auto, unfolding(call_spec::specs::Accesses::entry_size))]
-fn size_of(entry: &LedgerEntry) -> u64
+pub fn size_of(entry: &LedgerEntry) -> u64
     requires { entry_format.fits entry.now }
     ensures { result ≡ entry_size entry.now }
 {
     entry.size()
 }
 
-/// Puts an entry at its key. The charge for it comes after the put, which a run that the charge ends does not show.
+/// Puts an entry at its key. The charge comes after the put. If it exceeds a limit, the run ends and its writes are dropped, so
+/// the order cannot be seen.
 #[tactic(auto, using(crate::proofs::Putting::put_refused))]
 pub(crate) fn put<G: Ground>(
     storage: &mut Storage<'_, G>,
@@ -169,7 +172,8 @@ pub(crate) fn put<G: Ground>(
     requires key { key ≡ key_of entry }
     requires fits { entry_format.fits entry }
     requires hashed { HasCodeHash entry.data }
-    ensures does { Pays result (λ env. access env Write key (puts env entry nothing)) storage.old storage.new budget.old budget.new }
+    ensures does { Pays result (λ env. access env Write key
+        (puts env entry nothing)) storage.old storage.new budget.old budget.new }
     ensures made { IsMadeIfOk result }
     ensures later { IsLater storage.old storage.new }
 {

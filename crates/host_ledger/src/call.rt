@@ -1,4 +1,4 @@
-//! Calls by the function of the host interface.
+//! Calls by the function of the host interface, or by its module and its name.
 
 ghost use Rattle.std.specs.Prelude.{ℕ, List};
 ghost use Rattle.object_store.specs.Shown.{AreIndices};
@@ -10,14 +10,15 @@ ghost use Rattle.call_spec.specs.Acts.{lift};
 ghost use Rattle.call_spec.specs.Outcomes.{Says};
 ghost use Rattle.host_ledger.specs.Worlds.{world_at, IsReady, Shows};
 ghost use Rattle.host_ledger.specs.Answered.{any};
-ghost use Rattle.host_ledger.specs.Called.{IsLedgerCall, Calls};
+ghost use Rattle.host_interface.specs.Named.{import_named};
+ghost use Rattle.host_ledger.specs.Called.{IsLedgerCall, Calls, IsNamedCall, CallsNamed};
 ghost use Rattle.host_ledger.specs.Rows.{AnswersRow};
 
 use crate::groups::{four_words, one_word, three_words, two_words, without_words};
 use crate::state::HostLedger;
 use entry_lookup::Ground;
 use host_frame::{Answer, give};
-use host_interface::HostImport;
+use host_interface::{HostImport, import_named};
 use host_spec::HostErr;
 
 /// Returns what a function answers.
@@ -45,7 +46,8 @@ fn answer<G: Ground>(
 fn show<G: Ground>(host: &mut HostLedger<'_, G>, answer: Answer) -> Result<u64, HostErr>
     requires made { IsAnswerMade (answer_of answer) }
     requires indices { AreIndices host.old.objects host.old.frame.shown }
-    ensures does { (rest : World) (trace : List Access) → Says any result (λ n. n) (lift (given (answer_of answer)) (world_at rest host.old trace)) (world_at rest host.new) }
+    ensures does { (rest : World) (trace : List Access)
+        → Says any result (λ n. n) (lift (given (answer_of answer)) (world_at rest host.old trace)) (world_at rest host.new) }
     ensures indices { AreIndices host.new.objects host.new.frame.shown }
     ensures shows { Shows host.old host.new }
 {
@@ -73,4 +75,22 @@ pub fn call_function<G: Ground>(
         Ok(answer) => show(host, answer),
         Err(error) => Err(error),
     }
+}
+
+/// Calls the function with this module and this name, as `call_function` does. It searches the table: a caller that has the
+/// function itself uses `call_function`.
+pub fn ledger_call<G: Ground>(
+    host: &mut HostLedger<'_, G>,
+    module: &[u8],
+    name: &[u8],
+    args: &[u64],
+) -> Result<u64, HostErr>
+    requires call { IsNamedCall (import_named «module».now name.now) args.now }
+    requires ready { IsReady host.old }
+    ensures { CallsNamed result (import_named «module».now name.now) args.now host.old host.new }
+{
+    let Some(import) = import_named(module, name) else {
+        unreachable!();
+    };
+    call_function(host, import, args)
 }

@@ -24,7 +24,7 @@ use std::alloc::Global;
 use value_types::{Hash, ScAddress, ScError, ScVal};
 
 /// The number of the ledger that is made.
-pub(crate) fn made_seq(header: &Header) -> u32
+pub fn made_seq(header: &Header) -> u32
     requires { HasBounds (next_seq header.now) header.now.settings }
     ensures { result ≡ next_seq header.now }
 {

@@ -15,20 +15,20 @@ ghost use Rattle.host_ledger.specs.Answered.{IsMadeIfOk, any};
 ghost use Rattle.host_ledger.specs.Storing.{PutsInCopy};
 
 use crate::errors::{NO_ENTRY, TOO_LARGE};
-use crate::key_index::index_of;
 use crate::puts::{Unput, delete_in, put_in};
 use crate::state::InstanceCopy;
 use crate::values::clone_value;
-use host_frame::Answer;
+use host_frame::{Answer, index_of};
 use host_spec::{HostErr, ValueErr};
 use std::alloc::Global;
 use value_types::{Entries, Entry, ScVal};
 
 /// The value of a key.
-#[tactic(auto, using(crate::proofs::KeyLaws::value_there, crate::proofs::KeyLaws::value_gap, crate::proofs::KeyLaws::val_made))]
+#[tactic(auto, using(host_frame::proofs::KeyLaws::value_there, host_frame::proofs::KeyLaws::value_gap, host_frame::proofs::KeyLaws::val_made))]
 fn value_at<'a>(key: &ScVal, entries: &'a [Entry]) -> Option<&'a ScVal>
     requires { IsHosted (map (members_of (datum_pairs entries.now))) }
-    ensures found { MatchOption result (value_in (datum key.now) (datum_pairs entries.now) ≡ None) (λ v. value_in (datum key.now) (datum_pairs entries.now) ≡ Some (datum v.now)) }
+    ensures found { MatchOption result (value_in (datum key.now) (datum_pairs entries.now) ≡ None)
+        (λ v. value_in (datum key.now) (datum_pairs entries.now) ≡ Some (datum v.now)) }
     ensures made { IfSome result (λ v. IsMade (datum v.now)) }
 {
     match index_of(key, entries) {
@@ -43,7 +43,8 @@ fn value_at<'a>(key: &ScVal, entries: &'a [Entry]) -> Option<&'a ScVal>
 /// The value of a key in instance storage.
 pub(crate) fn in_copy<'a>(copy: &'a InstanceCopy, key: &ScVal) -> Option<&'a ScVal>
     requires { IsHeld copy.now.storage }
-    ensures found { MatchOption result (value_in (datum key.now) (members copy.now.storage) ≡ None) (λ v. value_in (datum key.now) (members copy.now.storage) ≡ Some (datum v.now)) }
+    ensures found { MatchOption result (value_in (datum key.now) (members copy.now.storage) ≡ None)
+        (λ v. value_in (datum key.now) (members copy.now.storage) ≡ Some (datum v.now)) }
     ensures made { IfSome result (λ v. IsMade (datum v.now)) }
 {
     match &copy.storage {
@@ -55,7 +56,8 @@ pub(crate) fn in_copy<'a>(copy: &'a InstanceCopy, key: &ScVal) -> Option<&'a ScV
 /// The value of a key in instance storage, as an answer.
 pub(crate) fn get_in_copy(copy: &InstanceCopy, key: &ScVal) -> Result<Answer, HostErr>
     requires { IsHeld copy.now.storage }
-    ensures does { (w : World) → w.frame.copy ≡ copied copy.now → Says any result answer_of (get_in_copy (datum key.now) w) (λ trace. record w { trace = trace }) }
+    ensures does { (w : World) → w.frame.copy ≡ copied copy.now
+        → Says any result answer_of (get_in_copy (datum key.now) w) (λ trace. record w { trace = trace }) }
     ensures made { IsMadeIfOk result }
 {
     match in_copy(copy, key) {
@@ -80,7 +82,8 @@ fn put_first(copy: &mut InstanceCopy, alloc: Global, entry: Entry) -> Result<Ans
     requires null { copy.old.storage ≡ None }
     requires key { IsMade (datum entry.key) }
     requires val { IsMade (datum entry.val) }
-    ensures does { PutsInCopy result (datum entry.key) (datum entry.val) (record { code = copy.old.code; storage = None }) (copied copy.new) }
+    ensures does { PutsInCopy result (datum entry.key) (datum entry.val) (record { code = copy.old.code; storage = None })
+        (copied copy.new) }
     ensures made { IsMadeIfOk result }
     ensures held { IsHeld copy.new.storage }
 {
@@ -100,7 +103,8 @@ fn put_more(copy: &mut InstanceCopy, entries: Entries, entry: Entry) -> Result<A
     requires null { copy.old.storage ≡ None }
     requires key { IsMade (datum entry.key) }
     requires val { IsMade (datum entry.val) }
-    ensures does { PutsInCopy result (datum entry.key) (datum entry.val) (record { code = copy.old.code; storage = Some entries }) (copied copy.new) }
+    ensures does { PutsInCopy result (datum entry.key) (datum entry.val) (record { code = copy.old.code; storage = Some entries })
+        (copied copy.new) }
     ensures made { IsMadeIfOk result }
     ensures held { IsHeld copy.new.storage }
 {

@@ -80,7 +80,8 @@ fn put_entry<G: Ground>(
     requires key { IsHosted (datum key.now) }
     requires val { IsHosted (datum val.now) }
     requires number { storage.old.n ≡ n }
-    ensures does { (env : Env) → Serves env storage.old → (w : World) → w.entries ≡ storage.old.map → w.meter ≡ budget.old → w.frame.contract ≡ contract
+    ensures does { (env : Env) → Serves env storage.old → (w : World) → w.entries ≡ storage.old.map → w.meter ≡ budget.old
+        → w.frame.contract ≡ contract
         → Says any result answer_of (with_frame (λ frame. access env Write (data_key_at frame.contract (datum key.now) durability)
         (puts env (data_entry_at (made_in env) frame.contract (datum key.now) durability (datum val.now)) nothing)) w)
         (λ trace. record w { entries = storage.new.map; trace = trace; meter = budget.new }) }
@@ -106,7 +107,8 @@ fn put_data<G: Ground>(
 ) -> Result<Answer, HostErr>
     requires held { IsHeld copy.old.storage }
     requires number { storage.old.n ≡ n }
-    ensures does { Runs result (kinds.Value ∷ kinds.Value ∷ kinds.Unsigned ∷ []) put_contract_data (a ∷ b ∷ c ∷ []) values.now contract storage.old storage.new budget.old budget.new (copied copy.old) (copied copy.new) }
+    ensures does { Runs result (kinds.Value ∷ kinds.Value ∷ kinds.Unsigned ∷ []) put_contract_data
+        (a ∷ b ∷ c ∷ []) values.now contract storage.old storage.new budget.old budget.new (copied copy.old) (copied copy.new) }
     ensures made { IsMadeIfOk result }
     ensures later { IsLater storage.old storage.new }
     ensures held { IsHeld copy.new.storage }
@@ -138,7 +140,8 @@ pub fn put_contract_data<G: Ground>(
     c: u64,
 ) -> Result<Answer, HostErr>
     requires { IsReady host.old }
-    ensures { Answers result (kinds.Value ∷ kinds.Value ∷ kinds.Unsigned ∷ []) put_contract_data (a ∷ b ∷ c ∷ []) host.old host.new }
+    ensures { Answers result (kinds.Value ∷ kinds.Value ∷ kinds.Unsigned ∷ []) put_contract_data
+        (a ∷ b ∷ c ∷ []) host.old host.new }
 {
     let values = Values::new(&host.objects, &host.frame.shown);
     put_data(
@@ -163,7 +166,8 @@ fn del_entry<G: Ground>(
 ) -> Result<Answer, HostErr>
     requires { IsHosted (datum key.now) }
     ensures does { (env : Env) → Serves env storage.old → (w : World) → w.entries ≡ storage.old.map → w.frame.contract ≡ contract
-        → Says any result answer_of (with_frame (λ frame. access env Write (data_key_at frame.contract (datum key.now) durability) deletes) w)
+        → Says any result answer_of (with_frame
+        (λ frame. access env Write (data_key_at frame.contract (datum key.now) durability) deletes) w)
         (λ trace. record w { entries = storage.new.map; trace = trace }) }
     ensures made { IsMadeIfOk result }
     ensures later { IsLater storage.old storage.new }
@@ -208,7 +212,8 @@ fn has_data<G: Ground>(
     b: u64,
 ) -> Result<Answer, HostErr>
     requires { IsHeld copy.now.storage }
-    ensures does { Runs result (kinds.Value ∷ kinds.Unsigned ∷ []) has_contract_data (a ∷ b ∷ []) values.now contract storage.old storage.new budget.old budget.new (copied copy.now) (copied copy.now) }
+    ensures does { Runs result (kinds.Value ∷ kinds.Unsigned ∷ []) has_contract_data
+        (a ∷ b ∷ []) values.now contract storage.old storage.new budget.old budget.new (copied copy.now) (copied copy.now) }
     ensures made { IsMadeIfOk result }
     ensures stays { storage.new ≡ storage.old }
 {
@@ -255,7 +260,8 @@ fn extend_entry<G: Ground>(
 ) -> Result<Answer, HostErr>
     requires { IsHosted (datum key.now) }
     ensures does { (env : Env) → Serves env storage.old → (w : World) → w.entries ≡ storage.old.map → w.frame.contract ≡ contract
-        → Says any result answer_of (unless_backward threshold extend_to (with_frame (λ frame. extending env (data_key_at frame.contract (datum key.now) durability) threshold extend_to)) w)
+        → Says any result answer_of (unless_backward threshold extend_to
+        (with_frame (λ frame. extending env (data_key_at frame.contract (datum key.now) durability) threshold extend_to)) w)
         (λ trace. record w { entries = storage.new.map; trace = trace }) }
     ensures made { IsMadeIfOk result }
     ensures later { IsLater storage.old storage.new }
@@ -278,7 +284,9 @@ fn extend_data<G: Ground>(
     c: u64,
     d: u64,
 ) -> Result<Answer, HostErr>
-    ensures does { (copy : Copied) → Runs result (kinds.Value ∷ kinds.Unsigned ∷ kinds.U32 ∷ kinds.U32 ∷ []) extend_contract_data_ttl (a ∷ b ∷ c ∷ d ∷ []) values.now contract storage.old storage.new budget.old budget.new copy copy }
+    ensures does { (copy : Copied) → Runs result
+        (kinds.Value ∷ kinds.Unsigned ∷ kinds.U32 ∷ kinds.U32 ∷ []) extend_contract_data_ttl
+        (a ∷ b ∷ c ∷ d ∷ []) values.now contract storage.old storage.new budget.old budget.new copy copy }
     ensures made { IsMadeIfOk result }
     ensures later { IsLater storage.old storage.new }
 {
@@ -310,7 +318,8 @@ pub fn extend_contract_data_ttl<G: Ground>(
     d: u64,
 ) -> Result<Answer, HostErr>
     requires { IsReady host.old }
-    ensures { Answers result (kinds.Value ∷ kinds.Unsigned ∷ kinds.U32 ∷ kinds.U32 ∷ []) extend_contract_data_ttl (a ∷ b ∷ c ∷ d ∷ []) host.old host.new }
+    ensures { Answers result (kinds.Value ∷ kinds.Unsigned ∷ kinds.U32 ∷ kinds.U32 ∷ []) extend_contract_data_ttl
+        (a ∷ b ∷ c ∷ d ∷ []) host.old host.new }
 {
     let values = Values::new(&host.objects, &host.frame.shown);
     extend_data(
@@ -336,7 +345,8 @@ fn get_data<G: Ground>(
     b: u64,
 ) -> Result<Answer, HostErr>
     requires { IsHeld copy.now.storage }
-    ensures does { Runs result (kinds.Value ∷ kinds.Unsigned ∷ []) get_contract_data (a ∷ b ∷ []) values.now contract storage.now storage.now budget.old budget.new (copied copy.now) (copied copy.now) }
+    ensures does { Runs result (kinds.Value ∷ kinds.Unsigned ∷ []) get_contract_data
+        (a ∷ b ∷ []) values.now contract storage.now storage.now budget.old budget.new (copied copy.now) (copied copy.now) }
     ensures made { IsMadeIfOk result }
 {
     let key = values.value(a)?;
@@ -382,7 +392,8 @@ fn del_data<G: Ground>(
     b: u64,
 ) -> Result<Answer, HostErr>
     requires { IsHeld copy.old.storage }
-    ensures does { Runs result (kinds.Value ∷ kinds.Unsigned ∷ []) del_contract_data (a ∷ b ∷ []) values.now contract storage.old storage.new budget.old budget.new (copied copy.old) (copied copy.new) }
+    ensures does { Runs result (kinds.Value ∷ kinds.Unsigned ∷ []) del_contract_data
+        (a ∷ b ∷ []) values.now contract storage.old storage.new budget.old budget.new (copied copy.old) (copied copy.new) }
     ensures made { IsMadeIfOk result }
     ensures later { IsLater storage.old storage.new }
     ensures held { IsHeld copy.new.storage }

@@ -14,7 +14,7 @@ pub(crate) const INVALID_STORAGE_INPUT: HostErr = HostErr::Failed(ScError::Stora
 ));
 
 /// There is no live entry.
-pub(crate) const NO_ENTRY: HostErr = HostErr::Failed(ScError::Storage(ScErrorCode::MissingValue));
+pub const NO_ENTRY: HostErr = HostErr::Failed(ScError::Storage(ScErrorCode::MissingValue));
 
 /// An extension of instance storage.
 pub(crate) const INVALID_EXTENSION: HostErr = HostErr::Failed(ScError::Storage(

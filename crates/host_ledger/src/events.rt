@@ -71,7 +71,8 @@ pub(crate) fn emit(
 ) -> Result<Answer, HostErr>
     requires { event_format.fits event }
     ensures does { (w : World) → w.events ≡ events.old → w.meter ≡ budget.old
-        → Says any result answer_of (emits event w) (λ trace. record w { events = events.new; trace = trace; meter = budget.new }) }
+        → Says any result answer_of (emits event w)
+        (λ trace. record w { events = events.new; trace = trace; meter = budget.new }) }
     ensures made { IsMadeIfOk result }
     ensures later { (more : List _) × (events.new ≡ events.old ++ more) }
 {
@@ -89,8 +90,10 @@ fn emit_event(
     a: u64,
     b: u64,
 ) -> Result<Answer, HostErr>
-    ensures does { (env : Env) (w : World) → w.events ≡ events.old → w.meter ≡ budget.old → w.frame.shown ≡ values.now → w.frame.contract ≡ contract
-        → Says any result answer_of (answered (kinds.Vec ∷ kinds.Value ∷ []) contract_event (a ∷ b ∷ []) w) (λ trace. record w { events = events.new; trace = trace; meter = budget.new }) }
+    ensures does { (env : Env) (w : World) → w.events ≡ events.old → w.meter ≡ budget.old → w.frame.shown ≡ values.now
+        → w.frame.contract ≡ contract
+        → Says any result answer_of (answered (kinds.Vec ∷ kinds.Value ∷ []) contract_event (a ∷ b ∷ []) w)
+        (λ trace. record w { events = events.new; trace = trace; meter = budget.new }) }
     ensures made { IsMadeIfOk result }
     ensures later { (more : List _) × (events.new ≡ events.old ++ more) }
 {

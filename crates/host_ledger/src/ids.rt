@@ -35,7 +35,8 @@ use value_types::{Hash, ScAddress};
 
 /// The hash with these bytes, if there are 32.
 pub(crate) fn hash_of(bytes: &[u8]) -> Result<Hash, HostErr>
-    ensures { MatchResult result (λ h. (length bytes.now == 32 ≡ true) × (h ≡ hash_with bytes.now)) (λ e. (length bytes.now == 32 ≡ false) × (e ≡ ends.Failed OTHER_SIZE_ERROR)) }
+    ensures { MatchResult result (λ h. (length bytes.now == 32 ≡ true) × (h ≡ hash_with bytes.now))
+        (λ e. (length bytes.now == 32 ≡ false) × (e ≡ ends.Failed OTHER_SIZE_ERROR)) }
 {
     if bytes.len() != 32 {
         return Err(OTHER_SIZE);
@@ -89,7 +90,8 @@ fn id_answer(
     deployer: ScAddress,
     salt: Hash,
 ) -> Result<Answer, ValueErr>
-    ensures value { IfOk result (λ a. answer_of a ≡ value (address (ScAddress.Contract (contract_id_of network.now (Preimage.FromAddress deployer salt))))) }
+    ensures value { IfOk result (λ a. answer_of a ≡ value
+        (address (ScAddress.Contract (contract_id_of network.now (Preimage.FromAddress deployer salt))))) }
     ensures made { IfOk result (λ a. IsAnswerMade (answer_of a)) }
     ensures memory { IfErr result (λ e. e ≡ errs.NoMemory) }
 {
@@ -113,8 +115,10 @@ fn paid_id(
 ) -> Result<Answer, HostErr>
     requires { as_plain deployer ≡ Some deployer }
     ensures does { (w : World) → w.meter ≡ budget.old
-        → Says any result answer_of (paying Kind.ComputeSha256Hash (length (contract_id_payload network.now (Preimage.FromAddress deployer salt)))
-        (returning (gives (contract_id_of network.now (Preimage.FromAddress deployer salt))) (λ id. address (ScAddress.Contract id))) w) (λ trace. record w { trace = trace; meter = budget.new }) }
+        → Says any result answer_of (paying Kind.ComputeSha256Hash
+        (length (contract_id_payload network.now (Preimage.FromAddress deployer salt)))
+        (returning (gives (contract_id_of network.now (Preimage.FromAddress deployer salt)))
+        (λ id. address (ScAddress.Contract id))) w) (λ trace. record w { trace = trace; meter = budget.new }) }
     ensures made { IsMadeIfOk result }
 {
     let size = payload_size(*network, deployer, salt);
@@ -131,8 +135,10 @@ fn id_of_words(
     a: u64,
     b: u64,
 ) -> Result<Answer, HostErr>
-    ensures does { (env : Env) → env.header.network_id ≡ network.now → (w : World) → w.meter ≡ budget.old → w.frame.shown ≡ values.now
-        → Says any result answer_of (answered (kinds.Address ∷ kinds.Bytes ∷ []) (get_contract_id env) (a ∷ b ∷ []) w) (λ trace. record w { trace = trace; meter = budget.new }) }
+    ensures does { (env : Env) → env.header.network_id ≡ network.now → (w : World) → w.meter ≡ budget.old
+        → w.frame.shown ≡ values.now
+        → Says any result answer_of (answered (kinds.Address ∷ kinds.Bytes ∷ []) (get_contract_id env) (a ∷ b ∷ []) w)
+        (λ trace. record w { trace = trace; meter = budget.new }) }
     ensures made { IsMadeIfOk result }
 {
     let deployer = values.address(a)?;

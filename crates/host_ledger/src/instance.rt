@@ -30,7 +30,7 @@ use value_types::{Hash, ScAddress, ScVal};
 
 /// The key of a contract's instance.
 #[tactic(auto, using(crate::proofs::Keys::instance_key_fits))]
-fn instance_key(contract: Hash) -> LedgerKey
+pub fn instance_key(contract: Hash) -> LedgerKey
     ensures key { result ≡ instance_key_of contract }
     ensures fits { key_format.fits result }
 {
@@ -44,7 +44,7 @@ fn instance_key(contract: Hash) -> LedgerKey
 
 /// The key of a code.
 #[tactic(auto, using(crate::proofs::Keys::code_key_fits))]
-pub(crate) fn code_key(code: Hash) -> LedgerKey
+pub fn code_key(code: Hash) -> LedgerKey
     ensures key { result ≡ code_key_of code }
     ensures fits { key_format.fits result }
 {
@@ -61,7 +61,9 @@ fn extend_both<G: Ground>(
     extend_to: u32,
 ) -> Result<Answer, HostErr>
     requires unless_backward { nat_lt extend_to threshold ≡ false }
-    ensures does { Accesses result answer_of (λ env. after (extending env (instance_key_of contract) threshold extend_to) (λ _. extending env (code_key_of code) threshold extend_to)) storage.old storage.new }
+    ensures does { Accesses result answer_of
+        (λ env. after (extending env (instance_key_of contract) threshold extend_to)
+        (λ _. extending env (code_key_of code) threshold extend_to)) storage.old storage.new }
     ensures made { IsMadeIfOk result }
     ensures later { IsLater storage.old storage.new }
 {
@@ -79,9 +81,11 @@ fn extend_lives<G: Ground>(
     threshold: u32,
     extend_to: u32,
 ) -> Result<Answer, HostErr>
-    ensures does { (env : Env) → Serves env storage.old → (w : World) → w.entries ≡ storage.old.map → w.frame.contract ≡ contract → w.frame.code ≡ code
+    ensures does { (env : Env) → Serves env storage.old → (w : World) → w.entries ≡ storage.old.map → w.frame.contract ≡ contract
+        → w.frame.code ≡ code
         → Says any result answer_of (unless_backward threshold extend_to (with_frame (λ frame.
-        after (extending env (instance_key_of frame.contract) threshold extend_to) (λ _. extending env (code_key_of frame.code) threshold extend_to))) w)
+        after (extending env (instance_key_of frame.contract) threshold extend_to)
+        (λ _. extending env (code_key_of frame.code) threshold extend_to))) w)
         (λ trace. record w { entries = storage.new.map; trace = trace }) }
     ensures made { IsMadeIfOk result }
     ensures later { IsLater storage.old storage.new }
@@ -102,8 +106,10 @@ fn extend_instance<G: Ground>(
     a: u64,
     b: u64,
 ) -> Result<Answer, HostErr>
-    ensures does { (env : Env) → Serves env storage.old → (w : World) → w.entries ≡ storage.old.map → w.meter ≡ budget.old → w.frame.shown ≡ values.now → w.frame.contract ≡ contract → w.frame.code ≡ code
-        → Says any result answer_of (answered (kinds.U32 ∷ kinds.U32 ∷ []) (extend_current_contract_instance_and_code_ttl env) (a ∷ b ∷ []) w)
+    ensures does { (env : Env) → Serves env storage.old → (w : World) → w.entries ≡ storage.old.map → w.meter ≡ budget.old
+        → w.frame.shown ≡ values.now → w.frame.contract ≡ contract → w.frame.code ≡ code
+        → Says any result answer_of (answered (kinds.U32 ∷ kinds.U32 ∷ []) (extend_current_contract_instance_and_code_ttl env)
+        (a ∷ b ∷ []) w)
         (λ trace. record w { entries = storage.new.map; trace = trace; meter = budget.new }) }
     ensures made { IsMadeIfOk result }
     ensures later { IsLater storage.old storage.new }
@@ -121,7 +127,8 @@ pub fn extend_current_contract_instance_and_code_ttl<G: Ground>(
     b: u64,
 ) -> Result<Answer, HostErr>
     requires { IsReady host.old }
-    ensures { Answers result (kinds.U32 ∷ kinds.U32 ∷ []) extend_current_contract_instance_and_code_ttl (a ∷ b ∷ []) host.old host.new }
+    ensures { Answers result (kinds.U32 ∷ kinds.U32 ∷ []) extend_current_contract_instance_and_code_ttl
+        (a ∷ b ∷ []) host.old host.new }
 {
     let values = Values::new(&host.objects, &host.frame.shown);
     extend_instance(

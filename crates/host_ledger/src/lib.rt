@@ -27,14 +27,15 @@
 //!
 //! Instance storage
 //!
-//! The entries of the frame's copy rise strictly by their keys, so `key_index` finds a key by halving. A put changes the entries in
-//! place, then tests the whole instance against the limits of values, and undoes the change if the instance exceeds them (`puts`).
-//! So a put is linear in the size of the instance.
+//! The entries of the frame's copy rise strictly by their keys, so `index_of` of host_frame finds a key by halving. A put changes
+//! the entries in place, then tests the whole instance against the limits of values, and undoes the change if the instance exceeds
+//! them (`puts`). So a put is linear in the size of the instance.
 //!
 //! Calls
 //!
-//! `call_function` calls a function by its import, with a word for each argument. `groups` has one `match` for each number of
-//! words; `call` then shows the answer in the frame. `Calls` says what a call does, and that the state is ready for the next one.
+//! `call_function` calls a function by its import, with a word for each argument, and `ledger_call` by its name. `groups` has one
+//! `match` for each number of words; `call` then shows the answer in the frame. `Calls` says what a call does, and that the state
+//! is ready for the next one.
 #![tactic(auto)]
 
 mod accesses;
@@ -48,25 +49,27 @@ mod events;
 mod groups;
 mod ids;
 mod instance;
-mod key_index;
 mod place;
 mod puts;
 mod state;
 mod updates;
 mod values;
 
-pub use call::call_function;
+pub use accesses::{end_of, size_of};
+pub use call::{call_function, ledger_call};
 pub use context::{
     fail_with_error, get_current_contract_address, get_ledger_network_id, get_ledger_sequence,
-    get_ledger_timestamp, get_ledger_version, get_max_live_until_ledger,
+    get_ledger_timestamp, get_ledger_version, get_max_live_until_ledger, made_seq,
 };
 pub use data::{
     del_contract_data, extend_contract_data_ttl, get_contract_data, has_contract_data,
     put_contract_data,
 };
+pub use errors::NO_ENTRY;
 pub use event_list::Events;
 pub use events::contract_event;
 pub use ids::get_contract_id;
-pub use instance::extend_current_contract_instance_and_code_ttl;
+pub use instance::{code_key, extend_current_contract_instance_and_code_ttl, instance_key};
 pub use state::{HostLedger, InstanceCopy, Running};
 pub use updates::update_current_contract_wasm;
+pub use values::clone_values;

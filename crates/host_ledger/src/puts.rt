@@ -9,12 +9,11 @@ ghost use Rattle.value_xdr.specs.Bytes.{IsBounded};
 ghost use Rattle.host_spec.specs.Hosted.{IsHosted, IsMade, is_within_limits};
 ghost use Rattle.host_spec.specs.MapRows.{without};
 ghost use Rattle.host_spec.specs.declared.error.ValueErr.TheVariants as errs;
-ghost use Rattle.host_ledger.specs.KeyIndex.{IsThere, IsGap};
+ghost use Rattle.host_frame.specs.KeyIndex.{IsThere, IsGap};
 ghost use Rattle.host_ledger.specs.Storing.{instance_with, Puts};
 
 use crate::events::hold_hash;
-use crate::key_index::index_of;
-use host_frame::measured;
+use host_frame::{index_of, measured};
 use host_spec::ValueErr;
 use std::mem;
 use value_types::{Entries, Entry, Executable, Hash, Instance, ScVal, depth};
@@ -80,10 +79,11 @@ fn storage_of(value: ScVal) -> Option<Entries>
     }
 }
 
-/// The entries again: `Ok` if the instance with this code and these entries is within the limits of values.
+/// Returns the entries unchanged: `Ok` if the instance with this code and these entries is within the limits, else `Err`.
 fn within_limits(code: Hash, entries: Entries) -> Result<Entries, Entries>
     requires { IsMade (map (members_of entries)) }
-    ensures { MatchResult result (λ e. (e ≡ entries) × (is_within_limits (instance_with code entries) ≡ true)) (λ e. (e ≡ entries) × (is_within_limits (instance_with code entries) ≡ false)) }
+    ensures { MatchResult result (λ e. (e ≡ entries) × (is_within_limits (instance_with code entries) ≡ true))
+        (λ e. (e ≡ entries) × (is_within_limits (instance_with code entries) ≡ false)) }
 {
     hold_hash(code);
     let instance = ScVal::ContractInstance(Instance {

@@ -38,7 +38,9 @@ use value_types::{Blob, Hash, Items, ScVal, ScVals};
 
 /// The code of a live entry.
 fn code_of(found: &LedgerEntry) -> Result<&[u8], HostErr>
-    ensures { (key : LedgerKeyData) (w : World) → Says any result (λ code. code.now) (effected key (code_of_data found.now.data) w) (λ trace. record w { trace = trace }) }
+    ensures { (key : LedgerKeyData) (w : World)
+        → Says any result (λ code. code.now) (effected key (code_of_data found.now.data) w)
+        (λ trace. record w { trace = trace }) }
 {
     match &found.data {
         LedgerEntryData::ContractCode(entry) => Ok(entry.code.as_slice()),
@@ -110,7 +112,8 @@ fn emit_update(
     new: Hash,
 ) -> Result<Answer, HostErr>
     ensures does { (w : World) → w.events ≡ events.old → w.meter ≡ budget.old
-        → Says any result answer_of (emits (event_of contract old new) w) (λ trace. record w { events = events.new; trace = trace; meter = budget.new }) }
+        → Says any result answer_of (emits (event_of contract old new) w)
+        (λ trace. record w { events = events.new; trace = trace; meter = budget.new }) }
     ensures made { IsMadeIfOk result }
     ensures later { (more : List _) × (events.new ≡ events.old ++ more) }
 {
@@ -130,8 +133,10 @@ fn replace_code(
     copy: &mut InstanceCopy,
     code: Hash,
 ) -> Result<Answer, HostErr>
-    ensures does { (w : World) → w.events ≡ events.old → w.meter ≡ budget.old → w.frame.contract ≡ contract → w.frame.copy ≡ copied copy.old
-        → Says any result answer_of (with_frame (λ frame. after (emits (event_of frame.contract frame.copy.code code)) (λ _. sets (with_code code) nothing)) w)
+    ensures does { (w : World) → w.events ≡ events.old → w.meter ≡ budget.old → w.frame.contract ≡ contract
+        → w.frame.copy ≡ copied copy.old
+        → Says any result answer_of (with_frame
+        (λ frame. after (emits (event_of frame.contract frame.copy.code code)) (λ _. sets (with_code code) nothing)) w)
         (λ trace. record w { events = events.new; trace = trace; meter = budget.new; frame = record w.frame { copy = copied copy.new } }) }
     ensures made { IsMadeIfOk result }
     ensures later { (more : List _) × (events.new ≡ events.old ++ more) }
@@ -156,8 +161,11 @@ fn update_to<G: Ground>(
     copy: &mut InstanceCopy,
     code: Hash,
 ) -> Result<Answer, HostErr>
-    ensures does { (env : Env) → Serves env storage.now → (w : World) → w.entries ≡ storage.now.map → w.events ≡ events.old → w.meter ≡ budget.old → w.frame.contract ≡ contract → w.frame.copy ≡ copied copy.old
-        → Says any result answer_of (after (code_in env code) (λ _. with_frame (λ frame. after (emits (event_of frame.contract frame.copy.code code)) (λ _. sets (with_code code) nothing))) w)
+    ensures does { (env : Env) → Serves env storage.now → (w : World) → w.entries ≡ storage.now.map → w.events ≡ events.old
+        → w.meter ≡ budget.old → w.frame.contract ≡ contract → w.frame.copy ≡ copied copy.old
+        → Says any result answer_of (after (code_in env code)
+        (λ _. with_frame (λ frame. after (emits (event_of frame.contract frame.copy.code code))
+        (λ _. sets (with_code code) nothing))) w)
         (λ trace. record w { events = events.new; trace = trace; meter = budget.new; frame = record w.frame { copy = copied copy.new } }) }
     ensures made { IsMadeIfOk result }
     ensures later { (more : List _) × (events.new ≡ events.old ++ more) }
@@ -179,7 +187,8 @@ fn update_code<G: Ground>(
     copy: &mut InstanceCopy,
     a: u64,
 ) -> Result<Answer, HostErr>
-    ensures does { (env : Env) → Serves env storage.now → (w : World) → w.entries ≡ storage.now.map → w.events ≡ events.old → w.meter ≡ budget.old → w.frame.shown ≡ values.now → w.frame.contract ≡ contract → w.frame.copy ≡ copied copy.old
+    ensures does { (env : Env) → Serves env storage.now → (w : World) → w.entries ≡ storage.now.map → w.events ≡ events.old
+        → w.meter ≡ budget.old → w.frame.shown ≡ values.now → w.frame.contract ≡ contract → w.frame.copy ≡ copied copy.old
         → Says any result answer_of (answered (kinds.Bytes ∷ []) (update_current_contract_wasm env) (a ∷ []) w)
         (λ trace. record w { events = events.new; trace = trace; meter = budget.new; frame = record w.frame { copy = copied copy.new } }) }
     ensures made { IsMadeIfOk result }

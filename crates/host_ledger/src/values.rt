@@ -17,7 +17,7 @@ pub(crate) fn clone_value(value: &ScVal) -> Result<ScVal, ValueErr>
 }
 
 /// Clones values. Its only error is memory.
-pub(crate) fn clone_values(alloc: Global, values: &[ScVal]) -> Result<Vec<ScVal>, ValueErr>
+pub fn clone_values(alloc: Global, values: &[ScVal]) -> Result<Vec<ScVal>, ValueErr>
     ensures ok { IfOk result (λ v. v.items ≡ values.now) }
     ensures memory { IfErr result (λ e. e ≡ errs.NoMemory) }
 {

@@ -8,7 +8,7 @@ use Rattle.host_spec.specs.declared.error.HostErr.TheVariants as ends
 use Rattle.host_spec.specs.Acts.{Act, State, Out, Good, Failed, Spent, Says}
 use Rattle.host_spec.specs.Indices.{arguments_of}
 use Rattle.host_spec.specs.ValueFunctions.{value_rule, value_function}
-use Rattle.host_values.specs.Named.{import_named}
+use Rattle.host_interface.specs.Named.{import_named}
 
 -- ---- by the import
 

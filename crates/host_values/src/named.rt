@@ -4,12 +4,12 @@ ghost use Rattle.std.specs.Prelude.{◌≡◌, ℕ, List};
 ghost use Rattle.host_spec.specs.Acts.{state};
 ghost use Rattle.object_store.specs.Shown.{shown_of, AreIndices};
 ghost use Rattle.host_frame.specs.Made.{IsMemory};
-ghost use Rattle.host_values.specs.Named.{import_named};
+ghost use Rattle.host_interface.specs.Named.{import_named};
 ghost use Rattle.host_values.specs.Called.{IsNamedCall, HostCalls, function_named};
 
 use crate::call::call_function;
-use crate::names::import_named;
 use budget_meter::Budget;
+use host_interface::import_named;
 use host_spec::HostErr;
 use object_store::{Objects, Shown};
 

@@ -41,7 +41,7 @@ pub record Ended : Type 0 where
 abbrev pub without_changes : TransactionOutcome → Used → Ended
 without_changes outcome used = record { outcome = outcome; success = None; changes = []; extensions = []; used = used }
 
--- an outcome of nothing that ran
+-- the outcome of a transaction that ran no operation
 abbrev pub without_effect : TransactionOutcome → Ended
 without_effect outcome = without_changes outcome runs.nothing_used
 

@@ -44,7 +44,7 @@ Charges (Err ends.NoMemory) value before after = Unit {0}
 Charges (Err (ends.Undeclared key)) value before after = ⊥
 Charges (Err (ends.Archived key)) value before after = ⊥
 
--- The work with the charge for its value ends as its run over the map of the storage does, from a world outside all frames.
+-- `Ends` for a work followed by the charge for its value, over the storage's own map
 abbrev pub EndsCharged : {G : Type 0} → Work → Result ScVal HostErr → Host G → Host G → Type 0
 EndsCharged work r old new = (footprint : Footprint) → IsFootprint footprint.read_only footprint.read_write old.ledger.storage.declared → (rest : World)
     → (let out = after (done_under all_allowed old.ledger.header.now work) charging (world_around rest old []) in

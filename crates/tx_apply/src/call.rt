@@ -236,7 +236,8 @@ pub(crate) fn call<G: Ground>(
     requires read_write { All (λ key. key_format.fits key) resources.now.footprint.read_write }
     requires settings { IsTrue (are_settings header.now.settings) }
     requires next { IsTrue (has_next header.now) }
-    ensures done { IfOk result (λ done. ended_of done ≡ ended_of_call (G.map ground.now) resources.now.footprint (invoked header.now resources.now (G.map ground.now) function.now)) }
+    ensures done { IfOk result (λ done. ended_of done ≡ ended_of_call (G.map ground.now) resources.now.footprint
+        (invoked header.now resources.now (G.map ground.now) function.now)) }
     ensures can { IfOk result (λ done. CanEnd (ended_of done)) }
 {
     let n = header.seq + 1;

@@ -52,7 +52,8 @@ pub(crate) fn by_key(
     changes: &[contract_storage::Change],
 ) -> Result<BTreeMap<LedgerKey, Option<Kept>>, NoMemory>
     requires { All CanStand changes.now }
-    ensures leads { IfOk result (λ changed. (old new : LedgerMap) → AreDifferences old new changes.now → Leads old new changed.entries) }
+    ensures leads { IfOk result (λ changed. (old new : LedgerMap) → AreDifferences old new changes.now
+        → Leads old new changed.entries) }
     ensures lie { IfOk result (λ changed. AllByRecursion CanLie changed.entries) }
 {
     let mut changed = BTreeMap::new(alloc);
@@ -107,7 +108,8 @@ pub(crate) fn changes_at<G: Ground>(
 ) -> Result<Vec<Change>, NoMemory>
     requires fits { All (λ key. key_format.fits key) keys.now }
     requires lie { AllByRecursion CanLie changed.now.entries }
-    ensures changes { IfOk result (λ changes. (new : LedgerMap) → Leads (G.map ground.now) new changed.now.entries → changes.items ≡ changes_of new keys.now) }
+    ensures changes { IfOk result (λ changes. (new : LedgerMap) → Leads (G.map ground.now) new changed.now.entries
+        → changes.items ≡ changes_of new keys.now) }
     ensures can { IfOk result (λ changes. All CanChange changes.items) }
 {
     let mut changes = Vec::new(alloc);
@@ -127,7 +129,8 @@ fn extension<G: Ground>(
 ) -> Result<Option<Extension>, NoMemory>
     requires fits { key_format.fits key.now }
     requires lie { AllByRecursion CanLie changed.now.entries }
-    ensures { IfOk result (λ extension. extension ≡ extension_in key.now (find_in (G.map ground.now) key.now) (found_in (G.map ground.now) changed.now.entries key.now)) }
+    ensures { IfOk result (λ extension. extension ≡ extension_in key.now (find_in (G.map ground.now) key.now)
+        (found_in (G.map ground.now) changed.now.entries key.now)) }
 {
     let Some(old) = ground.find(key) else {
         return Ok(None);

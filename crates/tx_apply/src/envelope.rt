@@ -46,7 +46,8 @@ fn is_success(outcome: &TransactionOutcome) -> bool
 fn fee_bump_outcome(hash: Hash, outcome: TransactionOutcome) -> EnvelopeOutcome
     requires hash { hash_format.fits hash }
     requires outcome { outcome_format.fits outcome }
-    ensures value { result ≡ fee_bump_outcome_in outcome (record { hash = hash; result = record { fee_charged = pos 0; outcome = outcome } }) }
+    ensures value { result ≡ fee_bump_outcome_in outcome
+        (record { hash = hash; result = record { fee_charged = pos 0; outcome = outcome } }) }
     ensures fits { envelope_outcome_format.fits result }
 {
     let succeeded = is_success(&outcome);

@@ -47,7 +47,8 @@ pub fn may_extend(
 /// Whether the entry at a key is live in ledger `n` and expires before ledger `until`.
 fn ends_before<G: Ground>(ground: &G, n: u32, key: &LedgerKey, until: u32) -> bool
     requires { key_format.fits key.now }
-    ensures { extension_seen (seen n (G.map ground.now) key.now) key.now until ≡ (if result then Some (record { key = key.now; live_until = until }) else None) }
+    ensures { extension_seen (seen n (G.map ground.now) key.now) key.now until ≡ (if result then Some
+        (record { key = key.now; live_until = until }) else None) }
 {
     match ground.find(key) {
         Some(found) => found.live_until >= n && found.live_until < until,

@@ -21,6 +21,7 @@ use budget_meter::{Budget, Kind};
 use contract_call::{Host, NewContract, create, invoke, upload};
 use entry_lookup::Ground;
 use host_frame::{charge, size_of};
+use host_ledger::clone_values;
 use host_spec::{HostErr, ValueErr};
 use std::alloc::Global;
 use value_types::{Blob, Hash, ScAddress, ScVal};
@@ -51,14 +52,6 @@ fn contract_value(id: Hash) -> ScVal
 {
     hold_hash(id);
     ScVal::Address(ScAddress::Contract(id))
-}
-
-/// Clones values.
-fn clone_values(alloc: Global, values: &[ScVal]) -> Result<Vec<ScVal>, ValueErr>
-    ensures ok { IfOk result (λ v. v.items ≡ values.now) }
-    ensures memory { IfErr result (λ e. e ≡ ValueErr.NoMemory) }
-{
-    Ok(values.to_vec(alloc)?)
 }
 
 /// Calls a function of a contract.

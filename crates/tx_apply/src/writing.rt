@@ -59,7 +59,8 @@ fn all_changed_bytes<G: Ground>(ground: &G, n: u32, changes: &[Change]) -> u64
 /// Whether the XDR bytes that the changes write are more than `most`.
 pub(crate) fn writes_more<G: Ground>(ground: &G, n: u32, changes: &[Change], most: u32) -> bool
     requires { All CanStand changes.now }
-    ensures { (new : LedgerMap) → AreDifferences (G.map ground.now) new changes.now → result ≡ nat_lt most (written_bytes_in n (G.map ground.now) new) }
+    ensures { (new : LedgerMap) → AreDifferences (G.map ground.now) new changes.now
+        → result ≡ nat_lt most (written_bytes_in n (G.map ground.now) new) }
 {
     u64::from(most) < all_changed_bytes(ground, n, changes)
 }

@@ -63,10 +63,11 @@ impl Store {
         &self.memory
     }
 
-    /// Returns the bytes of the memory for writing.
+    /// Returns the bytes of the memory, 64 pages at most, for writing.
     pub fn memory_mut(&mut self) -> &mut [u8]
         ensures* writes_back { sem 𝓛 (LendsMemory self.entry result) }
         ensures value { result.now ≡ self.old.memory.bytes }
+        ensures small { length result.now ≤ 64 * 65536 }
     {
         &mut self.memory
     }

@@ -1,6 +1,6 @@
 //! Calls of exports, which pause at each call of an import.
 
-ghost use Rattle.std.specs.Prelude.{◌≡◌, ◌<◌, ◌++◌, ℕ, List, drop, length, replicate, slice_get, Option, Some, Ok, Err, IfOk, OnOk, OnErr};
+ghost use Rattle.std.specs.Prelude.{◌≡◌, ◌≤◌, ◌<◌, ◌*◌, ◌++◌, ℕ, List, drop, length, replicate, slice_get, Option, Some, Ok, Err, IfOk, OnOk, OnErr};
 ghost use Rattle.budget_meter.specs.Meter.{Meter};
 ghost use Rattle.wasm_spec.specs.declared.values.Value.TheVariants as value;
 ghost use Rattle.wasm_spec.specs.Stores.{answered};
@@ -190,11 +190,12 @@ impl<'a> Instance<'a> {
         self.running.store.memory()
     }
 
-    /// Returns the bytes of the memory for writing, while the call waits for an import's result.
+    /// Returns the bytes of the memory, 64 pages at most, for writing, while the call waits for an import's result.
     pub fn memory_mut(&mut self) -> &mut [u8]
         requires { (r : BlockType) × (self.old.phase ≡ CallPhase.Waiting r) }
         ensures* writes_back { sem 𝓛 (LendsMemory self.entry result) }
         ensures value { result.now ≡ self.old.store.memory.bytes }
+        ensures small { length result.now ≤ 64 * 65536 }
     {
         self.running.store.memory_mut()
     }

@@ -12,6 +12,7 @@ mod segments;
 mod trap;
 
 pub use error::StartErr;
+pub use export::function_named;
 pub use instance::{CallPhase, Event, Instance};
 pub use laws::{
     count_never_ends, each_spends, events_fold, never_breaks, same_with_more, sums_grow,

@@ -315,8 +315,11 @@ run-answer-requires g t c κs lives = (
     lives,
     (
       may_pay c.loop-instance.host c.step_to.new.budget c.loop-instance.invariant.0.ready,
-      event_arity c.args.module.now c.loop-instance.instance.source c.in-Ok-HostCall.field-0 c.in-Ok-HostCall.import c.as_slice.result.now (row_of c.row-row.result)
-          (c.in-Ok-HostCall.field-0-is ∙ ap (event.HostCall c.in-Ok-HostCall.import) (sym c.as_slice.ensures)) c.in-Ok-HostCall.ensures.names c.loop-instance.invariant.2 c.row-row.ensures,
+      (
+        event_arity c.args.module.now c.loop-instance.instance.source c.in-Ok-HostCall.field-0 c.in-Ok-HostCall.import c.as_slice.result.now (row_of c.row-row.result)
+            (c.in-Ok-HostCall.field-0-is ∙ ap (event.HostCall c.in-Ok-HostCall.import) (sym c.as_slice.ensures)) c.in-Ok-HostCall.ensures.names c.loop-instance.invariant.2 c.row-row.ensures,
+        c.memory_mut-memory.ensures.small,
+      ),
     ),
   ),
 )

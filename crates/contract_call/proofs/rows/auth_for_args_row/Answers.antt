@@ -5,5 +5,5 @@ use Rattle.contract_call.proofs.Answering.{does_row}
 use Rattle.contract_call.proofs.Counts.{just_two}
 use Rattle.contract_call.proofs.rows.auth_for_args_row.Goals as goal
 
-pub returns-in-len2-clause-does : goal.returns-in-len2-clause-does
-returns-in-len2-clause-does g c = does_row c.auth_for_args_in.result (kinds.Address ∷ kinds.Vec ∷ []) (λ _. require_auth_for_args) c.args.words.now _ c.args.host.now c.auth_for_args_in.new.ledger (just_two c.args.words.now c.requires.arity) c.auth_for_args_in.ensures
+pub returns-clause-does : goal.returns-clause-does
+returns-clause-does g c = does_row c.auth_for_args_in.result (kinds.Address ∷ kinds.Vec ∷ []) (λ _. require_auth_for_args) c.args.words.now _ c.args.host.now c.auth_for_args_in.new.ledger (just_two c.args.words.now c.requires.arity) c.auth_for_args_in.ensures

@@ -5,5 +5,5 @@ use Rattle.contract_call.proofs.Answering.{does_row}
 use Rattle.contract_call.proofs.Counts.{just_one}
 use Rattle.contract_call.proofs.rows.auth_row.Goals as goal
 
-pub returns-in-len1-clause-does : goal.returns-in-len1-clause-does
-returns-in-len1-clause-does g c = does_row c.auth_in.result (kinds.Address ∷ []) (λ _. require_auth) c.args.words.now _ c.args.host.now c.auth_in.new.ledger (just_one c.args.words.now c.requires.arity) c.auth_in.ensures
+pub returns-clause-does : goal.returns-clause-does
+returns-clause-does g c = does_row c.auth_in.result (kinds.Address ∷ []) (λ _. require_auth) c.args.words.now _ c.args.host.now c.auth_in.new.ledger (just_one c.args.words.now c.requires.arity) c.auth_in.ensures

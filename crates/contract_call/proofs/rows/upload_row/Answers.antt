@@ -5,5 +5,5 @@ use Rattle.contract_call.proofs.Answering.{does_row}
 use Rattle.contract_call.proofs.Counts.{just_one}
 use Rattle.contract_call.proofs.rows.upload_row.Goals as goal
 
-pub returns-in-len1-clause-does : goal.returns-in-len1-clause-does
-returns-in-len1-clause-does g c = does_row c.upload_in.result (kinds.Bytes ∷ []) (λ env. upload_wasm env) c.args.words.now _ c.args.host.now c.upload_in.new.ledger (just_one c.args.words.now c.requires.arity) c.upload_in.ensures
+pub returns-clause-does : goal.returns-clause-does
+returns-clause-does g c = does_row c.upload_in.result (kinds.Bytes ∷ []) (λ env. upload_wasm env) c.args.words.now _ c.args.host.now c.upload_in.new.ledger (just_one c.args.words.now c.requires.arity) c.upload_in.ensures

@@ -8,8 +8,8 @@ use Rattle.contract_call.proofs.Counts.{just_three}
 use Rattle.contract_call.proofs.Lending.{taken_in}
 use Rattle.contract_call.proofs.words.call_words.Goals as goal
 
-pub returns-in-len3-clause-takes : goal.returns-in-len3-clause-takes
-returns-in-len3-clause-takes g c rule =
+pub returns-clause-takes : goal.returns-clause-takes
+returns-clause-takes g c rule =
     let words = c.args.words.now in
     taken_in c.call_taken.result (λ env. answered (kinds.Address ∷ kinds.Symbol ∷ kinds.Vec ∷ []) (rule env) words) (λ env x. rule env x.contract x.function.items (datums x.args.items)) c.args.host.now c.call_taken.new.ledger c.call_taken.ensures.paid
     (λ env. subst (λ (ws : List ℕ). Takes c.call_taken.result (answered (kinds.Address ∷ kinds.Symbol ∷ kinds.Vec ∷ []) (rule env) ws) (λ x. rule env x.contract x.function.items (datums x.args.items)) (shown_of c.args.host.now.ledger.objects c.args.host.now.ledger.frame.shown) c.args.host.now.ledger.budget c.call_taken.new.ledger.budget)

@@ -9,8 +9,8 @@ use Rattle.contract_call.proofs.Counts.{just_four}
 use Rattle.contract_call.proofs.Lending.{taken_in}
 use Rattle.contract_call.proofs.words.construct_words.Goals as goal
 
-pub returns-in-len4-clause-takes : goal.returns-in-len4-clause-takes
-returns-in-len4-clause-takes g c opener =
+pub returns-clause-takes : goal.returns-clause-takes
+returns-clause-takes g c opener =
     let words = c.args.words.now in
     taken_in c.construct_taken.result (λ env. answered (kinds.Address ∷ kinds.Bytes ∷ kinds.Bytes ∷ kinds.Vec ∷ []) (create_contract_with_constructor env (opener env)) words) (λ env x. creates_here env (opener env) (creation_of x)) c.args.host.now c.construct_taken.new.ledger c.construct_taken.ensures.paid
     (λ env. subst (λ (ws : List ℕ). Takes c.construct_taken.result (answered (kinds.Address ∷ kinds.Bytes ∷ kinds.Bytes ∷ kinds.Vec ∷ []) (create_contract_with_constructor env (opener env)) ws) (λ x. creates_here env (opener env) (creation_of x)) (shown_of c.args.host.now.ledger.objects c.args.host.now.ledger.frame.shown) c.args.host.now.ledger.budget c.construct_taken.new.ledger.budget)

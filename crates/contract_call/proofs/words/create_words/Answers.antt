@@ -9,8 +9,8 @@ use Rattle.contract_call.proofs.Counts.{just_three}
 use Rattle.contract_call.proofs.Lending.{taken_in}
 use Rattle.contract_call.proofs.words.create_words.Goals as goal
 
-pub returns-in-len3-clause-takes : goal.returns-in-len3-clause-takes
-returns-in-len3-clause-takes g c opener =
+pub returns-clause-takes : goal.returns-clause-takes
+returns-clause-takes g c opener =
     let words = c.args.words.now in
     taken_in c.create_taken.result (λ env. answered (kinds.Address ∷ kinds.Bytes ∷ kinds.Bytes ∷ []) (create_contract env (opener env)) words) (λ env x. creates_here env (opener env) (creation_of x)) c.args.host.now c.create_taken.new.ledger c.create_taken.ensures.paid
     (λ env. subst (λ (ws : List ℕ). Takes c.create_taken.result (answered (kinds.Address ∷ kinds.Bytes ∷ kinds.Bytes ∷ []) (create_contract env (opener env)) ws) (λ x. creates_here env (opener env) (creation_of x)) (shown_of c.args.host.now.ledger.objects c.args.host.now.ledger.frame.shown) c.args.host.now.ledger.budget c.create_taken.new.ledger.budget)

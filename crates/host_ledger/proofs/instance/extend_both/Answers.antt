@@ -1,4 +1,4 @@
-use Rattle.host_ledger.proofs.Composing.{later_then}
+use Rattle.contract_storage.proofs.Going.{again}
 use Rattle.host_ledger.proofs.Living.{extend_stops, extend_goes}
 use Rattle.host_ledger.proofs.instance.extend_both.Goals as goal
 
@@ -8,7 +8,7 @@ returns-in-Ok-clause-does g c =
     c.instance_key.ensures.key c.code_key.ensures.key c.in-Ok.ensures.does c.in-Ok.ensures.later c.extend-in-Ok.ensures.does
 
 pub returns-in-Ok-clause-later : goal.returns-in-Ok-clause-later
-returns-in-Ok-clause-later g c = later_then c.args.storage.now c.extend.new.storage c.extend-in-Ok.new.storage c.in-Ok.ensures.later c.extend-in-Ok.ensures.later
+returns-in-Ok-clause-later g c = again c.args.storage.now c.extend.new.storage c.extend-in-Ok.new.storage c.in-Ok.ensures.later c.extend-in-Ok.ensures.later
 
 pub returns-clause-does : goal.returns-clause-does
 returns-clause-does g c = extend_stops c.in-Err.error c.args.contract c.args.code c.instance_key.result c.args.threshold c.args.extend_to c.args.storage.now c.extend.new.storage c.instance_key.ensures.key c.in-Err.ensures.does

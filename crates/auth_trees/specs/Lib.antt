@@ -1,0 +1,6 @@
+pub mod Pairs
+pub mod Demands
+pub mod Listed
+pub mod Flat
+pub mod Ready
+pub mod Kept

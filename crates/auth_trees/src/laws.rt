@@ -1,0 +1,30 @@
+//! Laws of demands and of snapshots.
+
+ghost use Rattle.std.specs.Prelude.{◌≡◌, ◌≤◌, ℕ, List, Bool, true, Option, Some, length};
+ghost use Rattle.std.specs.List.{slice_get};
+ghost use Rattle.value_types.specs.declared.address.ScAddress.{ScAddress};
+ghost use Rattle.invoke_types.specs.declared.function.Function.{Function};
+ghost use Rattle.auth_types.specs.declared.auth_entry.AuthEntry.{AuthEntry};
+ghost use Rattle.auth_trees.specs.declared.demand.Demand.TheVariants.{Matched};
+ghost use Rattle.auth_trees.specs.Demands.{Marked, authorises, demand, after_demand, restored, IsLater};
+
+/// An entry that meets a demand is there, and is one of the demanded address.
+pub fn matched_is_of_address()
+    ensures { (s : Marked) (path : List ℕ) (caller : Option ScAddress) (address : ScAddress) (function : Function) (index : ℕ) (first : Bool)
+        → demand s path caller address function ≡ Matched index first
+        → (entry : AuthEntry) × (slice_get s.entries index ≡ Some entry) × (authorises s.source address entry ≡ true) }
+{}
+
+/// A restore to a snapshot gives the state that the marks had at the snapshot.
+pub fn restore_goes_back()
+    ensures { (start later : Marked) → IsLater start later → restored (length start.pairs) later ≡ start }
+{}
+
+/// A state is later than those before it, through demands and through restores to snapshots that are not older.
+pub fn later_is_later()
+    ensures itself { (s : Marked) → IsLater s s }
+    ensures again { (s t u : Marked) → IsLater s t → IsLater t u → IsLater s u }
+    ensures demand { (s : Marked) (path : List ℕ) (caller : Option ScAddress) (address : ScAddress) (function : Function)
+        → IsLater s (after_demand s path caller address function) }
+    ensures restore { (s t : Marked) (count : ℕ) → IsLater s t → length s.pairs ≤ count → IsLater s (restored count t) }
+{}

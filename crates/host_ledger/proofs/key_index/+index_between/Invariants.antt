@@ -1,5 +1,0 @@
-use Rattle.std.proofs.Common.{◌-◌}
-use Rattle.host_ledger.proofs.key_index.+index_between.Given as goal
-
-abbrev pub decreases-index_between : goal.decreases-index_between
-decreases-index_between l = l.to - l.from
