@@ -128,12 +128,12 @@ module _ (header : Header) (entries : LedgerMap) (envelope : Envelope) (extend_t
       (ap (runs.changes_of good.entries) (unwritten allowed))
       (all_exact (next_seq header) (next_seq header + extend_to) entries (declared_by envelope).read_only)
 
-  first_extends : (operations : List Operation) → map (λ operation. operation.body) operations ≡ ExtendFootprintTtl extend_to ∷ []
-      → first_performed header entries (transaction_in envelope) operations ≡ extended header entries (declared_by envelope) extend_to
-  first_extends [] e = absurd cc
-  first_extends (operation ∷ rest) e =
+  first_extends : (verdicts : Verdicts) (operations : List Operation) → map (λ operation. operation.body) operations ≡ ExtendFootprintTtl extend_to ∷ []
+      → first_performed header verdicts entries (transaction_in envelope) operations ≡ extended header entries (declared_by envelope) extend_to
+  first_extends verdicts [] e = absurd cc
+  first_extends verdicts (operation ∷ rest) e =
       let is : operation.body ≡ ExtendFootprintTtl extend_to = cc in
-      ap (performed header entries (transaction_in envelope)) is
+      ap (performed header verdicts entries (transaction_in envelope) operation.source) is
 
   passed : (o : Option TransactionOutcome) (effect : Effect) → o ≡ None → runs.unless_refused (option_map (result_pair header.network_id envelope) o) effect ≡ effect
   passed None effect e = refl
@@ -142,5 +142,5 @@ module _ (header : Header) (entries : LedgerMap) (envelope : Envelope) (extend_t
   pub extension_exact : (verdicts : Verdicts) → Extends header envelope extend_to → enforced header verdicts entries envelope ≡ extension_effect header entries envelope extend_to
   extension_exact verdicts is =
       passed (refusal_of header (transaction_in envelope)) (runs.effect_of entries envelope (whole header verdicts entries envelope)) is.passes
-      ∙ ap (λ (p : Performed). runs.effect_of entries envelope (judged header envelope p)) (first_extends (transaction_in envelope).operations is.operation)
+      ∙ ap (λ (p : Performed). runs.effect_of entries envelope (judged header envelope p)) (first_extends verdicts (transaction_in envelope).operations is.operation)
       ∙ extended_effect is.allowed

@@ -3,6 +3,7 @@ use Rattle.std.specs.Option.{option_map}
 use Rattle.std.proofs.Common.{◌≡◌, ℕ, Bool, true, false, ◌||◌, is_some, List, [], ◌∷◌, ◌++◌, Option, Some, None, if◌then◌else◌, refl, sym, ap, ◌∙◌}
 use Rattle.ledger_types.specs.declared.header.Header.{Header}
 use Rattle.ledger_types.specs.declared.verdicts.Verdicts.{Verdicts}
+use Rattle.tx_parts.specs.declared.account.MuxedAccount.{MuxedAccount}
 use Rattle.tx_xdr.specs.declared.transaction.Footprint.{Footprint}
 use Rattle.tx_xdr.specs.declared.transaction.Operation.{Operation}
 use Rattle.tx_xdr.specs.declared.transaction.OperationBody.{OperationBody}
@@ -19,11 +20,11 @@ use Rattle.stage_runs.specs.Maps.{Bytes, LedgerKey, LedgerMap, AgreeOn, has_byte
 use Rattle.stage_runs.specs.Transactions.{footprint_in, declares, declared_by, IsFramed}
 use Rattle.stage_runs.specs.Whole.{AreAlike, IsLocal, RefusesTwice, has_twice}
 use Rattle.stage_runs.proofs.Wholes.{enforced_framed}
-use Rattle.call_spec.specs.World.{next_seq}
+use Rattle.call_spec.specs.World.{next_seq, Authority}
 use Rattle.call_spec.specs.Invoked.{declared}
 use Rattle.call_spec.proofs.Framed.{frame_law}
 use Rattle.apply_spec.specs.Checks.{footprint_of, first_failed, form_checks, may_be_footprint, refusal_of}
-use Rattle.apply_spec.specs.Enforced.{Performed, is_success, unmetered, all_lengthened, extended, may_extend, outcome_of_call, called, performed, first_performed, judged, whole, refusal, result_pair, enforced}
+use Rattle.apply_spec.specs.Enforced.{Performed, is_success, unmetered, all_lengthened, extended, may_extend, outcome_of_call, authority_of, called, performed, first_performed, judged, whole, refusal, result_pair, enforced}
 use Rattle.apply_spec.proofs.Lengthened.{lengthened_at, found_all}
 
 -- ---- the run is local
@@ -58,22 +59,24 @@ module _ (keys : Bytes → Bool) (header : Header) (m n : LedgerMap) (agree : Ag
       (same_unmetered _)
 
 -- a call by the transaction, whose declared keys are those of its resources
-same_called : (header : Header) (ext : TransactionExt) (m n : LedgerMap) → AgreeOn (declared_in ext) m n → (function : HostFunction)
-    → SameEnd (declared_in ext) (called header m ext function) (called header n ext function)
-same_called header exts.None m n agree function = same_unmetered (declared_in exts.None) header m n agree Malformed
-same_called header (exts.Soroban resources) m n agree function =
-    let same = frame_law header resources function m n agree in
+same_called : (header : Header) (authority : Authority) (ext : TransactionExt) (m n : LedgerMap) → AgreeOn (declared_in ext) m n → (function : HostFunction)
+    → SameEnd (declared_in ext) (called header authority m ext function) (called header authority n ext function)
+same_called header authority exts.None m n agree function = same_unmetered (declared_in exts.None) header m n agree Malformed
+same_called header authority (exts.Soroban resources) m n agree function =
+    let same = frame_law header authority resources function m n agree in
     record { outcome = ap outcome_of_call same.result; success = same.success; agree = same.maps.agree; used = same.used }
 
-module _ (header : Header) (tx : Transaction) (m n : LedgerMap) (agree : AgreeOn (declared_in tx.ext) m n) where
-  same_performed : (body : OperationBody) → SameEnd (declared_in tx.ext) (performed header m tx body) (performed header n tx body)
-  same_performed (ExtendFootprintTtl extend_to) = same_extended (declared_in tx.ext) header m n agree (footprint_of tx) extend_to
-  same_performed RestoreFootprint = same_unmetered (declared_in tx.ext) header m n agree _
-  same_performed (InvokeHostFunction host_function auth) = same_called header tx.ext m n agree host_function
+module _ (header : Header) (verdicts : Verdicts) (tx : Transaction) (m n : LedgerMap) (agree : AgreeOn (declared_in tx.ext) m n) where
+  same_performed : (source : Option MuxedAccount) (body : OperationBody)
+      → SameEnd (declared_in tx.ext) (performed header verdicts m tx source body) (performed header verdicts n tx source body)
+  same_performed source (ExtendFootprintTtl extend_to) = same_extended (declared_in tx.ext) header m n agree (footprint_of tx) extend_to
+  same_performed source RestoreFootprint = same_unmetered (declared_in tx.ext) header m n agree _
+  same_performed source (InvokeHostFunction host_function auth) = same_called header (authority_of verdicts tx source auth) tx.ext m n agree host_function
 
-  same_first : (operations : List Operation) → SameEnd (declared_in tx.ext) (first_performed header m tx operations) (first_performed header n tx operations)
+  same_first : (operations : List Operation)
+      → SameEnd (declared_in tx.ext) (first_performed header verdicts m tx operations) (first_performed header verdicts n tx operations)
   same_first [] = same_unmetered (declared_in tx.ext) header m n agree _
-  same_first (operation ∷ rest) = same_performed operation.body
+  same_first (operation ∷ rest) = same_performed operation.source operation.body
 
 same_judged : (keys : Bytes → Bool) (header : Header) (envelope : Envelope) (a b : Performed) → SameEnd keys a b → AreAlike keys (judged header envelope a) (judged header envelope b)
 same_judged keys header envelope a b h = record {
@@ -87,7 +90,7 @@ same_judged keys header envelope a b h = record {
 whole_local : (header : Header) (verdicts : Verdicts) → IsLocal (whole header verdicts)
 whole_local header verdicts m n envelope agree =
     same_judged (declares envelope) header envelope _ _
-    (same_first header (transaction_in envelope) m n agree (transaction_in envelope).operations)
+    (same_first header verdicts (transaction_in envelope) m n agree (transaction_in envelope).operations)
 
 -- ---- the checks reject a transaction that declares a key twice
 

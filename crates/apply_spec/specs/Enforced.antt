@@ -2,9 +2,11 @@
 -- after CAP-0015, CAP-0046-05 and CAP-0046-12). What becomes of a call is defined in call_spec.
 use Rattle.std.specs.Prelude.{ℕ, pos, ◌+◌, Bool, true, false, ◌&&◌, List, [], ◌∷◌, Option, None, length, nat_lt, ◌==◌, if◌then◌else◌}
 use Rattle.std.specs.List.{list_all, fold}
-use Rattle.std.specs.Option.{option_map}
+use Rattle.std.specs.Option.{option_map, unwrap_or}
 use Rattle.budget_meter.specs.declared.budget.Used.{Used}
 use Rattle.value_types.specs.declared.hash.Hash.{Hash}
+use Rattle.value_types.specs.declared.account_id.AccountId.{AccountId}
+use Rattle.auth_types.specs.declared.auth_entry.AuthEntry.{AuthEntry}
 use Rattle.invoke_types.specs.declared.host_function.HostFunction.{HostFunction}
 use Rattle.invoke_types.specs.declared.success.SuccessPreimage.{SuccessPreimage}
 use Rattle.ledger_types.specs.declared.key.LedgerKey.{LedgerKey}
@@ -12,6 +14,8 @@ use Rattle.ledger_types.specs.declared.key.LedgerKey.TheVariants.{Account, Trust
 use Rattle.ledger_types.specs.declared.header.Header.{Header}
 use Rattle.ledger_types.specs.declared.header.Settings.{Settings}
 use Rattle.ledger_types.specs.declared.verdicts.Verdicts.{Verdicts}
+use Rattle.tx_parts.specs.declared.account.MuxedAccount.{MuxedAccount}
+use Rattle.tx_parts.specs.declared.account.MuxedAccount.TheVariants.{Ed25519, MuxedEd25519}
 use Rattle.tx_xdr.specs.declared.transaction.Footprint.{Footprint}
 use Rattle.tx_xdr.specs.declared.transaction.Operation.{Operation}
 use Rattle.tx_xdr.specs.declared.transaction.OperationBody.{OperationBody}
@@ -40,7 +44,7 @@ use Rattle.ledger_spec.specs.Changes.{raise}
 use Rattle.ledger_spec.specs.Seen.{Seen, live, absent, archived, seen}
 use Rattle.stage_runs.specs.Transactions.{Step}
 use Rattle.stage_runs.specs.Whole as runs
-use Rattle.call_spec.specs.World.{next_seq}
+use Rattle.call_spec.specs.World.{next_seq, Authority}
 use Rattle.call_spec.specs.Invoked.{Invoked, invoked}
 use Rattle.apply_spec.specs.Checks.{footprint_of, refusal_of}
 
@@ -152,23 +156,37 @@ outcome_of_call result = Failed (Inner (Invoke result) ∷ [])
 abbrev pub performed_call : Invoked → Performed
 performed_call end = record { outcome = outcome_of_call end.result; success = end.success; entries = end.entries; used = end.used }
 
+-- the account without the id of a muxed account
+abbrev pub account_of : MuxedAccount → AccountId
+account_of (Ed25519 key) = record { 0 = key }
+account_of (MuxedEd25519 id key) = record { 0 = key }
+
+-- the account that is an operation's source; without one, the transaction's
+abbrev pub source_of : Transaction → Option MuxedAccount → AccountId
+source_of tx source = account_of (unwrap_or source tx.source)
+
+-- what may meet demands in an operation of the transaction with this source and these entries
+abbrev pub authority_of : Verdicts → Transaction → Option MuxedAccount → List AuthEntry → Authority
+authority_of verdicts tx source auth = record { entries = auth; source = source_of tx source; verdicts = verdicts }
+
 -- The call has the resources that the transaction declares. The checks reject a transaction without Soroban data.
-abbrev pub called : Header → LedgerMap → TransactionExt → HostFunction → Performed
-called header entries exts.None function = unmetered Malformed entries
-called header entries (exts.Soroban resources) function = performed_call (invoked header resources entries function)
+abbrev pub called : Header → Authority → LedgerMap → TransactionExt → HostFunction → Performed
+called header authority entries exts.None function = unmetered Malformed entries
+called header authority entries (exts.Soroban resources) function = performed_call (invoked header authority resources entries function)
 
 -- ---- the run of a transaction, and its effect
 
--- the only operation
-abbrev pub performed : Header → LedgerMap → Transaction → OperationBody → Performed
-performed header entries tx (ExtendFootprintTtl extend_to) = extended header entries (footprint_of tx) extend_to
-performed header entries tx RestoreFootprint = failed entries NotSupported
-performed header entries tx (InvokeHostFunction host_function auth) = called header entries tx.ext host_function
+-- the only operation, with this source
+abbrev pub performed : Header → Verdicts → LedgerMap → Transaction → Option MuxedAccount → OperationBody → Performed
+performed header verdicts entries tx source (ExtendFootprintTtl extend_to) = extended header entries (footprint_of tx) extend_to
+performed header verdicts entries tx source RestoreFootprint = failed entries NotSupported
+performed header verdicts entries tx source (InvokeHostFunction host_function auth) =
+    called header (authority_of verdicts tx source auth) entries tx.ext host_function
 
 -- the first operation; the checks reject a transaction without one
-abbrev pub first_performed : Header → LedgerMap → Transaction → List Operation → Performed
-first_performed header entries tx [] = unmetered MissingOperation entries
-first_performed header entries tx (operation ∷ rest) = performed header entries tx operation.body
+abbrev pub first_performed : Header → Verdicts → LedgerMap → Transaction → List Operation → Performed
+first_performed header verdicts entries tx [] = unmetered MissingOperation entries
+first_performed header verdicts entries tx (operation ∷ rest) = performed header verdicts entries tx operation.source operation.body
 
 -- the run of an envelope, by that of its transaction
 abbrev pub judged : Header → Envelope → Performed → runs.JudgedRun
@@ -180,11 +198,10 @@ judged header envelope done = record {
   used = done.used;
 }
 
--- The run of an envelope over the whole map. A fee bump's inner transaction runs as if alone. Fees are not judged. No
--- operation asks for a verdict yet.
+-- The run of an envelope over the whole map. A fee bump's inner transaction runs as if alone. Fees are not judged.
 abbrev pub whole : Header → Verdicts → runs.JudgedStep
 whole header verdicts entries envelope =
-    judged header envelope (first_performed header entries (transaction_in envelope) (transaction_in envelope).operations)
+    judged header envelope (first_performed header verdicts entries (transaction_in envelope) (transaction_in envelope).operations)
 
 -- The effect of an envelope. If a check fails, it is the result alone. Otherwise it is what the run changes at the declared keys.
 abbrev pub enforced : Header → Verdicts → Step

@@ -5,6 +5,7 @@ use Rattle.ledger_types.specs.declared.verdicts.Verdicts.{Verdicts}
 use Rattle.auth_types.specs.declared.auth_entry.AuthEntry.{AuthEntry}
 use Rattle.invoke_types.specs.declared.host_function.HostFunction.{HostFunction}
 use Rattle.tx_xdr.specs.declared.envelope.Envelope.{Envelope}
+use Rattle.tx_xdr.specs.declared.transaction.Operation.{Operation}
 use Rattle.tx_xdr.specs.declared.transaction.SorobanData.{SorobanData}
 use Rattle.tx_xdr.specs.declared.transaction.TransactionExt.TheVariants as exts
 use Rattle.tx_xdr.specs.declared.transaction.OperationBody.TheVariants.{InvokeHostFunction, ExtendFootprintTtl}
@@ -20,7 +21,7 @@ use Rattle.stage_runs.specs.Whole as runs
 use Rattle.call_spec.specs.World.{next_seq}
 use Rattle.apply_spec.specs.Checks.{refusal_of}
 use Rattle.call_spec.specs.Invoked.{Invoked, invoked}
-use Rattle.apply_spec.specs.Enforced.{enforced, may_extend, outcome_of_call, result_pair}
+use Rattle.apply_spec.specs.Enforced.{authority_of, enforced, may_extend, outcome_of_call, result_pair}
 use Rattle.apply_spec.specs.Extending.{extensions_of}
 
 -- The effect of an envelope depends on its declared keys alone, and is at those keys alone.
@@ -48,10 +49,11 @@ ExtensionLaw = (header : Header) (verdicts : Verdicts) (entries : LedgerMap) (en
 
 -- ---- calls
 
--- The envelope's transaction passes its checks, and calls this host function with these resources.
-pub record Invokes (header : Header) (envelope : Envelope) (resources : SorobanData) (function : HostFunction) (auth : List AuthEntry) : Type 0 where
+-- The envelope's transaction passes its checks. Its only operation calls this host function with these authorisation entries and resources.
+pub record Invokes (header : Header) (envelope : Envelope) (resources : SorobanData) (operation : Operation) (function : HostFunction) (auth : List AuthEntry) : Type 0 where
   pub passes : refusal_of header (transaction_in envelope) ≡ None
-  pub operation : map (λ only. only.body) (transaction_in envelope).operations ≡ InvokeHostFunction function auth ∷ []
+  pub only : (transaction_in envelope).operations ≡ operation ∷ []
+  pub calls : operation.body ≡ InvokeHostFunction function auth
   pub with_resources : (transaction_in envelope).ext ≡ exts.Soroban resources
 
 -- The result, the success preimage and the sums are those of the call. Only after SUCCESS it has a change at each read-write key, and extensions at
@@ -65,8 +67,11 @@ effect_of_call header entries envelope end = record {
   used = end.used;
 }
 
--- Such an envelope has the effect of what becomes of the call.
+-- Such an envelope has the effect of what becomes of the call. The authority is that of the operation: its entries, its source account or else the
+-- transaction's, and the verdicts.
 abbrev pub InvokeLaw : Type 0
 InvokeLaw = (header : Header) (verdicts : Verdicts) (entries : LedgerMap) (envelope : Envelope)
-    → (resources : SorobanData) (function : HostFunction) (auth : List AuthEntry) → Invokes header envelope resources function auth
-    → enforced header verdicts entries envelope ≡ effect_of_call header entries envelope (invoked header resources entries function)
+    → (resources : SorobanData) (operation : Operation) (function : HostFunction) (auth : List AuthEntry)
+    → Invokes header envelope resources operation function auth
+    → (let authority = authority_of verdicts (transaction_in envelope) operation.source auth in
+    enforced header verdicts entries envelope ≡ effect_of_call header entries envelope (invoked header authority resources entries function))

@@ -11,13 +11,12 @@ use Rattle.value_types.specs.declared.address.ScAddress.TheVariants.{Contract}
 use Rattle.value_types.specs.declared.executable.Executable.TheVariants.{Wasm}
 use Rattle.value_types.specs.declared.value.ScVal.{ScVal}
 use Rattle.value_types.specs.declared.value.ScVal.TheVariants.{ContractInstance, LedgerKeyContractInstance}
-use Rattle.ledger_types.specs.Key.{key_format}
 use Rattle.ledger_types.specs.Entry.{entry_format, body_format}
 use Rattle.ledger_types.specs.ContractEntries.{data_format, code_format}
 use Rattle.ledger_types.specs.declared.durability.Durability.TheVariants.{Persistent}
 use Rattle.ledger_types.specs.declared.entry.LedgerEntry.{LedgerEntry}
 use Rattle.host_spec.specs.MapRows.{Member}
-use Rattle.call_spec.specs.Keys.{data_entry_of, instance_key, instance_entry, code_key, code_entry}
+use Rattle.call_spec.specs.Keys.{data_entry_of, instance_entry, code_entry}
 use Rattle.host_ledger.specs.Worlds.{IsHeld}
 use Rattle.host_frame.proofs.Fitting.{shallow_fits}
 use Rattle.host_ledger.proofs.Keys.{durability_fits}

@@ -10,7 +10,7 @@ use budget_meter::{Budget, Kind};
 use host_spec::HostErr;
 
 /// Charges the budget. It fails only if a limit would be exceeded.
-pub(crate) fn pay(budget: &mut Budget, kind: Kind, input: u64) -> Result<(), HostErr>
+pub fn pay(budget: &mut Budget, kind: Kind, input: u64) -> Result<(), HostErr>
     ensures does { Charges result (λ u. u) (lift (charged kind input)) budget.old budget.new }
     ensures spent { IfErr result (λ e. e ≡ ends.Spent) }
 {

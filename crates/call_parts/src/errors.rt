@@ -39,6 +39,3 @@ pub(crate) const HIDDEN_ERROR: HostErr = HostErr::Failed(ScError::Context(
 pub(crate) const INVALID_VALUE: HostErr = HostErr::Failed(ScError::Value(
     ScErrorCode::InvalidInput,
 ));
-
-/// No authorisation meets the demand.
-pub(crate) const DENIED: HostErr = HostErr::Failed(ScError::Auth(ScErrorCode::InvalidAction));

@@ -12,7 +12,6 @@
 mod accesses;
 mod charges;
 mod codes;
-mod demands;
 mod entries;
 mod errors;
 mod frames;
@@ -20,8 +19,8 @@ mod ids;
 mod instances;
 mod modules;
 
+pub use charges::pay;
 pub use codes::{find_code, upload};
-pub use demands::demand;
 pub use frames::{charge_run, returned_value, show_args};
 pub use ids::new_id;
 pub use instances::{clone_copy, find_instance, is_same, make_instance, write_instance};

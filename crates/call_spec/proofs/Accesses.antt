@@ -16,13 +16,15 @@ use Rattle.ledger_spec.specs.Seen.{Seen, live, absent, archived, seen, seen_of, 
 use Rattle.ledger_spec.specs.Changes.{asked_life, longer as longer_by}
 use Rattle.stage_runs.specs.Maps.{set_at}
 use Rattle.stage_runs.proofs.Points.{left_false, found_set}
-use Rattle.call_spec.specs.World.{AccessKind, Read, Extend, Write, Judge, Access, World, Env}
+use Rattle.call_spec.specs.World.{AccessKind, Read, Extend, Write, Judge, Access, World, Env, Authority}
 use Rattle.wasm_machine.specs.Spending.{IsLater}
 use Rattle.wasm_machine.proofs.Spends.{same}
 use Rattle.host_spec.specs.Acts as values
 use Rattle.call_spec.proofs.Sums.{charged_rises}
 use Rattle.call_spec.specs.Acts.{Act, world_of, then_do, with_state, state_of, lifted, lift}
 use Rattle.call_spec.specs.Accesses.{put_kept, Effect, answers, leaves, refuses, costs, effected, access_of, noted, by_seen, judged, access}
+use Rattle.auth_types.specs.declared.credentials.AddressCredentials.{AddressCredentials}
+use Rattle.call_spec.specs.Asking.{nonce_key, nonce_entry, is_valid_until}
 use Rattle.call_spec.specs.Footprints.{allows, first_rejected}
 use Rattle.call_spec.specs.WholeRuns.{all_allowed}
 use Rattle.call_spec.specs.Laws.{Maps, is_write, writes_in, IsExtended}
@@ -31,12 +33,12 @@ use Rattle.call_spec.proofs.Acts.{Continues, continues_refl, continues_trans, So
 -- ---- the two runs' surroundings
 
 -- every access is allowed
-abbrev pub free : Header → Env
-free header = record { header = header; judge = all_allowed }
+abbrev pub free : Header → Authority → Env
+free header authority = record { header = header; authority = authority; judge = all_allowed }
 
 -- the judge decides
-abbrev pub held : Judge → Header → Env
-held may header = record { header = header; judge = may }
+abbrev pub held : Judge → Header → Authority → Env
+held may header authority = record { header = header; authority = authority; judge = may }
 
 -- ---- writes at a key that may be read
 
@@ -104,13 +106,16 @@ PutsFound P key Read effect = Unit {0}
 PutsFound P key Extend effect = (found : Option Kept) → IsFineAt P key found → Puts P key (effect found)
 PutsFound P key Write effect = (found : Option Kept) → IsFineAt P key found → Puts P key (effect found)
 
--- what is watched holds of entries that are extended and of those that are put
+-- what is watched holds of entries that are extended, of those that are put, and of nonces
 pub record Fair (header : Header) (P : Watch) : Type 0 where
   pub numbered : P.number ≡ header.seq + 1
   pub longer : (q : List ℕ) (kept : Kept) (threshold extend_to life : ℕ) → asked_life header.settings (header.seq + 1) kept.entry extend_to ≡ Some life
       → P.is q kept → P.is q (longer_by (header.seq + 1) kept threshold life)
   pub put : (entry : LedgerEntry) (found : Option Kept) → HasCodeHash entry.data → IsFineAt P (key_of entry) found
       → P.is (key_bytes (key_of entry)) (put_kept header.settings (header.seq + 1) entry found)
+  pub nonce : (signer : AddressCredentials) → is_valid_until (header.seq + 1) header.settings.max_entry_ttl signer.signature_expiration_ledger ≡ true
+      → P.is (key_bytes (nonce_key signer.address signer.nonce))
+      (record { entry = nonce_entry (header.seq + 1) signer.address signer.nonce; live_until = signer.signature_expiration_ledger })
 
 still_puts : {A : Type 0} (P : Watch) (key : LedgerKey) (effect : Effect A) → Still effect → Puts P key effect
 still_puts P key (answers a) h = tt
@@ -332,9 +337,9 @@ module _ (may : Judge) (m n : LedgerMap) (P : Watch) where
       not_before (access_of kind key w ∷ w.trace) (world_of (judged true number kind key effect w)).trace q (noted_grows kind key effect (seen number w.entries key) w) none in
       by_kind kind key effect g number w q (left_false (is_write kind && bytes_eq q (key_bytes key)) (writes_in w.trace q) before)
 
-  pub access_local : {A : Type 0} → Sound may → (header : Header) → Fair header P → (kind : AccessKind) (key : LedgerKey) (effect : Option Kept → Effect A) → GentleUnless kind effect → PutsFound P key kind effect
-      → Local may m n P (access (free header) kind key effect) (access (held may header) kind key effect)
-  access_local sound header fair kind key effect g k = record {
+  pub access_local : {A : Type 0} → Sound may → (header : Header) (authority : Authority) → Fair header P → (kind : AccessKind) (key : LedgerKey) (effect : Option Kept → Effect A) → GentleUnless kind effect → PutsFound P key kind effect
+      → Local may m n P (access (free header authority) kind key effect) (access (held may header authority) kind key effect)
+  access_local sound header authority fair kind key effect g k = record {
     same = λ w q maps clean. access_same sound (header.seq + 1) kind key effect w q maps clean (may kind (key_bytes key)) refl;
     grows = λ w. continues_trans _ _ _ (access_of kind key w ∷ [], refl) (noted_grows kind key effect (seen (header.seq + 1) w.entries key) w);
     quiet = λ w q none. access_quiet kind key effect g (header.seq + 1) w q none;

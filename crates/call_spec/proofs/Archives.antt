@@ -11,6 +11,8 @@ use Rattle.ledger_types.specs.Entry.{key_of}
 use Rattle.ledger_types.specs.declared.key.LedgerKey.{LedgerKey}
 use Rattle.ledger_types.specs.declared.entry.LedgerEntry.{LedgerEntry}
 use Rattle.ledger_types.specs.declared.header.Header.{Header}
+use Rattle.auth_types.specs.declared.credentials.AddressCredentials.{AddressCredentials}
+use Rattle.call_spec.specs.Asking.{nonce_entry}
 use Rattle.tx_xdr.specs.declared.transaction.Footprint.{Footprint}
 use Rattle.ledger_spec.specs.declared.Kept.{Kept}
 use Rattle.ledger_spec.specs.LedgerMap.{LedgerMap, key_bytes}
@@ -75,11 +77,18 @@ module _ (may : Judge) (header : Header) (least : 1 ≤ header.settings.min_pers
   put_unarchived entry (Some kept) f e =
       not_within (header.seq + 1) kept.live_until (parts (header.seq + 1) (put_kept header.settings (header.seq + 1) entry (Some kept)) e).0 f.1
 
+  nonce_unarchived : (signer : AddressCredentials)
+      → seen_of (header.seq + 1) (Some (record { entry = nonce_entry (header.seq + 1) signer.address signer.nonce; live_until = signer.signature_expiration_ledger })) ≡ archived → ⊥
+  nonce_unarchived signer e =
+      let p = parts (header.seq + 1) (record { entry = nonce_entry (header.seq + 1) signer.address signer.nonce; live_until = signer.signature_expiration_ledger }) e in
+      absurd (let temporary = p.1 in cc)
+
   unarchived_fair : Fair header (unarchived may header)
   unarchived_fair = record {
     numbered = refl;
     longer = λ q kept threshold extend_to life asked not shown e. not shown (was_archived (header.seq + 1) kept (longer (header.seq + 1) kept threshold life) (longer_extended (header.seq + 1) kept threshold life) e);
     put = λ entry found hash f shown e. put_unarchived entry found f e;
+    nonce = λ signer valid shown e. nonce_unarchived signer e;
   }
 
 -- ---- declared keys
@@ -131,8 +140,8 @@ end_told may P key w o e told clean =
     here (ap (λ x. first_rejected may (world_of x).trace) (sym e) ∙ clean)
 
 pub never_archived_law : NeverArchivedLaw
-never_archived_law header instructions work footprint entries key w least none clean e =
+never_archived_law header authority instructions work footprint entries key w least none clean e =
     let may : Judge = by_footprint footprint in
-    let left = run_fine may entries entries (unarchived may header) (footprint_sound footprint) header (unarchived_fair may header least) instructions work (start_fine (next_seq header) entries footprint none) in
-    let lost = end_told may (unarchived may header) key w (whole header instructions work entries) e left.1 clean in
+    let left = run_fine may entries entries (unarchived may header) (footprint_sound footprint) header authority (unarchived_fair may header least) instructions work (start_fine (next_seq header) entries footprint none) in
+    let lost = end_told may (unarchived may header) key w (whole header authority instructions work entries) e left.1 clean in
     lost.1 lost.2 lost.3

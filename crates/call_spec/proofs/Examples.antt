@@ -25,7 +25,6 @@ use Rattle.ledger_types.specs.declared.key.LedgerKey.{LedgerKey}
 use Rattle.ledger_types.specs.declared.header.Settings.{Settings}
 use Rattle.wasm_spec.specs.declared.module.Module.{Module}
 use Rattle.ledger_spec.specs.declared.Kept.{Kept}
-use Rattle.invoke_types.specs.declared.function.Function.{Function}
 use Rattle.std.specs.FinMap.{empty}
 use Rattle.ledger_spec.specs.Seen.{live, absent, archived}
 use Rattle.host_spec.specs.Acts.{charged}
@@ -43,7 +42,6 @@ use Rattle.call_spec.specs.Storage.{gets, extends, extend_contract_data_ttl}
 use Rattle.call_spec.specs.Creating.{makes_instance, constructs_if, creates_by}
 use Rattle.call_spec.specs.Frames.{Entered, passed_on}
 use Rattle.call_spec.specs.Calling.{Call, is_reserved, calls, undone, caught}
-use Rattle.call_spec.specs.Demands.{ByInvoker, Denied, demand}
 use Rattle.call_spec.specs.WholeRuns.{all_allowed}
 
 abbrev cost : ℕ → ℕ → LinearCost
@@ -77,7 +75,11 @@ abbrev pub hash : ℕ → Hash
 hash n = hash_of (replicate 31 0 ++ n ∷ [])
 
 abbrev pub env : Env
-env = record { header = record { network_id = hash 7; protocol = 23; seq = 100; close_time = 1000; settings = settings }; judge = all_allowed }
+env = record {
+  header = record { network_id = hash 7; protocol = 23; seq = 100; close_time = 1000; settings = settings };
+  authority = record { entries = []; source = record { 0 = hash 0 }; verdicts = record { pairs = [] } };
+  judge = all_allowed;
+}
 
 abbrev kept : Durability → ℕ → Kept
 kept durability live_until = record { entry = data_entry 50 (hash 0) (symbol (codes "ab")) durability (u32 0); live_until = live_until }
@@ -174,21 +176,6 @@ own-error = refl
 
 hidden-error : passed_on (errors.Storage codes_of.MissingValue) ≡ HIDDEN_ERROR
 hidden-error = refl
-
--- ---- demands
-
-module _ (function : Function) where
-  invoker : demand [] [] (Some (Contract (hash 1))) (Contract (hash 1)) function ≡ ByInvoker
-  invoker = refl
-
-  another : demand [] [] (Some (Contract (hash 1))) (Contract (hash 2)) function ≡ Denied
-  another = refl
-
-  by-none : demand [] [] None (Contract (hash 1)) function ≡ Denied
-  by-none = refl
-
-  account : demand [] [] (Some (Contract (hash 1))) (Account (record { 0 = hash 1 })) function ≡ Denied
-  account = refl
 
 -- ---- the order of tests
 

@@ -31,7 +31,7 @@ use Rattle.stage_runs.specs.Maps.{Bytes, has_bytes}
 use Rattle.stage_runs.specs.Whole.{nothing_used}
 use Rattle.call_spec.specs.Accesses.{entry_size}
 use Rattle.stage_runs.proofs.Points.{left_true, right_true}
-use Rattle.call_spec.specs.World.{Read, Judge, Access, World, next_seq}
+use Rattle.call_spec.specs.World.{Read, Judge, Access, World, next_seq, Authority}
 use Rattle.call_spec.specs.Acts.{Failure, Failed, Spent, Archived, Out, Good, Bad, Undeclared, world_of}
 use Rattle.call_spec.specs.Footprints.{by_footprint, first_rejected}
 use Rattle.call_spec.specs.WholeRuns.{Work, work_of, whole}
@@ -210,14 +210,14 @@ module _ (may : Judge) (n : ℕ) (resources : SorobanData) (one other : LedgerMa
   tests_same false true o p h = nothing_same ResourceLimitExceeded nothing_used nothing_used refl
   tests_same false false o p h = h
 
-work_same : (header : Header) (resources : SorobanData) (one other : LedgerMap) (work : Option Work) → Agree (by_footprint resources.footprint) one other
-    → AlikeInvoked (by_footprint resources.footprint) one other (by_work header resources one work) (by_work header resources other work)
-work_same header resources one other None agree = nothing_same (by_footprint resources.footprint) (next_seq header) resources one other agree Malformed nothing_used nothing_used refl
-work_same header resources one other (Some work) agree =
+work_same : (header : Header) (authority : Authority) (resources : SorobanData) (one other : LedgerMap) (work : Option Work) → Agree (by_footprint resources.footprint) one other
+    → AlikeInvoked (by_footprint resources.footprint) one other (by_work header authority resources one work) (by_work header authority resources other work)
+work_same header authority resources one other None agree = nothing_same (by_footprint resources.footprint) (next_seq header) resources one other agree Malformed nothing_used nothing_used refl
+work_same header authority resources one other (Some work) agree =
     let n : ℕ = next_seq header in
     let may : Judge = by_footprint resources.footprint in
-    let o : Out Datum = whole header resources.instructions work one in
-    let p : Out Datum = whole header resources.instructions work other in
+    let o : Out Datum = whole header authority resources.instructions work one in
+    let p : Out Datum = whole header authority resources.instructions work other in
     let same = declared_same one other resources.footprint agree in
     let after : Bool → ℕ → LedgerMap → Out Datum → Invoked = λ b r m x. if b then unsuccessful EntryArchived m nothing_used else if nat_lt resources.disk_read_bytes r then unsuccessful ResourceLimitExceeded m nothing_used else by_run n resources m x in
     subst (λ b. AlikeInvoked may one other (after (declares_archived n one resources.footprint) (read_bytes n one resources.footprint) one o) (after b (read_bytes n other resources.footprint) other p))
@@ -225,7 +225,7 @@ work_same header resources one other (Some work) agree =
     (subst (λ r. AlikeInvoked may one other (after (declares_archived n one resources.footprint) (read_bytes n one resources.footprint) one o) (after (declares_archived n one resources.footprint) r other p))
     (same_read n one other 0 (declared resources.footprint) same)
     (tests_same may n resources one other agree (declares_archived n one resources.footprint) (nat_lt resources.disk_read_bytes (read_bytes n one resources.footprint)) o p
-    (run_same may n resources one other agree o p refl (local_law header resources.instructions work resources.footprint one other agree))))
+    (run_same may n resources one other agree o p refl (local_law header authority resources.instructions work resources.footprint one other agree))))
 
 pub frame_law : FrameLaw
-frame_law header resources function one other agree = work_same header resources one other (work_of function) agree
+frame_law header authority resources function one other agree = work_same header authority resources one other (work_of function) agree

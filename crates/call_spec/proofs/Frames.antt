@@ -15,14 +15,15 @@ use Rattle.wasm_spec.specs.Runs.{Run, Normal, Branch, Return, Trap, Spent as Spe
 use Rattle.wasm_spec.specs.Meaning.{meaning}
 use Rattle.host_spec.specs.Words.{meaning as word_meaning}
 use Rattle.host_spec.specs.VecRows.{all_given}
-use Rattle.call_spec.specs.World.{Write, Judge, Frame, World}
+use Rattle.call_spec.specs.World.{Write, Judge, Frame, World, Authority}
 use Rattle.call_spec.specs.Acts.{Failure, Failed, Spent, Archived, Out, Good, Bad, Undeclared, Act, world_of, after, fails, lift}
 use Rattle.call_spec.specs.Accesses.{puts}
 use Rattle.call_spec.specs.Keys.{instance_key, instance_entry}
 use Rattle.call_spec.specs.Frames.{HostCalls, metered, asking, returned, runs, Entered, frame_of, paying_pages, runs_from, started, returned_value, writes_if, finished, with_frames, closed, in_frame, framed, Opener, with_opener}
 use Rattle.call_spec.specs.Calling.{undone, undoing, caught, catching}
+use Rattle.call_spec.specs.Asking.{denied, denying}
 use Rattle.call_spec.specs.Laws.{Maps, writes_in, IsExtended}
-use Rattle.call_spec.proofs.Acts.{Continues, Sound, Alike, Stopped, Same, Watch, Fine, Leaves, Local, extended_refl, Besides, good_local, bad_local, fails_local, after_local, with_local, frame_local, changed_local, lift_local, paying_local}
+use Rattle.call_spec.proofs.Acts.{Continues, Sound, Alike, Stopped, Same, Watch, Fine, Told, Leaves, Local, extended_refl, Besides, good_local, bad_local, fails_local, after_local, with_local, frame_local, changed_local, lift_local, paying_local}
 use Rattle.call_spec.proofs.Sums.{all_given_rises}
 use Rattle.call_spec.proofs.Cuts.{whole_later}
 use Rattle.wasm_machine.specs.Spending.{IsLater}
@@ -34,7 +35,7 @@ abbrev pub unwatched : Header → Watch
 unwatched header = record { number = header.seq + 1; is = λ q kept. Unit {0}; sums = Unit {0} }
 
 pub unwatched_fair : (header : Header) → Fair header (unwatched header)
-unwatched_fair header = record { numbered = refl; longer = λ q kept threshold extend_to life asked f. tt; put = λ entry found hash f. tt }
+unwatched_fair header = record { numbered = refl; longer = λ q kept threshold extend_to life asked f. tt; put = λ entry found hash f. tt; nonce = λ signer valid. tt }
 
 -- ---- failures that leave the world as it was
 
@@ -90,6 +91,46 @@ module _ (may : Judge) (m n : LedgerMap) (P : Watch) where
     quiet = λ w key none. undone_quiet w (act w) key (h.quiet w key) none;
     fine = λ w f. undone_fine w f (act w) (h.fine w f);
     later = λ q w. undone_later w.meter w (act w) (h.later q w);
+  }
+
+-- ---- failures that are failures of authorisation
+
+denied_world : {A : Type 0} (o : Out A) → world_of (denied o) ≡ world_of o
+denied_world (Good v u) = refl
+denied_world (Bad (Failed e) u) = refl
+denied_world (Bad Spent u) = refl
+denied_world (Bad (Archived key) u) = refl
+denied_world (Undeclared a u) = refl
+
+module _ (may : Judge) (m n : LedgerMap) (P : Watch) where
+  denied_bad : (A : Type 0) (d : Failure) (u v : World) → Alike may m n u v → Same {A = A} may m n (denied (Bad d u)) (denied (Bad d v))
+  denied_bad A (Failed e) u v h = (refl, h)
+  denied_bad A Spent u v h = (refl, h)
+  denied_bad A (Archived key) u v h = (refl, h)
+
+  denied_same : {A : Type 0} (o c : Out A) → Same may m n o c → Same may m n (denied o) (denied c)
+  denied_same o (Undeclared a v) h = subst (λ (w : World). Stopped may a v w.trace) (sym (denied_world o)) h
+  denied_same (Good a u) (Good b v) h = h
+  denied_same (Good a u) (Bad e v) h = absurd h
+  denied_same (Bad d u) (Good b v) h = absurd h
+  denied_same {A} (Bad d u) (Bad e v) h = subst (λ x. Same {A = A} may m n (denied (Bad d u)) (denied (Bad x v))) h.0 (denied_bad A d u v h.1)
+  denied_same (Undeclared c u) (Good b v) h = absurd h
+  denied_same (Undeclared c u) (Bad e v) h = absurd h
+
+  denied_told : {A : Type 0} (o : Out A) → Told may P o → Told may P (denied o)
+  denied_told (Good a u) h = tt
+  denied_told (Bad (Failed e) u) h = tt
+  denied_told (Bad Spent u) h = tt
+  denied_told (Bad (Archived key) u) h = h
+  denied_told (Undeclared a u) h = tt
+
+  pub denying_local : {A : Type 0} (act act' : Act A) → Local may m n P act act' → Local may m n P (denying act) (denying act')
+  denying_local act act' h = record {
+    same = λ w q maps clean. denied_same (act w) (act' (record w { entries = q })) (h.same w q maps clean);
+    grows = λ w. subst (λ (u : World). Continues w.trace u.trace) (sym (denied_world (act w))) (h.grows w);
+    quiet = λ w key. subst (λ (u : World). writes_in u.trace key ≡ false → IsExtended (get w.entries key) (get u.entries key)) (sym (denied_world (act w))) (h.quiet w key);
+    fine = λ w f. (subst (λ (u : World). Fine P u.entries) (sym (denied_world (act w))) (h.fine w f).0, denied_told (act w) (h.fine w f).1);
+    later = λ q w. subst (λ (u : World). IsLater w.meter u.meter) (sym (denied_world (act w))) (h.later q w);
   }
 
 -- ---- caught calls
@@ -272,18 +313,18 @@ module _ (may : Judge) (m n : LedgerMap) (P : Watch) where
       at (error e) = fails_local may m n P _
       at _ = good_local may m n P _
 
-  module _ (sound : Sound may) (header : Header) (fair : Fair header P) where
-    writes_local : (b : Bool) (f : Frame) → Local may m n P (writes_if b (free header) f) (writes_if b (held may header) f)
+  module _ (sound : Sound may) (header : Header) (authority : Authority) (fair : Fair header P) where
+    writes_local : (b : Bool) (f : Frame) → Local may m n P (writes_if b (free header authority) f) (writes_if b (held may header authority) f)
     writes_local false f = good_local may m n P tt
-    writes_local true f = access_local may m n P sound header fair Write (instance_key f.contract) (puts (free header) (instance_entry (header.seq + 1) f.contract f.copy) tt) tt (λ found. fair.put (instance_entry (header.seq + 1) f.contract f.copy) found tt)
+    writes_local true f = access_local may m n P sound header authority fair Write (instance_key f.contract) (puts (free header authority) (instance_entry (header.seq + 1) f.contract f.copy) tt) tt (λ found. fair.put (instance_entry (header.seq + 1) f.contract f.copy) found tt)
 
-    finished_local : (word : ℕ) → Local may m n P (finished (free header) word) (finished (held may header) word)
+    finished_local : (word : ℕ) → Local may m n P (finished (free header authority) word) (finished (held may header authority) word)
     finished_local word =
         after_local may m n P _ _ _ _ (frame_local may m n P _ _ (λ f. value_local (word_meaning f.shown word)))
         (λ d. after_local may m n P _ _ _ _ (frame_local may m n P _ _ (λ f. writes_local _ f)) (λ _. good_local may m n P d))
 
     pub framed_local : (host host' : Module → HostCalls) → ((x : Module) → HostsLocal may m n P (host x) (host' x)) → (e : Entered)
-        → Local may m n P (framed (free header) host e) (framed (held may header) host' e)
+        → Local may m n P (framed (free header authority) host e) (framed (held may header authority) host' e)
     framed_local host host' h e = in_frame_local may m n P e _ _ (after_local may m n P _ _ _ _ (started_local (host e.module_) (host' e.module_) (h e.module_) e) finished_local)
 
 -- ---- what opens frames

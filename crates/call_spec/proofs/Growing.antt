@@ -6,4 +6,4 @@ use Rattle.call_spec.proofs.Frames.{unwatched, unwatched_fair}
 use Rattle.call_spec.proofs.HostFunctions.{frames_rise}
 
 pub sums_grow_law : SumsGrowLaw
-sums_grow_law header room e w = frames_rise all_allowed w.entries w.entries (unwatched header) (λ kind k h. refl) header (unwatched_fair header) room e tt w
+sums_grow_law header authority room e w = frames_rise all_allowed w.entries w.entries (unwatched header) (λ kind k h. refl) header authority (unwatched_fair header) room e tt w

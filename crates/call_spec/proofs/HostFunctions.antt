@@ -1,9 +1,7 @@
 -- All host functions and the frames that call them, and whole runs, under a judge and under none.
-use Rattle.std.proofs.Common.{◌≡◌, ℕ, zero, suc, List, [], ◌∷◌, Option, Some, None, Result, Ok, Err, false, refl}
+use Rattle.std.proofs.Common.{◌≡◌, ℕ, zero, suc, List, Option, Some, None, false, refl}
 use Rattle.std.specs.FinMap.{get}
 use Rattle.std.specs.Option.{option_map}
-use Rattle.value_types.specs.Datum.{Datum}
-use Rattle.value_types.specs.declared.error.ScError.{ScError}
 use Rattle.ledger_types.specs.declared.header.Header.{Header}
 use Rattle.ledger_spec.specs.LedgerMap.{LedgerMap}
 use Rattle.wasm_spec.specs.declared.module.Module.{Module}
@@ -14,23 +12,22 @@ use Rattle.host_interface.specs.declared.import.HostImport.{HostImport}
 use Rattle.host_interface.specs.declared.import.HostImport.TheVariants as imports
 use Rattle.host_spec.specs.Indices.{arguments_of}
 use Rattle.host_spec.specs.Acts as values
-use Rattle.host_spec.specs.Hosted.{entry}
 use Rattle.host_spec.specs.ValueFunctions.{value_function}
-use Rattle.call_spec.specs.World.{Judge, World}
+use Rattle.call_spec.specs.World.{Judge, World, Authority}
 use Rattle.call_spec.specs.Acts.{Act, world_of}
 use Rattle.call_spec.specs.Rules.{Rule, call_of}
 use Rattle.call_spec.specs.Frames.{Entered, framed, Opener}
 use Rattle.call_spec.specs.HostFunctions.{world_rule, world_function, either, of_row, host_of, MOST_FRAMES, opener_of}
-use Rattle.call_spec.specs.WholeRuns.{Work, calling, uploading, creating, arguments_in, only_if_let_in, entering, does, performs, done_under, all_allowed, start_of, run_under, whole}
+use Rattle.call_spec.specs.WholeRuns.{Work, calling, uploading, creating, arguments_in, does, performs, done_under, all_allowed, start_of, run_under, whole}
 use Rattle.call_spec.specs.Laws.{Agree, writes_in, IsExtended}
 use Rattle.call_spec.proofs.Acts.{Sound, Same, Watch, Fine, Leaves, Local, good_local, fails_local, after_local, lift_local, paying_local}
 use Rattle.call_spec.proofs.Accesses.{free, held, Fair}
 use Rattle.wasm_machine.specs.Spending.{IsLater}
 use Rattle.call_spec.proofs.Sums.{FunctionRises, function_rises}
 use Rattle.call_spec.proofs.Frames.{undoing_local, HostsLocal, framed_local, OpenersLocal}
-use Rattle.call_spec.proofs.Rows.{RulesLocal, call_of_local, contract_event_local, frame_answer_local, fail_local, put_local, has_local, get_local, del_local, extend_local, extend_both_local, upload_local, uploads_local, update_local, id_local, calls_local, call_local, try_call_local, creates_local, creates_by_local, auth_local, auth_for_args_local}
+use Rattle.call_spec.proofs.Rows.{entering_local, RulesLocal, call_of_local, contract_event_local, frame_answer_local, fail_local, put_local, has_local, get_local, del_local, extend_local, extend_both_local, upload_local, uploads_local, update_local, id_local, calls_local, call_local, try_call_local, creates_local, creates_by_local, auth_local, auth_for_args_local}
 
-module _ (may : Judge) (m n : LedgerMap) (P : Watch) (sound : Sound may) (header : Header) (fair : Fair header P) where
+module _ (may : Judge) (m n : LedgerMap) (P : Watch) (sound : Sound may) (header : Header) (authority : Authority) (fair : Fair header P) where
   -- ---- functions
 
   abbrev RowsLocal : (ks : List ArgKind) → Option (Rule ks) → Option (Rule ks) → Type 0
@@ -57,7 +54,7 @@ module _ (may : Judge) (m n : LedgerMap) (P : Watch) (sound : Sound may) (header
   either_local None None h None r words = fails_local may m n P _
 
   module _ (opener opener' : Opener) (opens : OpenersLocal may m n P opener opener') where
-    rule_local : (i : HostImport) → RowsLocal (arguments_of i) (world_rule (free header) opener i) (world_rule (held may header) opener' i)
+    rule_local : (i : HostImport) → RowsLocal (arguments_of i) (world_rule (free header authority) opener i) (world_rule (held may header authority) opener' i)
     rule_local imports.ContractEvent = contract_event_local may m n P
     rule_local imports.GetLedgerVersion = good_local may m n P _
     rule_local imports.GetLedgerSequence = good_local may m n P _
@@ -66,81 +63,73 @@ module _ (may : Judge) (m n : LedgerMap) (P : Watch) (sound : Sound may) (header
     rule_local imports.GetCurrentContractAddress = frame_answer_local may m n P _
     rule_local imports.GetMaxLiveUntilLedger = good_local may m n P _
     rule_local imports.FailWithError = fail_local may m n P
-    rule_local imports.PutContractData = put_local may m n P sound header fair
-    rule_local imports.HasContractData = has_local may m n P sound header fair
-    rule_local imports.GetContractData = get_local may m n P sound header fair
-    rule_local imports.DelContractData = del_local may m n P sound header fair
-    rule_local imports.ExtendContractDataTtl = extend_local may m n P sound header fair
-    rule_local imports.ExtendCurrentContractInstanceAndCodeTtl = extend_both_local may m n P sound header fair
-    rule_local imports.UploadWasm = upload_local may m n P sound header fair
-    rule_local imports.CreateContract = λ deployer code salt. creates_by_local may m n P sound header fair opener opener' opens deployer code salt None
-    rule_local imports.CreateContractWithConstructor = λ deployer code salt args. creates_by_local may m n P sound header fair opener opener' opens deployer code salt (Some args)
-    rule_local imports.UpdateCurrentContractWasm = update_local may m n P sound header fair
-    rule_local imports.GetContractId = id_local may m n P sound header fair
-    rule_local imports.Call = call_local may m n P sound header fair opener opener' opens
-    rule_local imports.TryCall = try_call_local may m n P sound header fair opener opener' opens
-    rule_local imports.RequireAuth = auth_local may m n P
-    rule_local imports.RequireAuthForArgs = auth_for_args_local may m n P
+    rule_local imports.PutContractData = put_local may m n P sound header authority fair
+    rule_local imports.HasContractData = has_local may m n P sound header authority fair
+    rule_local imports.GetContractData = get_local may m n P sound header authority fair
+    rule_local imports.DelContractData = del_local may m n P sound header authority fair
+    rule_local imports.ExtendContractDataTtl = extend_local may m n P sound header authority fair
+    rule_local imports.ExtendCurrentContractInstanceAndCodeTtl = extend_both_local may m n P sound header authority fair
+    rule_local imports.UploadWasm = upload_local may m n P sound header authority fair
+    rule_local imports.CreateContract = λ deployer code salt. creates_by_local may m n P sound header authority fair opener opener' opens deployer code salt None
+    rule_local imports.CreateContractWithConstructor = λ deployer code salt args. creates_by_local may m n P sound header authority fair opener opener' opens deployer code salt (Some args)
+    rule_local imports.UpdateCurrentContractWasm = update_local may m n P sound header authority fair
+    rule_local imports.GetContractId = id_local may m n P sound header authority fair
+    rule_local imports.Call = call_local may m n P sound header authority fair opener opener' opens
+    rule_local imports.TryCall = try_call_local may m n P sound header authority fair opener opener' opens
+    rule_local imports.RequireAuth = auth_local may m n P sound header authority fair opener opener' opens
+    rule_local imports.RequireAuthForArgs = auth_for_args_local may m n P sound header authority fair opener opener' opens
     rule_local _ = tt
 
-    of_row_local : (o : Option Row) (words : List ℕ) → Local may m n P (of_row (free header) opener o words) (of_row (held may header) opener' o words)
+    of_row_local : (o : Option Row) (words : List ℕ) → Local may m n P (of_row (free header authority) opener o words) (of_row (held may header authority) opener' o words)
     of_row_local None words = fails_local may m n P _
     of_row_local (Some row) words =
-        either_local (world_function (free header) opener row.import) (world_function (held may header) opener' row.import) (mapped_local (arguments_of row.import) _ _ (rule_local row.import)) (value_function row.import) (function_rises row.import) words
+        either_local (world_function (free header authority) opener row.import) (world_function (held may header authority) opener' row.import) (mapped_local (arguments_of row.import) _ _ (rule_local row.import)) (value_function row.import) (function_rises row.import) words
 
-    host_local : (x : Module) → HostsLocal may m n P (host_of (free header) opener x) (host_of (held may header) opener' x)
+    host_local : (x : Module) → HostsLocal may m n P (host_of (free header authority) opener x) (host_of (held may header authority) opener' x)
     host_local x f words = of_row_local (row_at x f) words
 
   -- ---- frames, by the number of frames that may still be open
 
-  pub openers_local : (room : ℕ) → OpenersLocal may m n P (opener_of (free header) room) (opener_of (held may header) room)
+  pub openers_local : (room : ℕ) → OpenersLocal may m n P (opener_of (free header authority) room) (opener_of (held may header authority) room)
   openers_local zero = tt
-  openers_local (suc room) = framed_local may m n P sound header fair (host_of (free header) (opener_of (free header) room)) (host_of (held may header) (opener_of (held may header) room))
-      (host_local (opener_of (free header) room) (opener_of (held may header) room) (openers_local room))
+  openers_local (suc room) = framed_local may m n P sound header authority fair (host_of (free header authority) (opener_of (free header authority) room)) (host_of (held may header authority) (opener_of (held may header authority) room))
+      (host_local (opener_of (free header authority) room) (opener_of (held may header authority) room) (openers_local room))
 
   -- ---- whole runs
 
-  only_if_let_in_local : {A : Type 0} (r : Result Datum ScError) (act act' : Act A) → Local may m n P act act' → Local may m n P (only_if_let_in r act) (only_if_let_in r act')
-  only_if_let_in_local (Err e) act act' h = fails_local may m n P e
-  only_if_let_in_local (Ok d) act act' h = h
-
-  entering_local : {A : Type 0} (ds : List Datum) (act act' : Act A) → Local may m n P act act' → Local may m n P (entering ds act) (entering ds act')
-  entering_local [] act act' h = h
-  entering_local (d ∷ ds) act act' h = paying_local may m n P _ _ _ _ (only_if_let_in_local (entry d) _ _ (entering_local ds act act' h))
-
   module _ (opener opener' : Opener) (opens : OpenersLocal may m n P opener opener') where
-    does_local : (work : Work) → Local may m n P (does (free header) opener work) (does (held may header) opener' work)
-    does_local (calling contract function args) = calls_local may m n P sound header fair opener opener' opens (record { caller = None; address = contract; function = function; args = args })
-    does_local (uploading code) = after_local may m n P _ _ _ _ (uploads_local may m n P sound header fair code) (λ hash. good_local may m n P _)
-    does_local (creating c) = after_local may m n P _ _ _ _ (creates_local may m n P sound header fair opener opener' opens None c) (λ id. good_local may m n P _)
+    does_local : (work : Work) → Local may m n P (does (free header authority) opener work) (does (held may header authority) opener' work)
+    does_local (calling contract function args) = calls_local may m n P sound header authority fair opener opener' opens (record { caller = None; address = contract; function = function; args = args })
+    does_local (uploading code) = after_local may m n P _ _ _ _ (uploads_local may m n P sound header authority fair code) (λ hash. good_local may m n P _)
+    does_local (creating c) = after_local may m n P _ _ _ _ (creates_local may m n P sound header authority fair opener opener' opens None c) (λ id. good_local may m n P _)
 
-    performs_local : (work : Work) → Local may m n P (performs (free header) opener work) (performs (held may header) opener' work)
-    performs_local work = after_local may m n P _ _ _ _ (entering_local (arguments_in work) _ _ (does_local work)) (λ d. paying_local may m n P _ _ _ _ (good_local may m n P d))
+    performs_local : (work : Work) → Local may m n P (performs (free header authority) opener work) (performs (held may header authority) opener' work)
+    performs_local work = after_local may m n P _ _ _ _ (entering_local may m n P (arguments_in work) _ _ (does_local work)) (λ d. paying_local may m n P _ _ _ _ (good_local may m n P d))
 
-  pub run_same : (instructions : ℕ) (work : Work) → Agree may m n → Same may m n (whole header instructions work m) (run_under may header instructions work n)
+  pub run_same : (instructions : ℕ) (work : Work) → Agree may m n → Same may m n (whole header authority instructions work m) (run_under may header authority instructions work n)
   unfolding run_under
   run_same instructions work agree =
-      (performs_local (opener_of (free header) MOST_FRAMES) (opener_of (held may header) MOST_FRAMES) (openers_local MOST_FRAMES) work).same (start_of header instructions m) n
+      (performs_local (opener_of (free header authority) MOST_FRAMES) (opener_of (held may header authority) MOST_FRAMES) (openers_local MOST_FRAMES) work).same (start_of header instructions m) n
       (record { agree = agree; left = λ k e. refl; right = λ k e. refl }) refl
 
-  pub done_local : (work : Work) → Local may m n P (done_under all_allowed header work) (done_under may header work)
+  pub done_local : (work : Work) → Local may m n P (done_under all_allowed header authority work) (done_under may header authority work)
   unfolding done_under
   done_local work =
-      undoing_local may m n P _ _ (does_local (opener_of (free header) MOST_FRAMES) (opener_of (held may header) MOST_FRAMES) (openers_local MOST_FRAMES) work)
+      undoing_local may m n P _ _ (does_local (opener_of (free header authority) MOST_FRAMES) (opener_of (held may header authority) MOST_FRAMES) (openers_local MOST_FRAMES) work)
 
-  pub run_quiet : (instructions : ℕ) (work : Work) (key : List ℕ) → writes_in (world_of (whole header instructions work m)).trace key ≡ false
-      → IsExtended (get m key) (get (world_of (whole header instructions work m)).entries key)
+  pub run_quiet : (instructions : ℕ) (work : Work) (key : List ℕ) → writes_in (world_of (whole header authority instructions work m)).trace key ≡ false
+      → IsExtended (get m key) (get (world_of (whole header authority instructions work m)).entries key)
   unfolding run_under
   run_quiet instructions work key =
-      (performs_local (opener_of (free header) MOST_FRAMES) (opener_of (held may header) MOST_FRAMES) (openers_local MOST_FRAMES) work).quiet (start_of header instructions m) key
+      (performs_local (opener_of (free header authority) MOST_FRAMES) (opener_of (held may header authority) MOST_FRAMES) (openers_local MOST_FRAMES) work).quiet (start_of header instructions m) key
 
-  pub run_fine : (instructions : ℕ) (work : Work) → Fine P m → Leaves may P (whole header instructions work m)
+  pub run_fine : (instructions : ℕ) (work : Work) → Fine P m → Leaves may P (whole header authority instructions work m)
   unfolding run_under
   run_fine instructions work f =
-      (performs_local (opener_of (free header) MOST_FRAMES) (opener_of (held may header) MOST_FRAMES) (openers_local MOST_FRAMES) work).fine (start_of header instructions m) f
+      (performs_local (opener_of (free header authority) MOST_FRAMES) (opener_of (held may header authority) MOST_FRAMES) (openers_local MOST_FRAMES) work).fine (start_of header instructions m) f
 
-  pub done_fine : (work : Work) (w : World) → Fine P w.entries → Leaves may P (done_under all_allowed header work w)
+  pub done_fine : (work : Work) (w : World) → Fine P w.entries → Leaves may P (done_under all_allowed header authority work w)
   done_fine work w f = (done_local work).fine w f
 
-  pub frames_rise : (room : ℕ) (e : Entered) → P.sums → (w : World) → IsLater w.meter (world_of (framed (free header) (host_of (free header) (opener_of (free header) room)) e w)).meter
+  pub frames_rise : (room : ℕ) (e : Entered) → P.sums → (w : World) → IsLater w.meter (world_of (framed (free header authority) (host_of (free header authority) (opener_of (free header authority) room)) e w)).meter
   frames_rise room e q w = (openers_local (suc room) e).later q w

@@ -1,7 +1,7 @@
 -- What a whole run leaves at every key.
 use Rattle.std.proofs.Common.{◌≡◌, ℕ, ◌+◌, ◌-◌, ◌<◌, ◌≤◌, ◌^◌, arith, List, Option, Some, None, Bool, true, false, refl, subst}
 use Rattle.std.specs.Prelude.{if◌then◌else◌, ◌&&◌, nat_le, nat_lt}
-use Rattle.std.proofs.lemmas.Bool.{leb-true}
+use Rattle.std.proofs.lemmas.Bool.{leb-true, ltb-true}
 use Rattle.ledger_types.specs.Entry.{key_of}
 use Rattle.ledger_types.specs.declared.entry.LedgerEntry.{LedgerEntry}
 use Rattle.ledger_types.specs.declared.header.Header.{Header}
@@ -13,6 +13,8 @@ use Rattle.call_spec.specs.World.{next_seq}
 use Rattle.call_spec.specs.Accesses.{put_kept}
 use Rattle.call_spec.specs.WholeRuns.{all_allowed}
 use Rattle.call_spec.specs.Laws.{IsWellKept, AreNumberedLives, KeptLaw, KeptFromLaw}
+use Rattle.auth_types.specs.declared.credentials.AddressCredentials.{AddressCredentials}
+use Rattle.call_spec.specs.Asking.{nonce_key, nonce_entry, is_valid_until}
 use Rattle.call_spec.proofs.Acts.{Watch}
 use Rattle.call_spec.proofs.Accesses.{Fair, IsFineAt}
 use Rattle.call_spec.proofs.HostFunctions.{run_fine, done_fine}
@@ -24,6 +26,10 @@ well_kept header = record { number = header.seq + 1; is = IsWellKept; sums = Uni
 
 below : (n life most : ℕ) → n + life ≤ most → 1 ≤ n → n + life - 1 < most
 below n life most h one = omega (arith, h, one)
+
+second_true : (a b : Bool) → (a && b) ≡ true → b ≡ true
+second_true true b h = h
+second_true false b h = absurd cc
 
 module _ (header : Header) (lives : AreNumberedLives header) where
   first_numbered : (entry : LedgerEntry) → first_life header.settings (next_seq header) entry < 2 ^ 32
@@ -63,19 +69,34 @@ module _ (header : Header) (lives : AreNumberedLives header) where
   put_well entry None hash f = record { numbered = first_numbered entry; keyed = refl; hashed = hash }
   put_well entry (Some kept) hash f = record { numbered = f.0.numbered; keyed = refl; hashed = hash }
 
+  nonce_well : (signer : AddressCredentials) → is_valid_until (next_seq header) header.settings.max_entry_ttl signer.signature_expiration_ledger ≡ true
+      → IsWellKept (key_bytes (nonce_key signer.address signer.nonce))
+      (record { entry = nonce_entry (next_seq header) signer.address signer.nonce; live_until = signer.signature_expiration_ledger })
+  nonce_well signer valid = record {
+    numbered = omega (
+      arith,
+      lives.furthest,
+      ltb-true signer.signature_expiration_ledger (next_seq header + header.settings.max_entry_ttl)
+          (second_true (nat_le (next_seq header) signer.signature_expiration_ledger) (nat_lt signer.signature_expiration_ledger (next_seq header + header.settings.max_entry_ttl)) valid),
+    );
+    keyed = refl;
+    hashed = tt;
+  }
+
   kept_fair : Fair header (well_kept header)
   kept_fair = record {
     numbered = refl;
     longer = λ q kept threshold extend_to life asked is. longer_kept q kept threshold life (asked_numbered kept extend_to life asked) is;
     put = put_well;
+    nonce = nonce_well;
   }
 
 -- ---- whole runs
 
 pub kept_law : KeptLaw
-kept_law header instructions work entries lives are =
-    (run_fine all_allowed entries entries (well_kept header) (λ kind k e. refl) header (kept_fair header lives) instructions work are).0
+kept_law header authority instructions work entries lives are =
+    (run_fine all_allowed entries entries (well_kept header) (λ kind k e. refl) header authority (kept_fair header lives) instructions work are).0
 
 pub kept_from_law : KeptFromLaw
-kept_from_law header work w lives are =
-    (done_fine all_allowed w.entries w.entries (well_kept header) (λ kind k e. refl) header (kept_fair header lives) work w are).0
+kept_from_law header authority work w lives are =
+    (done_fine all_allowed w.entries w.entries (well_kept header) (λ kind k e. refl) header authority (kept_fair header lives) work w are).0

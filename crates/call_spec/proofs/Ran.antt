@@ -73,11 +73,11 @@ abbrev code-kept : Kept
 code-kept = record { entry = code_entry 50 (hash 2) returns-void; live_until = 5000 }
 
 module _ (m : LedgerMap) (instance-is : get m (key_bytes (instance_key (hash 1))) ≡ Some instance-kept) (code-is : get m (key_bytes (code_key (hash 2))) ≡ Some code-kept) where
-  called : (world_of (whole env.header 1243 (calling (Contract (hash 1)) (codes "f") []) m)).meter.used ≡ record { instructions = 1243; memory = 34 }
+  called : (world_of (whole env.header env.authority 1243 (calling (Contract (hash 1)) (codes "f") []) m)).meter.used ≡ record { instructions = 1243; memory = 34 }
   unfolding is_utf8 chars encode loaded charged meaning MOST_CALLS datum_cmp reading.u32_at reading.integer_at reading.vector_at reading.bytes_at reading.name_at reading.sized_at reading.func_type_at reading.limits_at reading.table_at reading.mem_arg_at reading.parametric_at reading.variable_at reading.memory_at reading.numeric_at reading.plain_at reading.control_at reading.expr_at reading.import_at reading.global_at reading.export_at reading.element_at reading.data_at reading.locals_at reading.func_at reading.custom_at reading.customs_at reading.section_at reading.sections_at reading.module_at entry_size entry.entry_format entry.type_format entry.body_format contents.data_format contents.code_format lives.durability_format addresses.address_format addresses.type_format hashes.hash_format executables.executable_format executables.type_format values.scval_format values.value_format values.contract_instance_format values.members_format format.optional format.number32 format.opaque size_of run_under MOST_FRAMES capped
   called = rw (instance-is, code-is) refl
 
   -- one instruction too few, with the sums after the last charge that fitted
-  called-out : (world_of (whole env.header 1242 (calling (Contract (hash 1)) (codes "f") []) m)).meter.used ≡ record { instructions = 1239; memory = 34 }
+  called-out : (world_of (whole env.header env.authority 1242 (calling (Contract (hash 1)) (codes "f") []) m)).meter.used ≡ record { instructions = 1239; memory = 34 }
   unfolding is_utf8 chars encode loaded charged meaning MOST_CALLS datum_cmp reading.u32_at reading.integer_at reading.vector_at reading.bytes_at reading.name_at reading.sized_at reading.func_type_at reading.limits_at reading.table_at reading.mem_arg_at reading.parametric_at reading.variable_at reading.memory_at reading.numeric_at reading.plain_at reading.control_at reading.expr_at reading.import_at reading.global_at reading.export_at reading.element_at reading.data_at reading.locals_at reading.func_at reading.custom_at reading.customs_at reading.section_at reading.sections_at reading.module_at entry_size entry.entry_format entry.type_format entry.body_format contents.data_format contents.code_format lives.durability_format addresses.address_format addresses.type_format hashes.hash_format executables.executable_format executables.type_format values.scval_format values.value_format values.contract_instance_format values.members_format format.optional format.number32 format.opaque size_of run_under MOST_FRAMES capped
   called-out = rw (instance-is, code-is) refl

@@ -37,16 +37,25 @@ use Rattle.host_spec.specs.Arguments.{Means, argument, dispatched, tagged_words}
 use Rattle.host_spec.specs.Answers.{Answer, given, value}
 use Rattle.host_spec.specs.Calls.{with_argument}
 use Rattle.host_spec.specs.MapRows.{Member, value_at}
-use Rattle.call_spec.specs.Errors.{INVALID_STORAGE_INPUT, INVALID_EXTENSION, RESERVED_NAME, REENTERED}
-use Rattle.call_spec.specs.World.{AccessKind, Read, Extend, Write, Judge, Copied, Frame, Env}
+use Rattle.call_spec.specs.Errors.{INVALID_STORAGE_INPUT, INVALID_EXTENSION, RESERVED_NAME, REENTERED, EXPIRED, DENIED}
+use Rattle.call_spec.specs.World.{AccessKind, Read, Extend, Write, Judge, Copied, Frame, Env, Authority}
 use Rattle.call_spec.specs.Acts.{Act, after, gives, fails, only_where, with_frame, sets, lift}
 use Rattle.call_spec.specs.Accesses.{Effect, access, puts}
 use Rattle.call_spec.specs.Keys.{data_key, data_entry, instance_key, instance_entry, code_key, code_entry}
 use Rattle.call_spec.specs.Rules.{Rule, applied, charged_then, answered, call_of, nothing, returning}
 use Rattle.call_spec.specs.Storage.{let_in, value_in, lengthens, extends, members, has, gets, deletes, by_storage, with_storage, put_in_copy, has_in_copy, found_in_copy, get_in_copy, del_in_copy, unless_backward, extending, put_contract_data, has_contract_data, get_contract_data, del_contract_data, extend_contract_data_ttl, extend_current_contract_instance_and_code_ttl}
 use Rattle.call_spec.specs.Events.{with_event, emits, update_event, contract_event, fail_with_error}
-use Rattle.call_spec.specs.Demands.{Demand, ByInvoker, Denied, demand, met, demanded, invocation, requires, require_auth, require_auth_for_args}
-use Rattle.call_spec.specs.Frames.{Entered, Opener}
+use Rattle.auth_trees.specs.Pairs.{Pair}
+use Rattle.auth_trees.specs.Demands.{Choice, ByNode, ByCaller, ByNothing, choice}
+use Rattle.auth_types.specs.declared.credentials.AddressCredentials.{AddressCredentials}
+use Rattle.auth_types.specs.declared.credentials.Credentials.{Credentials}
+use Rattle.auth_types.specs.declared.credentials.Credentials.TheVariants.{SourceAccount, Address}
+use Rattle.auth_types.specs.declared.invocation.Invocation.{Invocation}
+use Rattle.auth_types.specs.declared.auth_entry.AuthEntry.{AuthEntry}
+use Rattle.call_spec.specs.Entering.{argument_entry, only_if_let_in, entering}
+use Rattle.call_spec.specs.Asking.{nonce_key, uses, is_valid_until, check_args, check_of, checks, asks, proves}
+use Rattle.call_spec.specs.Demands.{with_pair, uses_node, proves_entry, proves_root, met, demanded, invocation, requires, require_auth, require_auth_for_args}
+use Rattle.call_spec.specs.Frames.{Entered, Opener, is_void}
 use Rattle.call_spec.specs.Found.{with_entered, instance_in, instance_of_data, finds_instance, code_of_data, finds_code, code_at, with_module, with_start}
 use Rattle.call_spec.specs.Calling.{with_contract, is_running, Call, enters, looks_up, admits, calls_if, calls, call_by, call, try_call}
 use Rattle.call_spec.specs.Creating.{CONSTRUCTOR, new_instance, is_there, puts_code, uploads, Creation, constructs, constructs_if, builds, id_of, preimage_of, function_of, makes_instance, makes, creates_at, creates, only_hash, upload_wasm, creates_by, with_code, update_current_contract_wasm, get_contract_id}
@@ -55,7 +64,7 @@ use Rattle.call_spec.proofs.Acts.{Sound, Watch, Local, Besides, good_local, fail
 use Rattle.call_spec.proofs.Accesses.{free, held, IsFineAt, Puts, PutsFound, Fair, Still, Gentle, GentleUnless, access_local}
 use Rattle.wasm_machine.proofs.Spends.{same}
 use Rattle.call_spec.proofs.Sums.{dispatched_rises, given_rises}
-use Rattle.call_spec.proofs.Frames.{OpenersLocal, opener_local, catching_local}
+use Rattle.call_spec.proofs.Frames.{OpenersLocal, opener_local, denying_local, catching_local}
 
 -- ---- the shape of all rows
 
@@ -103,6 +112,9 @@ storage_besides storage = record { apart = λ w q. refl; map = λ w. refl; trace
 event_besides : (event : ContractEvent) → Besides (with_event event)
 event_besides event = record { apart = λ w q. refl; map = λ w. refl; trace = λ w. refl }
 
+pair_besides : (pair : Pair) → Besides (with_pair pair)
+pair_besides pair = record { apart = λ w q. refl; map = λ w. refl; trace = λ w. refl }
+
 code_besides : (code : Hash) → Besides (with_code code)
 code_besides code = record { apart = λ w q. refl; map = λ w. refl; trace = λ w. refl }
 
@@ -143,23 +155,13 @@ module _ (may : Judge) (m n : LedgerMap) (P : Watch) where
   unless_backward_local : {A : Type 0} (threshold extend_to : ℕ) (act act' : Act A) → Local may m n P act act' → Local may m n P (unless_backward threshold extend_to act) (unless_backward threshold extend_to act')
   unless_backward_local threshold extend_to act act' h = if_local may m n P (nat_lt extend_to threshold) _ _ act act' (fails_local may m n P INVALID_STORAGE_INPUT) h
 
-  met_local : (d : Demand) → Local may m n P (met d) (met d)
-  met_local ByInvoker = good_local may m n P tt
-  met_local Denied = fails_local may m n P _
+  only_if_let_in_local : {A : Type 0} (r : Result Datum ScError) (act act' : Act A) → Local may m n P act act' → Local may m n P (only_if_let_in r act) (only_if_let_in r act')
+  only_if_let_in_local (Err e) act act' h = fails_local may m n P e
+  only_if_let_in_local (Ok d) act act' h = h
 
-  demanded_local : (path : List ℕ) (caller : Option ScAddress) (address : ScAddress) (function : Function) → Local may m n P (demanded path caller address function) (demanded path caller address function)
-  demanded_local path caller address function = with_local may m n P (λ w. demand w.pairs path caller address function) met met (λ w q. refl) met_local
-
-  requires_local : (address : ScAddress) (args : List Datum) (f : Frame) → Local may m n P (requires address args f) (requires address args f)
-  requires_local address args f =
-      after_local may m n P (demanded f.path f.caller address (invocation f args)) (demanded f.path f.caller address (invocation f args)) (λ _. gives nothing) (λ _. gives nothing)
-      (demanded_local f.path f.caller address (invocation f args)) (λ _. good_local may m n P nothing)
-
-  pub auth_local : (address : ScAddress) → Local may m n P (require_auth address) (require_auth address)
-  auth_local address = frame_local may m n P _ _ (λ f. requires_local address f.args f)
-
-  pub auth_for_args_local : (address : ScAddress) (args : List Datum) → Local may m n P (require_auth_for_args address args) (require_auth_for_args address args)
-  auth_for_args_local address args = frame_local may m n P _ _ (λ f. requires_local address args f)
+  pub entering_local : {A : Type 0} (ds : List Datum) (act act' : Act A) → Local may m n P act act' → Local may m n P (entering ds act) (entering ds act')
+  entering_local [] act act' h = h
+  entering_local (d ∷ ds) act act' h = paying_local may m n P _ _ _ _ (only_if_let_in_local (argument_entry d) _ _ (entering_local ds act act' h))
 
   contract_local : {A : Type 0} (address : ScAddress) (next next' : Hash → Act A) → ((c : Hash) → Local may m n P (next c) (next' c)) → Local may m n P (with_contract address next) (with_contract address next')
   contract_local (addresses.Contract c) next next' l = l c
@@ -240,7 +242,7 @@ instance_still (Some kept) = at kept.entry.data
 
 -- ---- the functions of the ledger, and calls
 
-module _ (may : Judge) (m n : LedgerMap) (P : Watch) (sound : Sound may) (header : Header) (fair : Fair header P) where
+module _ (may : Judge) (m n : LedgerMap) (P : Watch) (sound : Sound may) (header : Header) (authority : Authority) (fair : Fair header P) where
   deletes_puts : (key : LedgerKey) (found : Option Kept) → Puts P key (deletes found)
   deletes_puts key None = tt
   deletes_puts key (Some kept) = tt
@@ -250,94 +252,99 @@ module _ (may : Judge) (m n : LedgerMap) (P : Watch) (sound : Sound may) (header
   lengthens_puts key kept threshold extend_to h None asked = tt
   lengthens_puts key kept threshold extend_to h (Some life) asked = fair.longer (key_bytes key) kept threshold extend_to life asked h
 
-  extends_puts : (key : LedgerKey) (threshold extend_to : ℕ) (found : Option Kept) → IsFineAt P key found → Puts P key (extends (free header) threshold extend_to found)
+  extends_puts : (key : LedgerKey) (threshold extend_to : ℕ) (found : Option Kept) → IsFineAt P key found → Puts P key (extends (free header authority) threshold extend_to found)
   extends_puts key threshold extend_to None f = tt
   extends_puts key threshold extend_to (Some kept) f = lengthens_puts key kept threshold extend_to f.0 (asked_life header.settings (header.seq + 1) kept.entry extend_to) refl
 
-  makes_puts : (id code : Hash) (found : Option Kept) → IsFineAt P (instance_key id) found → Puts P (instance_key id) (makes_instance (free header) id code found)
+  makes_puts : (id code : Hash) (found : Option Kept) → IsFineAt P (instance_key id) found → Puts P (instance_key id) (makes_instance (free header authority) id code found)
   makes_puts id code None f = fair.put (instance_entry (header.seq + 1) id (new_instance code)) None tt tt
   makes_puts id code (Some kept) f = tt
 
   entry_local : (kind : ℕ) (a : AccessKind) (key : Datum) (effect : Frame → Durability → Option Kept → Effect Answer) (in_copy : Act Answer) → ((f : Frame) (d : Durability) → GentleUnless a (effect f d))
       → ((f : Frame) (d : Durability) → PutsFound P (data_key f.contract key d) a (effect f d)) → Local may m n P in_copy in_copy
-      → Local may m n P (by_storage kind (λ d. with_frame (λ f. access (free header) a (data_key f.contract key d) (effect f d))) in_copy)
-      (by_storage kind (λ d. with_frame (λ f. access (held may header) a (data_key f.contract key d) (effect f d))) in_copy)
+      → Local may m n P (by_storage kind (λ d. with_frame (λ f. access (free header authority) a (data_key f.contract key d) (effect f d))) in_copy)
+      (by_storage kind (λ d. with_frame (λ f. access (held may header authority) a (data_key f.contract key d) (effect f d))) in_copy)
   entry_local kind a key effect in_copy g k h =
-      storage_local may m n P kind (λ d. with_frame (λ f. access (free header) a (data_key f.contract key d) (effect f d))) (λ d. with_frame (λ f. access (held may header) a (data_key f.contract key d) (effect f d))) in_copy
-      (λ d. frame_local may m n P (λ f. access (free header) a (data_key f.contract key d) (effect f d)) (λ f. access (held may header) a (data_key f.contract key d) (effect f d))
-      (λ f. access_local may m n P sound header fair a (data_key f.contract key d) (effect f d) (g f d) (k f d))) h
+      storage_local may m n P kind (λ d. with_frame (λ f. access (free header authority) a (data_key f.contract key d) (effect f d))) (λ d. with_frame (λ f. access (held may header authority) a (data_key f.contract key d) (effect f d))) in_copy
+      (λ d. frame_local may m n P (λ f. access (free header authority) a (data_key f.contract key d) (effect f d)) (λ f. access (held may header authority) a (data_key f.contract key d) (effect f d))
+      (λ f. access_local may m n P sound header authority fair a (data_key f.contract key d) (effect f d) (g f d) (k f d))) h
 
-  pub put_local : (key val : Datum) (kind : ℕ) → Local may m n P (put_contract_data (free header) key val kind) (put_contract_data (held may header) key val kind)
-  put_local key val kind = entry_local kind Write key (λ f d. puts (free header) (data_entry (header.seq + 1) f.contract key d val) nothing) (put_in_copy key val) (λ f d. tt) (λ f d found. fair.put (data_entry (header.seq + 1) f.contract key d val) found tt) (copy_put_local may m n P key val)
+  pub put_local : (key val : Datum) (kind : ℕ) → Local may m n P (put_contract_data (free header authority) key val kind) (put_contract_data (held may header authority) key val kind)
+  put_local key val kind = entry_local kind Write key (λ f d. puts (free header authority) (data_entry (header.seq + 1) f.contract key d val) nothing) (put_in_copy key val) (λ f d. tt) (λ f d found. fair.put (data_entry (header.seq + 1) f.contract key d val) found tt) (copy_put_local may m n P key val)
 
-  pub has_local : (key : Datum) (kind : ℕ) → Local may m n P (has_contract_data (free header) key kind) (has_contract_data (held may header) key kind)
+  pub has_local : (key : Datum) (kind : ℕ) → Local may m n P (has_contract_data (free header authority) key kind) (has_contract_data (held may header authority) key kind)
   has_local key kind = entry_local kind Read key (λ f d. has) (has_in_copy key) (λ f d found. tt) (λ f d. tt)
       (frame_answer_local may m n P (λ f. value (boolean (is_some (value_at key (members f.copy.storage))))))
 
-  pub get_local : (key : Datum) (kind : ℕ) → Local may m n P (get_contract_data (free header) key kind) (get_contract_data (held may header) key kind)
+  pub get_local : (key : Datum) (kind : ℕ) → Local may m n P (get_contract_data (free header authority) key kind) (get_contract_data (held may header authority) key kind)
   get_local key kind = entry_local kind Read key (λ f d. gets) (get_in_copy key) (λ f d. gets_still) (λ f d. tt) (copy_get_local may m n P key)
 
-  pub del_local : (key : Datum) (kind : ℕ) → Local may m n P (del_contract_data (free header) key kind) (del_contract_data (held may header) key kind)
+  pub del_local : (key : Datum) (kind : ℕ) → Local may m n P (del_contract_data (free header authority) key kind) (del_contract_data (held may header authority) key kind)
   del_local key kind = entry_local kind Write key (λ f d. deletes) (del_in_copy key) (λ f d. tt) (λ f d found h. deletes_puts (data_key f.contract key d) found) (copy_del_local may m n P key)
 
-  extending_local : (key : LedgerKey) (threshold extend_to : ℕ) → Local may m n P (extending (free header) key threshold extend_to) (extending (held may header) key threshold extend_to)
-  extending_local key threshold extend_to = access_local may m n P sound header fair Extend key (extends (free header) threshold extend_to) (extends_gentle (free header) threshold extend_to)
+  extending_local : (key : LedgerKey) (threshold extend_to : ℕ) → Local may m n P (extending (free header authority) key threshold extend_to) (extending (held may header authority) key threshold extend_to)
+  extending_local key threshold extend_to = access_local may m n P sound header authority fair Extend key (extends (free header authority) threshold extend_to) (extends_gentle (free header authority) threshold extend_to)
       (extends_puts key threshold extend_to)
 
-  pub extend_local : (key : Datum) (kind threshold extend_to : ℕ) → Local may m n P (extend_contract_data_ttl (free header) key kind threshold extend_to) (extend_contract_data_ttl (held may header) key kind threshold extend_to)
+  pub extend_local : (key : Datum) (kind threshold extend_to : ℕ) → Local may m n P (extend_contract_data_ttl (free header authority) key kind threshold extend_to) (extend_contract_data_ttl (held may header authority) key kind threshold extend_to)
   extend_local key kind threshold extend_to =
       storage_local may m n P kind
-      (λ d. unless_backward threshold extend_to (with_frame (λ f. extending (free header) (data_key f.contract key d) threshold extend_to)))
-      (λ d. unless_backward threshold extend_to (with_frame (λ f. extending (held may header) (data_key f.contract key d) threshold extend_to)))
+      (λ d. unless_backward threshold extend_to (with_frame (λ f. extending (free header authority) (data_key f.contract key d) threshold extend_to)))
+      (λ d. unless_backward threshold extend_to (with_frame (λ f. extending (held may header authority) (data_key f.contract key d) threshold extend_to)))
       (fails INVALID_EXTENSION)
-      (λ d. unless_backward_local may m n P threshold extend_to (with_frame (λ f. extending (free header) (data_key f.contract key d) threshold extend_to)) (with_frame (λ f. extending (held may header) (data_key f.contract key d) threshold extend_to))
-      (frame_local may m n P (λ f. extending (free header) (data_key f.contract key d) threshold extend_to) (λ f. extending (held may header) (data_key f.contract key d) threshold extend_to)
+      (λ d. unless_backward_local may m n P threshold extend_to (with_frame (λ f. extending (free header authority) (data_key f.contract key d) threshold extend_to)) (with_frame (λ f. extending (held may header authority) (data_key f.contract key d) threshold extend_to))
+      (frame_local may m n P (λ f. extending (free header authority) (data_key f.contract key d) threshold extend_to) (λ f. extending (held may header authority) (data_key f.contract key d) threshold extend_to)
       (λ f. extending_local (data_key f.contract key d) threshold extend_to)))
       (fails_local may m n P INVALID_EXTENSION)
 
-  pub extend_both_local : (threshold extend_to : ℕ) → Local may m n P (extend_current_contract_instance_and_code_ttl (free header) threshold extend_to) (extend_current_contract_instance_and_code_ttl (held may header) threshold extend_to)
+  pub extend_both_local : (threshold extend_to : ℕ) → Local may m n P (extend_current_contract_instance_and_code_ttl (free header authority) threshold extend_to) (extend_current_contract_instance_and_code_ttl (held may header authority) threshold extend_to)
   extend_both_local threshold extend_to =
       unless_backward_local may m n P threshold extend_to _ _ (frame_local may m n P _ _ (λ f. after_local may m n P _ _ _ _ (extending_local _ threshold extend_to) (λ _. extending_local _ threshold extend_to)))
 
-  code_at_local : (hash : Hash) → Local may m n P (code_at (free header) hash) (code_at (held may header) hash)
-  code_at_local hash = access_local may m n P sound header fair Read (code_key hash) finds_code code_still tt
+  code_at_local : (hash : Hash) → Local may m n P (code_at (free header authority) hash) (code_at (held may header authority) hash)
+  code_at_local hash = access_local may m n P sound header authority fair Read (code_key hash) finds_code code_still tt
 
-  puts_code_local : (b : Bool) (hash : Hash) (code : List ℕ) → hash.0 ≡ sha256 code → Local may m n P (puts_code b (free header) hash code) (puts_code b (held may header) hash code)
+  puts_code_local : (b : Bool) (hash : Hash) (code : List ℕ) → hash.0 ≡ sha256 code → Local may m n P (puts_code b (free header authority) hash code) (puts_code b (held may header authority) hash code)
   puts_code_local true hash code h = good_local may m n P hash
-  puts_code_local false hash code h = access_local may m n P sound header fair Write (code_key hash) (puts (free header) (code_entry (header.seq + 1) hash code) hash) tt (λ found. fair.put (code_entry (header.seq + 1) hash code) found h)
+  puts_code_local false hash code h = access_local may m n P sound header authority fair Write (code_key hash) (puts (free header authority) (code_entry (header.seq + 1) hash code) hash) tt (λ found. fair.put (code_entry (header.seq + 1) hash code) found h)
 
-  pub uploads_local : (code : List ℕ) → Local may m n P (uploads (free header) code) (uploads (held may header) code)
+  pub uploads_local : (code : List ℕ) → Local may m n P (uploads (free header authority) code) (uploads (held may header authority) code)
   uploads_local code =
       paying_local may m n P _ _ _ _ (paying_local may m n P _ _ _ _ (where_local may m n P _ _ _ _
-      (after_local may m n P _ _ _ _ (access_local may m n P sound header fair Read (code_key (hash_of (sha256 code))) is_there (λ found. tt) tt) (λ b. puts_code_local b (hash_of (sha256 code)) code refl))))
+      (after_local may m n P _ _ _ _ (access_local may m n P sound header authority fair Read (code_key (hash_of (sha256 code))) is_there (λ found. tt) tt) (λ b. puts_code_local b (hash_of (sha256 code)) code refl))))
 
-  pub upload_local : (code : List ℕ) → Local may m n P (upload_wasm (free header) code) (upload_wasm (held may header) code)
+  pub upload_local : (code : List ℕ) → Local may m n P (upload_wasm (free header authority) code) (upload_wasm (held may header authority) code)
   upload_local code = returning_local may m n P _ _ _ (uploads_local code)
 
-  pub update_local : (code : List ℕ) → Local may m n P (update_current_contract_wasm (free header) code) (update_current_contract_wasm (held may header) code)
+  pub update_local : (code : List ℕ) → Local may m n P (update_current_contract_wasm (free header authority) code) (update_current_contract_wasm (held may header authority) code)
   update_local code = hash_local may m n P code _ _ (λ h. after_local may m n P _ _ _ _ (code_at_local h) (λ _. frame_local may m n P _ _ (λ f.
       after_local may m n P _ _ (λ _. sets (with_code h) nothing) (λ _. sets (with_code h) nothing) (emits_local may m n P (update_event f.contract f.copy.code h)) (λ _. sets_local may m n P (with_code h) nothing (code_besides h) (λ q w. same w.meter)))))
 
-  pub id_local : (deployer : ScAddress) (salt : List ℕ) → Local may m n P (get_contract_id (free header) deployer salt) (get_contract_id (held may header) deployer salt)
+  pub id_local : (deployer : ScAddress) (salt : List ℕ) → Local may m n P (get_contract_id (free header authority) deployer salt) (get_contract_id (held may header authority) deployer salt)
   id_local deployer salt = hash_local may m n P salt _ _ (λ h.
       let preimage : Preimage = FromAddress deployer h in
       let id : Hash = contract_id_of header.network_id preimage in
       paying_local may m n P ComputeSha256Hash (length (contract_id_payload header.network_id preimage)) _ _
       (returning_local may m n P (gives id) (gives id) (λ x. address_of (addresses.Contract x)) (good_local may m n P id)))
 
+  nonce_puts : (signer : AddressCredentials) → is_valid_until (header.seq + 1) header.settings.max_entry_ttl signer.signature_expiration_ledger ≡ true
+      → PutsFound P (nonce_key signer.address signer.nonce) Write (uses (header.seq + 1) signer)
+  nonce_puts signer valid None f = fair.nonce signer valid
+  nonce_puts signer valid (Some kept) f = tt
+
   enters_local : (f g : Entered → Act Datum) → ((e : Entered) → Local may m n P (f e) (g e)) → (c : Call) (contract : Hash) (copy : Copied) (path code : List ℕ) → Local may m n P (enters f c contract copy path code) (enters g c contract copy path code)
   enters_local f g l c contract copy path code =
       paying_local may m n P _ _ _ _ (module_local may m n P (module_of code) _ _ (λ x. start_local may m n P (start_of x c.function (length c.args)) _ _ (λ i s. l _)))
 
-  looks_up_local : (f g : Entered → Act Datum) → ((e : Entered) → Local may m n P (f e) (g e)) → (c : Call) (contract : Hash) (path : List ℕ) → Local may m n P (looks_up (free header) f c contract path) (looks_up (held may header) g c contract path)
+  looks_up_local : (f g : Entered → Act Datum) → ((e : Entered) → Local may m n P (f e) (g e)) → (c : Call) (contract : Hash) (path : List ℕ) → Local may m n P (looks_up (free header authority) f c contract path) (looks_up (held may header authority) g c contract path)
   looks_up_local f g l c contract path =
-      after_local may m n P _ _ _ _ (access_local may m n P sound header fair Read (instance_key contract) finds_instance instance_still tt) (λ copy.
+      after_local may m n P _ _ _ _ (access_local may m n P sound header authority fair Read (instance_key contract) finds_instance instance_still tt) (λ copy.
       after_local may m n P _ _ _ _ (code_at_local copy.code) (enters_local f g l c contract copy path))
 
   admits_local : (f g : Entered → Act Datum) → ((e : Entered) → Local may m n P (f e) (g e)) → (named : Bool) (c : Call) (path : List ℕ) (contract : Hash)
-      → Local may m n P (admits named (free header) f c path contract) (admits named (held may header) g c path contract)
+      → Local may m n P (admits named (free header authority) f c path contract) (admits named (held may header authority) g c path contract)
   admits_local f g l named c path contract =
-      where_local may m n P named RESERVED_NAME _ _ (with_local may m n P (is_running contract) (λ running. only_where (not running) REENTERED (looks_up (free header) f c contract path)) (λ running. only_where (not running) REENTERED (looks_up (held may header) g c contract path)) (λ w q. refl)
+      where_local may m n P named RESERVED_NAME _ _ (with_local may m n P (is_running contract) (λ running. only_where (not running) REENTERED (looks_up (free header authority) f c contract path)) (λ running. only_where (not running) REENTERED (looks_up (held may header authority) g c contract path)) (λ w q. refl)
       (λ running. where_local may m n P (not running) REENTERED _ _ (looks_up_local f g l c contract path)))
 
   constructs_local : (f g : Entered → Act Datum) → ((e : Entered) → Local may m n P (f e) (g e)) → (creator : Option ScAddress) (id code : Hash) (args : List Datum) (path : List ℕ) (x : Module)
@@ -346,20 +353,79 @@ module _ (may : Judge) (m n : LedgerMap) (P : Watch) (sound : Sound may) (header
       start_local may m n P (start_of x _ (length args)) _ _ (λ i s. after_local may m n P _ _ _ _ (l _) (λ d. where_local may m n P _ _ _ _ (good_local may m n P tt)))
 
   module _ (opener opener' : Opener) (opens : OpenersLocal may m n P opener opener') where
-    calls_if_local : (named : Bool) (c : Call) → Local may m n P (calls_if named (free header) opener c) (calls_if named (held may header) opener' c)
+    calls_if_local : (named : Bool) (c : Call) → Local may m n P (calls_if named (free header authority) opener c) (calls_if named (held may header authority) opener' c)
     calls_if_local named c = begins_local may m n P _ _ (λ path. opener_local may m n P opener opener' opens _ _ (λ f g l.
         contract_local may m n P c.address _ _ (admits_local f g l named c path)))
 
-    pub calls_local : (c : Call) → Local may m n P (calls (free header) opener c) (calls (held may header) opener' c)
+    pub calls_local : (c : Call) → Local may m n P (calls (free header authority) opener c) (calls (held may header authority) opener' c)
     calls_local c = calls_if_local _ c
+
+    -- ---- demands
+
+    valid_local : (signer : AddressCredentials) (b : Bool) → is_valid_until (header.seq + 1) header.settings.max_entry_ttl signer.signature_expiration_ledger ≡ b
+        → Local may m n P (only_where b EXPIRED (access (free header authority) Write (nonce_key signer.address signer.nonce) (uses (header.seq + 1) signer)))
+        (only_where b EXPIRED (access (held may header authority) Write (nonce_key signer.address signer.nonce) (uses (header.seq + 1) signer)))
+    valid_local signer true e = access_local may m n P sound header authority fair Write (nonce_key signer.address signer.nonce) (uses (header.seq + 1) signer) tt (nonce_puts signer e)
+    valid_local signer false e = fails_local may m n P EXPIRED
+
+    checks_local : (contract : Hash) (args : List Datum) → Local may m n P (checks (free header authority) opener contract args) (checks (held may header authority) opener' contract args)
+    checks_local contract args =
+        entering_local may m n P args _ _ (after_local may m n P _ _ _ _ (calls_if_local true (check_of contract args)) (λ d. where_local may m n P (is_void d) DENIED _ _ (good_local may m n P tt)))
+
+    asks_local : (payload : Hash) (signer : AddressCredentials) (root : Invocation) (address : ScAddress)
+        → Local may m n P (asks (free header authority) opener payload signer root address) (asks (held may header authority) opener' payload signer root address)
+    asks_local payload signer root (addresses.Account account) = where_local may m n P _ _ _ _ (good_local may m n P tt)
+    asks_local payload signer root (addresses.Contract contract) = denying_local may m n P _ _ (checks_local contract (check_args payload signer root))
+    asks_local payload signer root _ = fails_local may m n P _
+
+    proves_local : (root : Invocation) (credentials : Credentials)
+        → Local may m n P (proves (free header authority) opener root credentials) (proves (held may header authority) opener' root credentials)
+    proves_local root SourceAccount = good_local may m n P tt
+    proves_local root (Address signer) =
+        after_local may m n P _ _ _ _ (valid_local signer (is_valid_until (header.seq + 1) header.settings.max_entry_ttl signer.signature_expiration_ledger) refl)
+        (λ _. paying_local may m n P _ _ _ _ (asks_local _ signer root signer.address))
+
+    proves_entry_local : (o : Option AuthEntry) → Local may m n P (proves_entry (free header authority) opener o) (proves_entry (held may header authority) opener' o)
+    proves_entry_local None = fails_local may m n P DENIED
+    proves_entry_local (Some entry) = proves_local entry.root_invocation entry.credentials
+
+    proves_root_local : (entry : ℕ) (node : List ℕ) → Local may m n P (proves_root (free header authority) opener entry node) (proves_root (held may header authority) opener' entry node)
+    proves_root_local entry [] = proves_entry_local _
+    proves_root_local entry (i ∷ more) = good_local may m n P tt
+
+    met_local : (path : List ℕ) (d : Choice) → Local may m n P (met (free header authority) opener path d) (met (held may header authority) opener' path d)
+    met_local path ByCaller = good_local may m n P tt
+    met_local path (ByNode entry node) =
+        let pair : Pair = record { entry = entry; node = node; path = path } in
+        after_local may m n P (uses_node pair) (uses_node pair) (λ _. proves_root (free header authority) opener entry node) (λ _. proves_root (held may header authority) opener' entry node)
+        (sets_local may m n P (with_pair pair) tt (pair_besides pair) (λ q w. same w.meter)) (λ _. proves_root_local entry node)
+    met_local path ByNothing = fails_local may m n P _
+
+    demanded_local : (path : List ℕ) (caller : Option ScAddress) (address : ScAddress) (function : Function)
+        → Local may m n P (demanded (free header authority) opener path caller address function) (demanded (held may header authority) opener' path caller address function)
+    demanded_local path caller address function =
+        with_local may m n P (λ w. choice (record { entries = authority.entries; source = authority.source; pairs = w.pairs }) path caller address function)
+        (met (free header authority) opener path) (met (held may header authority) opener' path) (λ w q. refl) (met_local path)
+
+    requires_local : (address : ScAddress) (args : List Datum) (f : Frame) → Local may m n P (requires (free header authority) opener address args f) (requires (held may header authority) opener' address args f)
+    requires_local address args f = after_local may m n P _ _ _ _ (demanded_local f.path f.caller address (invocation f args)) (λ _. good_local may m n P nothing)
+
+    pub auth_local : (address : ScAddress) → Local may m n P (require_auth (free header authority) opener address) (require_auth (held may header authority) opener' address)
+    auth_local address = frame_local may m n P _ _ (λ f. requires_local address f.args f)
+
+    pub auth_for_args_local : (address : ScAddress) (args : List Datum)
+        → Local may m n P (require_auth_for_args (free header authority) opener address args) (require_auth_for_args (held may header authority) opener' address args)
+    auth_for_args_local address args = frame_local may m n P _ _ (λ f. requires_local address args f)
+
+    -- ---- calls and creates
 
     call_by_local : (make make' : Call → Act Datum) → ((c : Call) → Local may m n P (make c) (make' c)) → (address : ScAddress) (function : List ℕ) (args : List Datum) → Local may m n P (call_by make address function args) (call_by make' address function args)
     call_by_local make make' l address function args = frame_local may m n P _ _ (λ f. l _)
 
-    pub call_local : (address : ScAddress) (function : List ℕ) (args : List Datum) → Local may m n P (call (free header) opener address function args) (call (held may header) opener' address function args)
+    pub call_local : (address : ScAddress) (function : List ℕ) (args : List Datum) → Local may m n P (call (free header authority) opener address function args) (call (held may header authority) opener' address function args)
     call_local address function args = returning_local may m n P _ _ _ (call_by_local _ _ calls_local address function args)
 
-    pub try_call_local : (address : ScAddress) (function : List ℕ) (args : List Datum) → Local may m n P (try_call (free header) opener address function args) (try_call (held may header) opener' address function args)
+    pub try_call_local : (address : ScAddress) (function : List ℕ) (args : List Datum) → Local may m n P (try_call (free header authority) opener address function args) (try_call (held may header authority) opener' address function args)
     try_call_local address function args = returning_local may m n P _ _ _ (call_by_local _ _ (λ c. catching_local may m n P _ _ (calls_local c)) address function args)
 
     constructs_if_local : (o : Option ℕ) (creator : Option ScAddress) (id code : Hash) (args : List Datum) (path : List ℕ) (x : Module)
@@ -370,29 +436,30 @@ module _ (may : Judge) (m n : LedgerMap) (P : Watch) (sound : Sound may) (header
     builds_local : (creator : Option ScAddress) (c : Creation) (id : Hash) (path code : List ℕ) → Local may m n P (builds opener creator c id path code) (builds opener' creator c id path code)
     builds_local creator c id path code = paying_local may m n P _ _ _ _ (module_local may m n P (module_of code) _ _ (λ x. constructs_if_local (function_named CONSTRUCTOR x.exports) creator id c.code (unwrap_or c.args []) path x))
 
-    makes_local : (creator : Option ScAddress) (c : Creation) (path code : List ℕ) → Local may m n P (makes (free header) opener creator c path code) (makes (held may header) opener' creator c path code)
+    makes_local : (creator : Option ScAddress) (c : Creation) (path code : List ℕ) → Local may m n P (makes (free header authority) opener creator c path code) (makes (held may header authority) opener' creator c path code)
     makes_local creator c path code =
-        let id : Hash = id_of (free header) c in
-        after_local may m n P (access (free header) Write (instance_key id) (makes_instance (free header) id c.code)) (access (held may header) Write (instance_key id) (makes_instance (held may header) id c.code))
+        let id : Hash = id_of (free header authority) c in
+        after_local may m n P (access (free header authority) Write (instance_key id) (makes_instance (free header authority) id c.code)) (access (held may header authority) Write (instance_key id) (makes_instance (held may header authority) id c.code))
         (λ _. after (builds opener creator c id path code) (λ _. gives id)) (λ _. after (builds opener' creator c id path code) (λ _. gives id))
-        (access_local may m n P sound header fair Write (instance_key id) (makes_instance (free header) id c.code) tt (makes_puts id c.code))
+        (access_local may m n P sound header authority fair Write (instance_key id) (makes_instance (free header authority) id c.code) tt (makes_puts id c.code))
         (λ _. after_local may m n P (builds opener creator c id path code) (builds opener' creator c id path code) (λ _. gives id) (λ _. gives id) (builds_local creator c id path code) (λ _. good_local may m n P id))
 
-    creates_at_local : (creator : Option ScAddress) (c : Creation) (path : List ℕ) → Local may m n P (creates_at (free header) opener creator c path) (creates_at (held may header) opener' creator c path)
+    creates_at_local : (creator : Option ScAddress) (c : Creation) (path : List ℕ) → Local may m n P (creates_at (free header authority) opener creator c path) (creates_at (held may header authority) opener' creator c path)
     creates_at_local creator c path =
-        let ask : Act (Unit {0}) = demanded path creator c.deployer (function_of c) in
-        let next : Act Hash = after (code_at (free header) c.code) (makes (free header) opener creator c path) in
-        let next' : Act Hash = after (code_at (held may header) c.code) (makes (held may header) opener' creator c path) in
-        paying_local may m n P ComputeSha256Hash (length (contract_id_payload header.network_id (preimage_of c))) (after ask (λ _. next)) (after ask (λ _. next'))
-        (after_local may m n P ask ask (λ _. next) (λ _. next') (demanded_local may m n P path creator c.deployer (function_of c))
-        (λ _. after_local may m n P (code_at (free header) c.code) (code_at (held may header) c.code) (makes (free header) opener creator c path) (makes (held may header) opener' creator c path) (code_at_local c.code) (makes_local creator c path)))
+        let ask : Act (Unit {0}) = demanded (free header authority) opener path creator c.deployer (function_of c) in
+        let ask' : Act (Unit {0}) = demanded (held may header authority) opener' path creator c.deployer (function_of c) in
+        let next : Act Hash = after (code_at (free header authority) c.code) (makes (free header authority) opener creator c path) in
+        let next' : Act Hash = after (code_at (held may header authority) c.code) (makes (held may header authority) opener' creator c path) in
+        paying_local may m n P ComputeSha256Hash (length (contract_id_payload header.network_id (preimage_of c))) (after ask (λ _. next)) (after ask' (λ _. next'))
+        (after_local may m n P ask ask' (λ _. next) (λ _. next') (demanded_local path creator c.deployer (function_of c))
+        (λ _. after_local may m n P (code_at (free header authority) c.code) (code_at (held may header authority) c.code) (makes (free header authority) opener creator c path) (makes (held may header authority) opener' creator c path) (code_at_local c.code) (makes_local creator c path)))
 
-    pub creates_local : (creator : Option ScAddress) (c : Creation) → Local may m n P (creates (free header) opener creator c) (creates (held may header) opener' creator c)
-    creates_local creator c = begins_local may m n P (creates_at (free header) opener creator c) (creates_at (held may header) opener' creator c) (creates_at_local creator c)
+    pub creates_local : (creator : Option ScAddress) (c : Creation) → Local may m n P (creates (free header authority) opener creator c) (creates (held may header authority) opener' creator c)
+    creates_local creator c = begins_local may m n P (creates_at (free header authority) opener creator c) (creates_at (held may header authority) opener' creator c) (creates_at_local creator c)
 
-    pub creates_by_local : (deployer : ScAddress) (code salt : List ℕ) (args : Option (List Datum)) → Local may m n P (creates_by (free header) opener deployer code salt args) (creates_by (held may header) opener' deployer code salt args)
+    pub creates_by_local : (deployer : ScAddress) (code salt : List ℕ) (args : Option (List Datum)) → Local may m n P (creates_by (free header authority) opener deployer code salt args) (creates_by (held may header authority) opener' deployer code salt args)
     creates_by_local deployer code salt args = hash_local may m n P code _ _ (λ c. hash_local may m n P salt _ _ (λ s.
-        let create : Frame → Act Hash = λ f. creates (free header) opener (Some (addresses.Contract f.contract)) (record { deployer = deployer; code = c; salt = s; args = args }) in
-        let create' : Frame → Act Hash = λ f. creates (held may header) opener' (Some (addresses.Contract f.contract)) (record { deployer = deployer; code = c; salt = s; args = args }) in
+        let create : Frame → Act Hash = λ f. creates (free header authority) opener (Some (addresses.Contract f.contract)) (record { deployer = deployer; code = c; salt = s; args = args }) in
+        let create' : Frame → Act Hash = λ f. creates (held may header authority) opener' (Some (addresses.Contract f.contract)) (record { deployer = deployer; code = c; salt = s; args = args }) in
         frame_local may m n P (λ f. returning (create f) (λ id. address_of (addresses.Contract id))) (λ f. returning (create' f) (λ id. address_of (addresses.Contract id)))
         (λ f. returning_local may m n P (create f) (create' f) (λ id. address_of (addresses.Contract id)) (creates_local (Some (addresses.Contract f.contract)) (record { deployer = deployer; code = c; salt = s; args = args })))))

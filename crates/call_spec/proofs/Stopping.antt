@@ -128,35 +128,35 @@ footprint_sound footprint Extend key e = e
 footprint_sound footprint Write key e = right_true (has_bytes footprint.read_only key) (has_bytes footprint.read_write key) e
 
 pub stop_law : StopLaw
-stop_law header instructions work footprint m n agree =
-    stops (by_footprint footprint) m n _ _ (run_same (by_footprint footprint) m n (unwatched header) (footprint_sound footprint) header (unwatched_fair header) instructions work agree)
+stop_law header authority instructions work footprint m n agree =
+    stops (by_footprint footprint) m n _ _ (run_same (by_footprint footprint) m n (unwatched header) (footprint_sound footprint) header authority (unwatched_fair header) instructions work agree)
 
 pub end_to_end_law : EndToEndLaw
-end_to_end_law header work footprint w n agree clean =
+end_to_end_law header authority work footprint w n agree clean =
     stops (by_footprint footprint) w.entries n _ _
-    ((done_local (by_footprint footprint) w.entries n (unwatched header) (footprint_sound footprint) header (unwatched_fair header) work).same w n (record { agree = agree; left = λ k e. refl; right = λ k e. refl }) clean)
+    ((done_local (by_footprint footprint) w.entries n (unwatched header) (footprint_sound footprint) header authority (unwatched_fair header) work).same w n (record { agree = agree; left = λ k e. refl; right = λ k e. refl }) clean)
 
 pub local_law : LocalLaw
-local_law header instructions work footprint m n agree =
-    both (by_footprint footprint) m n _ _ _ (run_same (by_footprint footprint) m n (unwatched header) (footprint_sound footprint) header (unwatched_fair header) instructions work agree)
-    (run_same (by_footprint footprint) n n (unwatched header) (footprint_sound footprint) header (unwatched_fair header) instructions work (λ k e. refl))
+local_law header authority instructions work footprint m n agree =
+    both (by_footprint footprint) m n _ _ _ (run_same (by_footprint footprint) m n (unwatched header) (footprint_sound footprint) header authority (unwatched_fair header) instructions work agree)
+    (run_same (by_footprint footprint) n n (unwatched header) (footprint_sound footprint) header authority (unwatched_fair header) instructions work (λ k e. refl))
 
 pub local_from_law : LocalFromLaw
-local_from_law header work footprint w n agree = at (first_rejected may w.trace) refl
+local_from_law header authority work footprint w n agree = at (first_rejected may w.trace) refl
   where
     may : Judge
     may = by_footprint footprint
 
     one : Out Datum
-    one = done_under all_allowed header work w
+    one = done_under all_allowed header authority work w
 
     other : Out Datum
-    other = done_under all_allowed header work (record w { entries = n })
+    other = done_under all_allowed header authority work (record w { entries = n })
 
     at : (x : Option Access) → first_rejected may w.trace ≡ x → AlikeRuns may w.entries n one other
-    at None clean = both may w.entries n one other (done_under may header work (record w { entries = n }))
-        ((done_local may w.entries n (unwatched header) (footprint_sound footprint) header (unwatched_fair header) work).same w n (record { agree = agree; left = λ k e. refl; right = λ k e. refl }) clean)
-        ((done_local may n n (unwatched header) (footprint_sound footprint) header (unwatched_fair header) work).same (record w { entries = n }) n (record { agree = λ k e. refl; left = λ k e. refl; right = λ k e. refl }) clean)
+    at None clean = both may w.entries n one other (done_under may header authority work (record w { entries = n }))
+        ((done_local may w.entries n (unwatched header) (footprint_sound footprint) header authority (unwatched_fair header) work).same w n (record { agree = agree; left = λ k e. refl; right = λ k e. refl }) clean)
+        ((done_local may n n (unwatched header) (footprint_sound footprint) header authority (unwatched_fair header) work).same (record w { entries = n }) n (record { agree = λ k e. refl; left = λ k e. refl; right = λ k e. refl }) clean)
     at (Some a) e = both_later may w.entries n w.trace a e one other
-        ((done_local may w.entries n (unwatched header) (footprint_sound footprint) header (unwatched_fair header) work).grows w)
-        ((done_local may n n (unwatched header) (footprint_sound footprint) header (unwatched_fair header) work).grows (record w { entries = n }))
+        ((done_local may w.entries n (unwatched header) (footprint_sound footprint) header authority (unwatched_fair header) work).grows w)
+        ((done_local may n n (unwatched header) (footprint_sound footprint) header authority (unwatched_fair header) work).grows (record w { entries = n }))

@@ -18,7 +18,7 @@ use Rattle.call_spec.proofs.Frames.{unwatched, unwatched_fair}
 use Rattle.call_spec.proofs.HostFunctions.{run_quiet}
 
 pub written_law : WrittenLaw
-written_law header instructions work entries key = run_quiet all_allowed entries entries (unwatched header) (λ kind k e. refl) header (unwatched_fair header) instructions work key
+written_law header authority instructions work entries key = run_quiet all_allowed entries entries (unwatched header) (λ kind k e. refl) header authority (unwatched_fair header) instructions work key
 
 -- ---- the accesses that a footprint allows
 
@@ -47,5 +47,5 @@ unwritten footprint key (a ∷ older) clean h =
     (unwritten footprint key older (older_clean (by_footprint footprint) a older clean) h)
 
 pub read_only_law : ReadOnlyLaw
-read_only_law header instructions work footprint entries key clean h =
-    written_law header instructions work entries key (unwritten footprint key (world_of (whole header instructions work entries)).trace clean h)
+read_only_law header authority instructions work footprint entries key clean h =
+    written_law header authority instructions work entries key (unwritten footprint key (world_of (whole header authority instructions work entries)).trace clean h)

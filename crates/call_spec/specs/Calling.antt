@@ -1,5 +1,5 @@
 -- Module d: calls of contracts, and calls whose failure is caught (own, after CAP-0046-01 and CAP-0046-03).
-use Rattle.std.specs.Prelude.{ℕ, List, length, take, codes, Bool, not, Option, Some}
+use Rattle.std.specs.Prelude.{ℕ, List, length, take, codes, Bool, true, not, Option, Some}
 use Rattle.std.specs.List.{list_any}
 use Rattle.std.specs.Str.{bytes_eq}
 use Rattle.budget_meter.specs.declared.kind.Kind.TheVariants.{VmInstantiation}
@@ -80,6 +80,10 @@ calls_if named env opener call = begins (λ path. with_opener opener (λ enter. 
 -- a call by a contract or a transaction
 abbrev pub calls : Env → Opener → Call → Act Datum
 calls env opener call = calls_if (not (is_reserved call.function)) env opener call
+
+-- a call by the host itself, whose name is reserved for it
+abbrev pub calls_for_host : Env → Opener → Call → Act Datum
+calls_for_host env opener call = calls_if true env opener call
 
 -- ---- failures that leave the world as it was, and caught calls
 

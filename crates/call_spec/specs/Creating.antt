@@ -3,7 +3,7 @@ use Rattle.std.specs.Prelude.{ℕ, ◌==◌, List, [], ◌∷◌, ◌++◌, leng
 use Rattle.std.specs.Option.{unwrap_or}
 use Rattle.sha2.specs.Sha256.{sha256}
 use Rattle.budget_meter.specs.declared.kind.Kind.TheVariants.{ComputeSha256Hash, VmInstantiation}
-use Rattle.value_types.specs.Datum.{Datum, void, bytes, address}
+use Rattle.value_types.specs.Datum.{Datum, bytes, address}
 use Rattle.value_types.specs.Views.{scval}
 use Rattle.value_types.specs.Hash.{hash_of}
 use Rattle.value_types.specs.declared.hash.Hash.{Hash}
@@ -28,7 +28,7 @@ use Rattle.call_spec.specs.Accesses.{Effect, answers, refuses, access, puts}
 use Rattle.call_spec.specs.Keys.{instance_key, instance_entry, code_key, code_entry}
 use Rattle.call_spec.specs.Events.{emits, update_event}
 use Rattle.call_spec.specs.Demands.{demanded}
-use Rattle.call_spec.specs.Frames.{Entered, Opener, with_opener}
+use Rattle.call_spec.specs.Frames.{Entered, Opener, with_opener, is_void}
 use Rattle.call_spec.specs.Found.{code_at, with_module, with_start}
 use Rattle.call_spec.specs.Rules.{nothing, returning}
 
@@ -89,10 +89,6 @@ makes_instance env id code None = puts env (instance_entry (made_seq env) id (ne
 abbrev pub CONSTRUCTOR : List ℕ
 CONSTRUCTOR = codes "__constructor"
 
-abbrev pub is_void : Datum → Bool
-is_void void = true
-is_void _ = false
-
 abbrev pub constructs : (Entered → Act Datum) → Option ScAddress → Hash → Hash → List Datum → List ℕ → Module → Act (Unit {0})
 constructs enter creator id code args path m =
     with_start (start_of m CONSTRUCTOR (length args)) (λ index store.
@@ -129,7 +125,7 @@ makes env opener creator c path code =
 -- the id's charge, the demand, the code
 abbrev pub creates_at : Env → Opener → Option ScAddress → Creation → List ℕ → Act Hash
 creates_at env opener creator c path =
-    paying_id env (preimage_of c) (after (demanded path creator c.deployer (function_of c)) (λ _.
+    paying_id env (preimage_of c) (after (demanded env opener path creator c.deployer (function_of c)) (λ _.
     after (code_at env c.code) (makes env opener creator c path)))
 
 -- The id of a contract that is created. The creator is the contract that creates it, if a contract does.

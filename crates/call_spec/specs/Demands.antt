@@ -1,63 +1,62 @@
--- Module a: demands of authorisation (own, after CAP-0046-11). Authorisation entries meet no demand yet: only a contract that calls directly is
--- authorised.
-use Rattle.std.specs.Prelude.{ℕ, List, map, Bool, true, false, Option, Some}
-use Rattle.std.specs.Str.{bytes_eq}
+-- Module a: demands of authorisation (own, after CAP-0046-11).
+use Rattle.std.specs.Prelude.{ℕ, List, [], ◌∷◌, ◌++◌, map, slice_get, Option, Some, None}
 use Rattle.value_types.specs.Datum.{Datum}
 use Rattle.value_types.specs.Views.{scval}
-use Rattle.value_types.specs.declared.hash.Hash.{Hash}
 use Rattle.value_types.specs.declared.address.ScAddress.{ScAddress}
 use Rattle.value_types.specs.declared.address.ScAddress.TheVariants as addresses
 use Rattle.invoke_types.specs.declared.function.Function.{Function}
 use Rattle.invoke_types.specs.declared.function.Function.TheVariants.{ContractFn}
+use Rattle.auth_types.specs.declared.auth_entry.AuthEntry.{AuthEntry}
+use Rattle.auth_trees.specs.Pairs.{Pair}
+use Rattle.auth_trees.specs.Demands.{Choice, ByNode, ByCaller, ByNothing, choice}
 use Rattle.host_spec.specs.Answers.{Answer}
 use Rattle.call_spec.specs.Errors.{DENIED}
-use Rattle.call_spec.specs.World.{Pair, Frame}
-use Rattle.call_spec.specs.Acts.{Act, after, gives, fails, with_world, with_frame}
+use Rattle.call_spec.specs.World.{Frame, World, Env}
+use Rattle.call_spec.specs.Acts.{Act, after, gives, fails, sets, with_world, with_frame}
+use Rattle.call_spec.specs.Asking.{proves}
+use Rattle.call_spec.specs.Frames.{Opener}
 use Rattle.call_spec.specs.Rules.{nothing}
 
--- ---- what meets a demand
+-- the pair is one of those that were used
+abbrev pub with_pair : Pair → World → World
+with_pair pair w = record w { pairs = w.pairs ++ pair ∷ [] }
 
-pub data Demand : Type 0 where
-  ByInvoker : Demand
-  Denied : Demand
+abbrev pub uses_node : Pair → Act (Unit {0})
+uses_node pair = sets (with_pair pair) tt
 
-abbrev pub same_contract : Hash → ScAddress → Bool
-same_contract contract (addresses.Contract other) = bytes_eq contract.0 other.0
-same_contract contract _ = false
+-- The root of an entry is used for the first time: its address proves that it authorises. A demand is met only by entries that are there.
+abbrev pub proves_entry : Env → Opener → Option AuthEntry → Act (Unit {0})
+proves_entry env opener None = fails DENIED
+proves_entry env opener (Some entry) = proves env opener entry.root_invocation entry.credentials
 
--- whether the caller is the contract with this address; only contracts call
-abbrev pub is_caller : ScAddress → Option ScAddress → Bool
-is_caller (addresses.Contract contract) (Some caller) = same_contract contract caller
-is_caller _ _ = false
+-- only the root of an entry is proved
+abbrev pub proves_root : Env → Opener → ℕ → List ℕ → Act (Unit {0})
+proves_root env opener entry [] = proves_entry env opener (slice_get env.authority.entries entry)
+proves_root env opener entry (i ∷ more) = gives tt
 
-abbrev pub by_caller : Bool → Demand
-by_caller true = ByInvoker
-by_caller false = Denied
+-- What meets a demand, or its failure. A node that meets a demand is used before its entry is proved.
+abbrev pub met : Env → Opener → List ℕ → Choice → Act (Unit {0})
+met env opener path ByCaller = gives tt
+met env opener path (ByNode entry node) =
+    after (uses_node (record { entry = entry; node = node; path = path })) (λ _. proves_root env opener entry node)
+met env opener path ByNothing = fails DENIED
 
--- What meets the demand for an address in the frame of a path, whose direct caller is given: for a create the frame's own contract. The pairs are
--- the authorisations that were used. Entries meet no demand yet, so pairs, path and function decide nothing. Muxed accounts, claimable balances and
--- pools are never authorised.
-abbrev pub demand : List Pair → List ℕ → Option ScAddress → ScAddress → Function → Demand
-demand pairs path caller address function = by_caller (is_caller address caller)
-
--- ---- demands as acts
-
-abbrev pub met : Demand → Act (Unit {0})
-met ByInvoker = gives tt
-met Denied = fails DENIED
-
-abbrev pub demanded : List ℕ → Option ScAddress → ScAddress → Function → Act (Unit {0})
-demanded path caller address function = with_world (λ w. demand w.pairs path caller address function) met
+-- A demand for an address in the frame of a path, whose direct caller is given. For a create the path has the create's number behind it, and the
+-- caller is the frame's own contract.
+abbrev pub demanded : Env → Opener → List ℕ → Option ScAddress → ScAddress → Function → Act (Unit {0})
+demanded env opener path caller address function =
+    with_world (λ w. choice (record { entries = env.authority.entries; source = env.authority.source; pairs = w.pairs }) path caller address function)
+    (met env opener path)
 
 -- the frame's function with these arguments
 abbrev pub invocation : Frame → List Datum → Function
 invocation frame args = ContractFn (record { contract = addresses.Contract frame.contract; function = frame.function; args = map scval args })
 
-abbrev pub requires : ScAddress → List Datum → Frame → Act Answer
-requires address args frame = after (demanded frame.path frame.caller address (invocation frame args)) (λ _. gives nothing)
+abbrev pub requires : Env → Opener → ScAddress → List Datum → Frame → Act Answer
+requires env opener address args frame = after (demanded env opener frame.path frame.caller address (invocation frame args)) (λ _. gives nothing)
 
-abbrev pub require_auth : ScAddress → Act Answer
-require_auth address = with_frame (λ frame. requires address frame.args frame)
+abbrev pub require_auth : Env → Opener → ScAddress → Act Answer
+require_auth env opener address = with_frame (λ frame. requires env opener address frame.args frame)
 
-abbrev pub require_auth_for_args : ScAddress → List Datum → Act Answer
-require_auth_for_args address args = with_frame (λ frame. requires address args frame)
+abbrev pub require_auth_for_args : Env → Opener → ScAddress → List Datum → Act Answer
+require_auth_for_args env opener address args = with_frame (λ frame. requires env opener address args frame)

@@ -79,6 +79,14 @@ OTHER_SIZE = errors.Value codes.UnexpectedSize
 
 -- ---- authorisation
 
--- no authorisation meets the demand
+-- no authorisation meets the demand, or its address does not prove that it authorises
 abbrev pub DENIED : ScError
 DENIED = errors.Auth codes.InvalidAction
+
+-- the signature has ended before this ledger, or ends beyond the furthest ledger that an entry may reach
+abbrev pub EXPIRED : ScError
+EXPIRED = errors.Auth codes.InvalidInput
+
+-- the nonce is used already
+abbrev pub USED_NONCE : ScError
+USED_NONCE = errors.Auth codes.ExistingValue

@@ -3,7 +3,7 @@ use Rattle.std.specs.Prelude.{ℕ, ◌*◌, List, [], ◌∷◌, Bool, true, fal
 use Rattle.std.specs.Ordering.{is_eq}
 use Rattle.budget_meter.specs.Meter.{Meter}
 use Rattle.budget_meter.specs.declared.kind.Kind.TheVariants.{MemAlloc, InvokeVmFunction}
-use Rattle.value_types.specs.Datum.{Datum, error}
+use Rattle.value_types.specs.Datum.{Datum, void, error}
 use Rattle.value_types.specs.Order.{datum_cmp}
 use Rattle.value_types.specs.declared.hash.Hash.{Hash}
 use Rattle.value_types.specs.declared.address.ScAddress.{ScAddress}
@@ -120,6 +120,11 @@ abbrev pub returned_value : Option Datum → Act Datum
 returned_value None = fails INVALID_VALUE
 returned_value (Some (error e)) = fails (passed_on e)
 returned_value (Some d) = gives d
+
+-- what a function returns that is called for its effect alone
+abbrev pub is_void : Datum → Bool
+is_void void = true
+is_void _ = false
 
 abbrev pub is_same : Copied → Copied → Bool
 is_same first copy = is_eq (datum_cmp (instance_of first) (instance_of copy))

@@ -45,8 +45,8 @@ world_rule env opener imports.UpdateCurrentContractWasm = Some (update_current_c
 world_rule env opener imports.GetContractId = Some (get_contract_id env)
 world_rule env opener imports.Call = Some (call env opener)
 world_rule env opener imports.TryCall = Some (try_call env opener)
-world_rule env opener imports.RequireAuth = Some require_auth
-world_rule env opener imports.RequireAuthForArgs = Some require_auth_for_args
+world_rule env opener imports.RequireAuth = Some (require_auth env opener)
+world_rule env opener imports.RequireAuthForArgs = Some (require_auth_for_args env opener)
 world_rule env opener _ = None
 
 -- a call of a function that acts on the world, or None for another function

@@ -23,7 +23,7 @@ use Rattle.tx_results.specs.declared.operation.InvokeResult.TheVariants.{Success
 use Rattle.ledger_spec.specs.LedgerMap.{LedgerMap}
 use Rattle.ledger_spec.specs.Seen.{Seen, live, absent, archived, seen, seen_of}
 use Rattle.stage_runs.specs.Whole.{nothing_used}
-use Rattle.call_spec.specs.World.{Access, World, next_seq}
+use Rattle.call_spec.specs.World.{Access, World, next_seq, Authority}
 use Rattle.call_spec.specs.Acts.{Failed, Spent, Archived, Out, Good, Bad, Undeclared, world_of}
 use Rattle.call_spec.specs.Accesses.{entry_size}
 use Rattle.call_spec.specs.Footprints.{by_footprint, first_rejected}
@@ -115,14 +115,14 @@ by_trace n resources map None out = by_end n resources map out
 abbrev pub by_run : ℕ → SorobanData → LedgerMap → Out Datum → Invoked
 by_run n resources map out = by_trace n resources map (first_rejected (by_footprint resources.footprint) (world_of out).trace) out
 
-abbrev pub by_work : Header → SorobanData → LedgerMap → Option Work → Invoked
-by_work header resources map None = unsuccessful Malformed map nothing_used
-by_work header resources map (Some work) =
+abbrev pub by_work : Header → Authority → SorobanData → LedgerMap → Option Work → Invoked
+by_work header authority resources map None = unsuccessful Malformed map nothing_used
+by_work header authority resources map (Some work) =
     if declares_archived (next_seq header) map resources.footprint then unsuccessful EntryArchived map nothing_used
     else if nat_lt resources.disk_read_bytes (read_bytes (next_seq header) map resources.footprint)
     then unsuccessful ResourceLimitExceeded map nothing_used
-    else by_run (next_seq header) resources map (whole header resources.instructions work map)
+    else by_run (next_seq header) resources map (whole header authority resources.instructions work map)
 
 -- the operation with these resources, over all entries of the ledger
-abbrev pub invoked : Header → SorobanData → LedgerMap → HostFunction → Invoked
-invoked header resources map function = by_work header resources map (work_of function)
+abbrev pub invoked : Header → Authority → SorobanData → LedgerMap → HostFunction → Invoked
+invoked header authority resources map function = by_work header authority resources map (work_of function)

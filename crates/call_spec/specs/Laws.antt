@@ -15,7 +15,7 @@ use Rattle.stage_runs.specs.Maps.{AgreeOn, has_bytes}
 use Rattle.host_interface.specs.declared.import.HostImport.{HostImport}
 use Rattle.wasm_machine.specs.Spending.{IsLater}
 use Rattle.host_spec.specs.ValueFunctions.{value_rule}
-use Rattle.call_spec.specs.World.{AccessKind, Read, Extend, Write, Judge, Access, World, Env, next_seq}
+use Rattle.call_spec.specs.World.{AccessKind, Read, Extend, Write, Judge, Access, World, Env, next_seq, Authority}
 use Rattle.call_spec.specs.Acts.{Archived, Out, Good, Bad, Undeclared, world_of}
 use Rattle.call_spec.specs.Footprints.{by_footprint, first_rejected, up_to}
 use Rattle.call_spec.specs.Frames.{Entered, framed, Opener}
@@ -57,14 +57,14 @@ pub record AlikeRuns {A : Type 0} (may : Judge) (m n : LedgerMap) (one other : O
 
 -- Whole runs over two maps that agree on a footprint are the same up to the first access that the footprint does not declare.
 abbrev pub LocalLaw : Type 0
-LocalLaw = (header : Header) (instructions : ℕ) (work : Work) (footprint : Footprint) (m n : LedgerMap) → Agree (by_footprint footprint) m n
-    → AlikeRuns (by_footprint footprint) m n (whole header instructions work m) (whole header instructions work n)
+LocalLaw = (header : Header) (authority : Authority) (instructions : ℕ) (work : Work) (footprint : Footprint) (m n : LedgerMap) → Agree (by_footprint footprint) m n
+    → AlikeRuns (by_footprint footprint) m n (whole header authority instructions work m) (whole header authority instructions work n)
 
 -- The same holds of a call, an upload or a create from any world.
 abbrev pub LocalFromLaw : Type 0
-LocalFromLaw = (header : Header) (work : Work) (footprint : Footprint) (w : World) (n : LedgerMap) → Agree (by_footprint footprint) w.entries n
-    → (let one = done_under all_allowed header work w in
-    let other = done_under all_allowed header work (record w { entries = n }) in
+LocalFromLaw = (header : Header) (authority : Authority) (work : Work) (footprint : Footprint) (w : World) (n : LedgerMap) → Agree (by_footprint footprint) w.entries n
+    → (let one = done_under all_allowed header authority work w in
+    let other = done_under all_allowed header authority work (record w { entries = n }) in
     AlikeRuns (by_footprint footprint) w.entries n one other)
 
 -- ---- a whole run, and a run that is stopped at its first undeclared access
@@ -82,17 +82,17 @@ Stops may m n None one cut = AlikeEnds may m n one cut
 -- For every map that agrees with the footprint's keys, a run that judges each access when it is made is the whole run, up to its first
 -- undeclared access.
 abbrev pub StopLaw : Type 0
-StopLaw = (header : Header) (instructions : ℕ) (work : Work) (footprint : Footprint) (m n : LedgerMap) → Agree (by_footprint footprint) m n
-    → (let one = whole header instructions work m in
-    let cut = run_under (by_footprint footprint) header instructions work n in
+StopLaw = (header : Header) (authority : Authority) (instructions : ℕ) (work : Work) (footprint : Footprint) (m n : LedgerMap) → Agree (by_footprint footprint) m n
+    → (let one = whole header authority instructions work m in
+    let cut = run_under (by_footprint footprint) header authority instructions work n in
     Stops (by_footprint footprint) m n (first_rejected (by_footprint footprint) (world_of one).trace) one cut)
 
 -- The same holds of a call, an upload or a create from any world without an undeclared access so far.
 abbrev pub EndToEndLaw : Type 0
-EndToEndLaw = (header : Header) (work : Work) (footprint : Footprint) (w : World) (n : LedgerMap) → Agree (by_footprint footprint) w.entries n
+EndToEndLaw = (header : Header) (authority : Authority) (work : Work) (footprint : Footprint) (w : World) (n : LedgerMap) → Agree (by_footprint footprint) w.entries n
     → first_rejected (by_footprint footprint) w.trace ≡ None
-    → (let one = done_under all_allowed header work w in
-    let cut = done_under (by_footprint footprint) header work (record w { entries = n }) in
+    → (let one = done_under all_allowed header authority work w in
+    let cut = done_under (by_footprint footprint) header authority work (record w { entries = n }) in
     Stops (by_footprint footprint) w.entries n (first_rejected (by_footprint footprint) (world_of one).trace) one cut)
 
 -- ---- what a run leaves at keys that it does not write
@@ -114,13 +114,13 @@ IsExtended _ _ = ⊥
 
 -- At a key that the run did not write, its entry stays as it was, but for its life, which may be longer.
 abbrev pub WrittenLaw : Type 0
-WrittenLaw = (header : Header) (instructions : ℕ) (work : Work) (entries : LedgerMap) (key : List ℕ)
-    → (let w = world_of (whole header instructions work entries) in writes_in w.trace key ≡ false → IsExtended (get entries key) (get w.entries key))
+WrittenLaw = (header : Header) (authority : Authority) (instructions : ℕ) (work : Work) (entries : LedgerMap) (key : List ℕ)
+    → (let w = world_of (whole header authority instructions work entries) in writes_in w.trace key ≡ false → IsExtended (get entries key) (get w.entries key))
 
 -- So a run without an undeclared access may make lives longer at the keys that are not declared read-write, and changes nothing else there.
 abbrev pub ReadOnlyLaw : Type 0
-ReadOnlyLaw = (header : Header) (instructions : ℕ) (work : Work) (footprint : Footprint) (entries : LedgerMap) (key : List ℕ)
-    → (let w = world_of (whole header instructions work entries) in
+ReadOnlyLaw = (header : Header) (authority : Authority) (instructions : ℕ) (work : Work) (footprint : Footprint) (entries : LedgerMap) (key : List ℕ)
+    → (let w = world_of (whole header authority instructions work entries) in
     first_rejected (by_footprint footprint) w.trace ≡ None → has_bytes footprint.read_write key ≡ false
     → IsExtended (get entries key) (get w.entries key))
 
@@ -143,23 +143,23 @@ pub record AreNumberedLives (header : Header) : Type 0 where
 
 -- However a whole run ends, it leaves each entry at its own key, each life in 32 bits and each code at its hash.
 abbrev pub KeptLaw : Type 0
-KeptLaw = (header : Header) (instructions : ℕ) (work : Work) (entries : LedgerMap) → AreNumberedLives header → AreWellKept entries
-    → AreWellKept (world_of (whole header instructions work entries)).entries
+KeptLaw = (header : Header) (authority : Authority) (instructions : ℕ) (work : Work) (entries : LedgerMap) → AreNumberedLives header → AreWellKept entries
+    → AreWellKept (world_of (whole header authority instructions work entries)).entries
 
 -- The same holds of a call, an upload or a create from any world.
 abbrev pub KeptFromLaw : Type 0
-KeptFromLaw = (header : Header) (work : Work) (w : World) → AreNumberedLives header → AreWellKept w.entries
-    → AreWellKept (world_of (done_under all_allowed header work w)).entries
+KeptFromLaw = (header : Header) (authority : Authority) (work : Work) (w : World) → AreNumberedLives header → AreWellKept w.entries
+    → AreWellKept (world_of (done_under all_allowed header authority work w)).entries
 
 -- ---- archived entries
 
 -- If a persistent entry lives one ledger at least, no declared key is archived, and no access is undeclared, then the run does not end at an
 -- archived entry.
 abbrev pub NeverArchivedLaw : Type 0
-NeverArchivedLaw = (header : Header) (instructions : ℕ) (work : Work) (footprint : Footprint) (entries : LedgerMap) (key : LedgerKey) (w : World)
+NeverArchivedLaw = (header : Header) (authority : Authority) (instructions : ℕ) (work : Work) (footprint : Footprint) (entries : LedgerMap) (key : LedgerKey) (w : World)
     → 1 ≤ header.settings.min_persistent_ttl → declares_archived (next_seq header) entries footprint ≡ false
-    → first_rejected (by_footprint footprint) (world_of (whole header instructions work entries)).trace ≡ None
-    → whole header instructions work entries ≡ Bad (Archived key) w → ⊥
+    → first_rejected (by_footprint footprint) (world_of (whole header authority instructions work entries)).trace ≡ None
+    → whole header authority instructions work entries ≡ Bad (Archived key) w → ⊥
 
 -- ---- operations
 
@@ -172,9 +172,9 @@ pub record AlikeInvoked (may : Judge) (m n : LedgerMap) (one other : Invoked) : 
 
 -- What becomes of an operation depends on the entries at its declared keys alone. All other entries stay as they were.
 abbrev pub FrameLaw : Type 0
-FrameLaw = (header : Header) (resources : SorobanData) (function : HostFunction) (one other : LedgerMap)
+FrameLaw = (header : Header) (authority : Authority) (resources : SorobanData) (function : HostFunction) (one other : LedgerMap)
     → Agree (by_footprint resources.footprint) one other
-    → AlikeInvoked (by_footprint resources.footprint) one other (invoked header resources one function) (invoked header resources other function)
+    → AlikeInvoked (by_footprint resources.footprint) one other (invoked header authority resources one function) (invoked header authority resources other function)
 
 -- ---- host functions
 
@@ -186,6 +186,6 @@ EachHasRule = (env : Env) (opener : Opener) (i : HostImport) → is_some (world_
 
 -- However a frame's run ends, no sum of the budget is lower then, for every number of frames that may still be open.
 abbrev pub SumsGrowLaw : Type 0
-SumsGrowLaw = (header : Header) (room : ℕ) (e : Entered) (w : World)
-    → (let env : Env = record { header = header; judge = all_allowed } in
+SumsGrowLaw = (header : Header) (authority : Authority) (room : ℕ) (e : Entered) (w : World)
+    → (let env : Env = record { header = header; authority = authority; judge = all_allowed } in
     IsLater w.meter (world_of (framed env (host_of env (opener_of env room)) e w)).meter)

@@ -7,11 +7,14 @@ pub mod Keys
 pub mod Rules
 pub mod Storage
 pub mod Events
-pub mod Demands
 pub mod Frames
 pub mod Folding
 pub mod Found
+pub mod Entering
 pub mod Calling
+pub mod Contexts
+pub mod Asking
+pub mod Demands
 pub mod Creating
 pub mod Changed
 pub mod HostFunctions

@@ -1,24 +1,24 @@
 -- The run of a host function by a transaction over all entries of the ledger (own, after CAP-0046-02, CAP-0046-03 and CAP-0058).
-use Rattle.std.specs.Prelude.{ℕ, List, [], ◌∷◌, true, Option, Some, None, Result, Ok, Err}
+use Rattle.std.specs.Prelude.{ℕ, List, [], true, Option, Some, None}
 use Rattle.std.specs.Option.{unwrap_or}
 use Rattle.budget_meter.specs.Meter.{Meter}
-use Rattle.budget_meter.specs.declared.kind.Kind.TheVariants.{ValSer, ValDeser}
+use Rattle.budget_meter.specs.declared.kind.Kind.TheVariants.{ValSer}
 use Rattle.value_types.specs.Datum.{Datum, bytes, address}
 use Rattle.value_types.specs.Views.{datums}
 use Rattle.value_types.specs.declared.address.ScAddress.{ScAddress}
 use Rattle.value_types.specs.declared.address.ScAddress.TheVariants.{Contract}
 use Rattle.value_types.specs.declared.executable.Executable.{Executable}
 use Rattle.value_types.specs.declared.executable.Executable.TheVariants.{Wasm}
-use Rattle.value_types.specs.declared.error.ScError.{ScError}
 use Rattle.invoke_types.specs.declared.preimage.Preimage.{Preimage}
 use Rattle.invoke_types.specs.declared.preimage.Preimage.TheVariants.{FromAddress}
 use Rattle.invoke_types.specs.declared.host_function.HostFunction.{HostFunction}
 use Rattle.invoke_types.specs.declared.host_function.HostFunction.TheVariants.{InvokeContract, CreateContract, UploadContractWasm, CreateContractV2}
 use Rattle.ledger_types.specs.declared.header.Header.{Header}
 use Rattle.ledger_spec.specs.LedgerMap.{LedgerMap}
-use Rattle.host_spec.specs.Hosted.{size_of, entry}
-use Rattle.call_spec.specs.World.{Judge, outside, World, Env}
-use Rattle.call_spec.specs.Acts.{Out, Act, after, gives, fails, paying}
+use Rattle.host_spec.specs.Hosted.{size_of}
+use Rattle.call_spec.specs.World.{Judge, outside, World, Authority, Env}
+use Rattle.call_spec.specs.Acts.{Out, Act, after, gives, paying}
+use Rattle.call_spec.specs.Entering.{entering}
 use Rattle.call_spec.specs.Frames.{Opener}
 use Rattle.call_spec.specs.Calling.{undoing, calls}
 use Rattle.call_spec.specs.Creating.{Creation, uploads, creates}
@@ -44,15 +44,6 @@ work_of (CreateContractV2 args) = creation_of args.preimage args.executable (Som
 
 -- ---- the run
 
-abbrev pub only_if_let_in : {A : Type 0} → Result Datum ScError → Act A → Act A
-only_if_let_in (Err e) act = fails e
-only_if_let_in (Ok d) act = act
-
--- Arguments enter the host one by one, each after its charge.
-abbrev pub entering : {A : Type 0} → List Datum → Act A → Act A
-entering [] act = act
-entering (d ∷ ds) act = paying ValDeser (size_of d) (only_if_let_in (entry d) (entering ds act))
-
 abbrev pub arguments_in : Work → List Datum
 arguments_in (calling contract function args) = args
 arguments_in (uploading code) = []
@@ -69,9 +60,9 @@ abbrev pub performs : Env → Opener → Work → Act Datum
 performs env opener work = after (entering (arguments_in work) (does env opener work)) (λ d. paying ValSer (size_of d) (gives d))
 
 -- The call, the upload or the create alone, under a judge. A failure leaves entries, events and authorisations as they were.
-unfoldable pub done_under : Judge → Header → Work → Act Datum
-done_under judge header work =
-    let env : Env = record { header = header; judge = judge } in
+unfoldable pub done_under : Judge → Header → Authority → Work → Act Datum
+done_under judge header authority work =
+    let env : Env = record { header = header; authority = authority; judge = judge } in
     undoing (does env (opener_of env MOST_FRAMES) work)
 
 -- ---- its start
@@ -96,9 +87,9 @@ start_of header instructions entries = record {
 }
 
 -- a run that the judge may stop
-unfoldable pub run_under : Judge → Header → ℕ → Work → LedgerMap → Out Datum
-run_under judge header instructions work entries =
-    let env : Env = record { header = header; judge = judge } in
+unfoldable pub run_under : Judge → Header → Authority → ℕ → Work → LedgerMap → Out Datum
+run_under judge header authority instructions work entries =
+    let env : Env = record { header = header; authority = authority; judge = judge } in
     performs env (opener_of env MOST_FRAMES) work (start_of header instructions entries)
 
 -- every access is allowed
@@ -106,5 +97,5 @@ abbrev pub all_allowed : Judge
 all_allowed kind key = true
 
 -- The whole run: it knows no footprint.
-abbrev pub whole : Header → ℕ → Work → LedgerMap → Out Datum
-whole header instructions work entries = run_under all_allowed header instructions work entries
+abbrev pub whole : Header → Authority → ℕ → Work → LedgerMap → Out Datum
+whole header authority instructions work entries = run_under all_allowed header authority instructions work entries

@@ -6,11 +6,15 @@ use Rattle.budget_meter.specs.declared.budget.Used.{Used}
 use Rattle.value_types.specs.Datum.{Datum}
 use Rattle.value_types.specs.Hash.{hash_of}
 use Rattle.value_types.specs.declared.hash.Hash.{Hash}
+use Rattle.value_types.specs.declared.account_id.AccountId.{AccountId}
 use Rattle.value_types.specs.declared.address.ScAddress.{ScAddress}
 use Rattle.ledger_types.specs.declared.key.LedgerKey.{LedgerKey}
 use Rattle.ledger_types.specs.declared.header.Header.{Header}
+use Rattle.ledger_types.specs.declared.verdicts.Verdicts.{Verdicts}
 use Rattle.ledger_spec.specs.LedgerMap.{LedgerMap}
 use Rattle.invoke_types.specs.declared.event.ContractEvent.{ContractEvent}
+use Rattle.auth_types.specs.declared.auth_entry.AuthEntry.{AuthEntry}
+use Rattle.auth_trees.specs.Pairs.{Pair}
 use Rattle.host_spec.specs.MapRows.{Member}
 
 -- ---- accesses
@@ -30,14 +34,6 @@ pub record Access : Type 0 where
 abbrev pub Judge : Type 0
 Judge = AccessKind → List ℕ → Bool
 
--- ---- authorisations
-
--- A node of an authorisation entry that met a demand in the frame of a path. The node is given by its indices, from the root down.
-pub record Pair : Type 0 where
-  pub entry : ℕ
-  pub node : List ℕ
-  pub path : List ℕ
-
 -- ---- frames
 
 -- what a frame copies of its contract's instance: the hash of the code, and the instance storage
@@ -45,11 +41,12 @@ pub record Copied : Type 0 where
   pub code : Hash
   pub storage : Option (List Member)
 
--- What belongs to one run of a contract's function. Calls and creates are numbered from 0 by the frame that begins them. A frame's path has
--- these numbers, from the transaction down to the frame. A constructor's path is that of its create and the number 1.
+-- What belongs to one run of a contract's function. Calls and creates are numbered from 0 by the frame that begins them, and so are the calls by which
+-- the host asks a contract for a demand of the frame. A frame's path has these numbers, from the transaction down to the frame. A constructor's path is
+-- that of its create and the number 1.
 pub record Frame : Type 0 where
   pub contract : Hash
-  -- the contract that called or created it, if a contract did
+  -- the contract that called or created it, if a contract did: none for a call by the transaction or by the host
   pub caller : Option ScAddress
   pub function : List ℕ
   pub args : List Datum
@@ -93,10 +90,18 @@ pub record World : Type 0 where
   pub trace : List Access
   pub meter : Meter
 
--- What no run changes: the header of the ledger before the one that is made, with the close time of the one that is made, and which accesses
--- are allowed.
+-- What may meet demands of authorisation: the operation's entries, the account that is the operation's source, and the signatures that are known to
+-- be good.
+pub record Authority : Type 0 where
+  pub entries : List AuthEntry
+  pub source : AccountId
+  pub verdicts : Verdicts
+
+-- What no run changes: the header of the ledger before the one that is made, with the close time of the one that is made, what may meet demands,
+-- and which accesses are allowed.
 pub record Env : Type 0 where
   pub header : Header
+  pub authority : Authority
   pub judge : Judge
 
 -- the number of the ledger that is made

@@ -1,5 +1,5 @@
 -- Calls, from the target to the frame.
-use Rattle.std.proofs.Common.{◌≡◌, ℕ, zero, suc, ◌+◌, ◌-◌, ◌≢◌, List, [], ◌∷◌, ◌++◌, length, Option, Some, Result, Ok, Err, refl, sym, ap, ◌∙◌, subst, arith}
+use Rattle.std.proofs.Common.{◌≡◌, ℕ, zero, suc, ◌-◌, ◌≢◌, Bool, List, [], ◌∷◌, ◌++◌, length, Option, Some, Result, Ok, Err, refl, sym, ap, ◌∙◌, subst, arith, append-nil, append_assoc}
 use Rattle.std.specs.Option.{option_map}
 use Rattle.value_types.specs.Datum.{Datum}
 use Rattle.value_types.specs.declared.hash.Hash.{Hash}
@@ -12,54 +12,90 @@ use Rattle.wasm_run.specs.Suspended.{Suspended}
 use Rattle.wasm_spec.specs.Instances.{Start, Missing, WrongArity, Segment, Ready, start_of}
 use Rattle.host_spec.specs.declared.error.HostErr.{HostErr}
 use Rattle.host_spec.specs.declared.error.HostErr.TheVariants as ends
+use Rattle.auth_trees.proofs.Later.{later_itself, later_again}
+use Rattle.contract_storage.proofs.Going.{again}
+use Rattle.host_ledger.proofs.Rows.{later_same}
 use Rattle.call_spec.specs.World.{World, Env}
 use Rattle.call_spec.specs.Acts.{Act, Failed, Bad, after, begins}
-use Rattle.call_spec.specs.Calling.{Call, calls}
+use Rattle.call_spec.specs.Calling.{Call}
 use Rattle.call_spec.specs.Frames.{Entered, framed}
 use Rattle.call_spec.specs.Found.{with_start}
 use Rattle.call_spec.specs.HostFunctions.{host_of, opener_of}
 use Rattle.call_parts.specs.Started.{IsStarted, refusal_of}
-use Rattle.host_ledger.specs.Worlds.{address_of, copied, IsEnv}
+use Rattle.host_ledger.specs.Worlds.{address_of, copied}
 use Rattle.host_ledger.specs.declared.state.InstanceCopy.{InstanceCopy}
 use Rattle.host_ledger.specs.declared.state.Running.{Running}
-use Rattle.contract_call.specs.Worlds.{world_around, DoesAround, Stays}
+use Rattle.contract_call.specs.Worlds.{world_around, numbered, IsEnvOf, DoesAround, Stays}
 use Rattle.contract_call.specs.Running.{entered}
-use Rattle.contract_call.specs.Targets.{target, target_of, enters_at, call_of}
+use Rattle.contract_call.specs.Targets.{call_at, target, target_of, enters_at, call_of}
+use Rattle.contract_call.specs.Placed.{IsNewPlace}
 use Rattle.contract_call.specs.declared.host.Host.{Host}
+use Rattle.contract_call.specs.declared.place.Place.{Place}
 use Rattle.contract_call.specs.declared.targets.Target.{Target as Target'}
 use Rattle.contract_call.specs.declared.targets.ContractCall.{ContractCall}
-use Rattle.contract_call.proofs.Joining.{stop, go_on, same_act, fails_as, as_fails, traced, keep_count}
+use Rattle.contract_call.proofs.Joining.{stop, go_on, same_act, fails_as, as_fails, traced, keep_rest}
+use Rattle.contract_call.proofs.Looping.{same_authority, place_again}
 use Rattle.contract_call.proofs.Showing.{shown_as}
 use Rattle.contract_call.proofs.Splitting.{calls_first}
 use Rattle.host_ledger.proofs.Composing.{serves_later}
 
 -- ---- acts of the host, one after another
 
-pub env_later : {G : Type 0} (old new : Host G) → Stays old new → (env : Env) → IsEnv env old.ledger → IsEnv env new.ledger
-env_later old new stays env is = record { header = is.header ∙ sym stays.header; serves = serves_later env old.ledger.storage new.ledger.storage stays.storage is.serves }
+pub env_later : {G : Type 0} (old new : Host G) → Stays old new → (env : Env) → IsEnvOf env old → IsEnvOf env new
+env_later old new stays env is = record {
+  ledger = record { header = is.ledger.header ∙ sym stays.header; serves = serves_later env old.ledger.storage new.ledger.storage stays.storage is.ledger.serves };
+  authority = is.authority ∙ same_authority old new stays.marks stays.verdicts;
+}
 
 pub around_on : {A B C D G : Type 0} (a : A) (r : Result C HostErr) (view : A → B) (other : C → D) (act : Env → Act B) (next : Env → B → Act D) (old mid new : Host G)
-    → ((env : Env) → IsEnv env old.ledger → IsEnv env mid.ledger) → (let given : Result A HostErr = Ok a in DoesAround given view act old mid) → DoesAround r other (λ env. next env (view a)) mid new
+    → ((env : Env) → IsEnvOf env old → IsEnvOf env mid) → (let given : Result A HostErr = Ok a in DoesAround given view act old mid) → DoesAround r other (λ env. next env (view a)) mid new
     → DoesAround r other (λ env. after (act env) (next env)) old new
 around_on a r view other act next old mid new later one two env is rest trace =
-    go_on (λ w t. world_around w mid t) (λ w t. world_around w new t) keep_count (λ _ _ _. refl) a r view other rest (act env (world_around rest old trace)) (next env) (one env is rest trace) (λ w t. two env (later env is) w t)
+    go_on (λ w t. world_around w mid t) (λ w t. world_around w new t) keep_rest (λ _ _ _. refl) a r view other rest (act env (world_around rest old trace)) (next env) (one env is rest trace) (λ w t. two env (later env is) w t)
 
 pub around_stop : {A B C D G : Type 0} (e : HostErr) (view : A → B) (other : C → D) (act : Env → Act B) (next : Env → B → Act D) (old new : Host G)
     → (let none : Result A HostErr = Err e in DoesAround none view act old new) → (let none : Result C HostErr = Err e in DoesAround none other (λ env. after (act env) (next env)) old new)
 around_stop e view other act next old new one env is rest trace =
     let out = act env (world_around rest old trace) in
-    as_fails e other _ (λ t. _) (stop (λ w t. world_around w new t) keep_count new.ledger.budget (λ _ _. refl) e rest out (next env) (fails_as e view out (λ t. _) (one env is rest trace)))
+    as_fails e other _ (λ t. _) (stop (λ w t. world_around w new t) keep_rest new.ledger.budget (λ _ _. refl) e rest out (next env) (fails_as e view out (λ t. _) (one env is rest trace)))
 
 -- an act that gets a path of its own
-pub around_begins : {C D G : Type 0} (r : Result C HostErr) (view : C → D) (act : Env → List ℕ → Act D) (old new : Host G) → ((path : List ℕ) → DoesAround r view (λ env. act env path) old new)
-    → DoesAround r view (λ env. begins (act env)) old new
-around_begins r view act old new h env is rest trace =
-    h (rest.frame.path ++ rest.frame.begun ∷ []) env is (record rest { frame = record rest.frame { begun = rest.frame.begun + 1 } }) trace
+pub around_begins : {C D G : Type 0} (r : Result C HostErr) (view : C → D) (act : Env → List ℕ → Act D) (path : List ℕ) (old mid new : Host G) → path ≡ old.place.path.items ++ old.place.begun ∷ [] → mid ≡ numbered old
+    → DoesAround r view (λ env. act env path) mid new → DoesAround r view (λ env. begins (act env)) old new
+around_begins {G = G} r view act path old mid new at is h env env_is rest trace =
+    let next : Host G → Type 0 = λ m. DoesAround r view (λ env. act env (old.place.path.items ++ old.place.begun ∷ [])) m new in
+    subst next is (subst (λ p. DoesAround r view (λ env. act env p) mid new) at h) env (record { ledger = record { header = env_is.ledger.header; serves = env_is.ledger.serves }; authority = env_is.authority }) rest trace
+
+pub numbered_stays : {G : Type 0} (old mid : Host G) → mid ≡ numbered old → Stays old mid
+numbered_stays {G} old mid is = subst (λ (h : Host G). Stays old h) (sym is) (record {
+  header = refl;
+  storage = later_same old.ledger.storage old.ledger.storage refl;
+  events = ([], sym (append-nil old.ledger.events));
+  objects = refl;
+  frame = refl;
+  contracts = refl;
+  marks = later_itself old.marks;
+  verdicts = refl;
+  place = refl;
+})
+
+pub stays_then : {G : Type 0} (old mid new : Host G) → Stays old mid → Stays mid new → Stays old new
+stays_then old mid new one two = record {
+  header = two.header ∙ one.header;
+  storage = again old.ledger.storage mid.ledger.storage new.ledger.storage one.storage two.storage;
+  events = (one.events.0 ++ two.events.0, two.events.1 ∙ ap (λ x. x ++ two.events.0) one.events.1 ∙ append_assoc old.ledger.events one.events.0 two.events.0);
+  objects = two.objects ∙ one.objects;
+  frame = two.frame ∙ one.frame;
+  contracts = two.contracts ∙ one.contracts;
+  marks = later_again old.marks mid.marks new.marks one.marks two.marks;
+  verdicts = two.verdicts ∙ one.verdicts;
+  place = place_again old.place mid.place new.place one.place two.place;
+}
 
 pub around_same : {C D G : Type 0} (r : Result C HostErr) (view : C → D) (one other : Env → Act D) (old new : Host G) → ((env : Env) (w : World) → one env w ≡ other env w) → DoesAround r view other old new
     → DoesAround r view one old new
 around_same r view one other old new same h env is rest trace =
-    same_act (λ w t. world_around w new t) keep_count r view rest (one env (world_around rest old trace)) (other env (world_around rest old trace)) (same env (world_around rest old trace)) (h env is rest trace)
+    same_act (λ w t. world_around w new t) keep_rest r view rest (one env (world_around rest old trace)) (other env (world_around rest old trace)) (same env (world_around rest old trace)) (h env is rest trace)
 
 -- a failure that changes nothing
 pub around_fails : {C D G : Type 0} (e : ScError) (view : C → D) (act : Env → Act D) (old : Host G) → ((env : Env) (w : World) → act env w ≡ Bad (Failed e) w)
@@ -67,7 +103,7 @@ pub around_fails : {C D G : Type 0} (e : ScError) (view : C → D) (act : Env �
 around_fails {C} e view act old h env is rest trace =
     let none : Result C HostErr = Err (ends.Failed e) in
     let w = world_around rest old trace in
-    shown_as (λ v t. world_around v old t) keep_count old.ledger.budget (λ _ _. refl) none view rest (act env w) (λ t. world_around rest old t) (λ t. refl) (traced none view (act env w) w (tt, h env w))
+    shown_as (λ v t. world_around v old t) keep_rest old.ledger.budget (λ _ _. refl) none view rest (act env w) (λ t. world_around rest old t) (λ t. refl) (traced none view (act env w) w (tt, h env w))
 
 -- ---- the target
 
@@ -76,9 +112,10 @@ pub opens : (env : Env) (room : ℕ) → room ≢ 0 → opener_of env room ≡ S
 opens env zero h = absurd (h refl)
 opens env (suc room) h = let less : room ≡ suc room - 1 = omega arith in ap (λ n. Some (framed env (host_of env (opener_of env n)))) less
 
-call_splits : (room : ℕ) → room ≢ 0 → (call : Call) (env : Env) (w : World)
-    → calls env (opener_of env room) call w ≡ begins (λ path. after (target_of call.function call.address env) (enters_at (framed env (host_of env (opener_of env (room - 1)))) call path)) w
-call_splits room h call env w = ap (λ o. calls env o call w) (opens env room h) ∙ calls_first env (framed env (host_of env (opener_of env (room - 1)))) call w
+call_splits : (room : ℕ) → room ≢ 0 → (named : Bool) (call : Call) (path : List ℕ) (env : Env) (w : World)
+    → call_at named env (opener_of env room) call path w ≡ after (target_of named call.address env) (enters_at (framed env (host_of env (opener_of env (room - 1)))) call path) w
+call_splits room h named call path env w =
+    ap (λ o. call_at named env o call path w) (opens env room h) ∙ calls_first named env (framed env (host_of env (opener_of env (room - 1)))) call path w
 
 abbrev enters_frame : Env → ℕ → List ℕ → List Datum → Module → (ℕ → Store → Entered) → Act Datum
 enters_frame env room function args m e = with_start (start_of m function (length args)) (λ index store. framed env (host_of env (opener_of env room)) (e index store))
@@ -116,34 +153,36 @@ start_same WrongArity f g w h = refl
 start_same Segment f g w h = refl
 start_same (Ready index store) f g w h = ap (λ (act : Act _). act w) (h index store)
 
-pub target_enters : {G : Type 0} (room : ℕ) (c : ContractCall) (t : Target') (frame : Running) (r : Result ScVal HostErr) (old new : Host G) (path : List ℕ) → frame.contract ≡ t.contract → frame.caller ≡ c.caller
-    → frame.copy ≡ t.copy → DoesAround r datum (λ env. enters_frame env room c.function.now (datums c.args.items) t.module (entered frame c.function.now (datums c.args.items) path t.module)) old new
+pub target_enters : {G : Type 0} (room : ℕ) (c : ContractCall) (t : Target') (frame : Running) (place : Place) (r : Result ScVal HostErr) (old new : Host G) (path : List ℕ) → IsNewPlace place c.function.now c.args.items path
+    → frame.contract ≡ t.contract → frame.caller ≡ c.caller → frame.copy ≡ t.copy
+    → DoesAround r datum (λ env. enters_frame env room place.function.items (datums c.args.items) t.module (entered frame place.function.items (datums c.args.items) place.path.items t.module)) old new
     → DoesAround r datum (λ env. enters_at (framed env (host_of env (opener_of env room))) (call_of c) path (target t)) old new
-target_enters room c t frame r old new path at by copy enters =
+target_enters room c t frame place r old new path fresh at by copy enters =
     let enter = λ (env : Env). framed env (host_of env (opener_of env room)) in
-    around_same r datum (λ env. enters_at (enter env) (call_of c) path (target t)) (λ env. enters_frame env room c.function.now (datums c.args.items) t.module (entered frame c.function.now (datums c.args.items) path t.module))
-    old new (λ env w. start_same (start_of t.module c.function.now (length (datums c.args.items))) _ _ w (λ index store. ap (enter env) (sym (frame_is c t frame path index store at by copy)))) enters
+    let args = datums c.args.items in
+    let there = λ (f p : List ℕ) (env : Env). enters_frame env room f args t.module (entered frame f args p t.module) in
+    around_same r datum (λ env. enters_at (enter env) (call_of c) path (target t)) (there c.function.now path) old new
+    (λ env w. start_same (start_of t.module c.function.now (length args)) _ _ w (λ index store. ap (enter env) (sym (frame_is c t frame path index store at by copy))))
+    (subst (λ p. DoesAround r datum (there c.function.now p) old new) fresh.path (subst (λ f. DoesAround r datum (there f place.path.items) old new) fresh.function enters))
 
-pub call_enters : {G : Type 0} (room : ℕ) → room ≢ 0 → (c : ContractCall) (t : Target') (r : Result ScVal HostErr) (old mid new : Host G) → Stays old mid
-    → (let found : Result Target' HostErr = Ok t in DoesAround found target (target_of c.function.now c.contract) old mid)
-    → ((path : List ℕ) → DoesAround r datum (λ env. enters_at (framed env (host_of env (opener_of env (room - 1)))) (call_of c) path (target t)) mid new)
-    → DoesAround r datum (λ env. calls env (opener_of env room) (call_of c)) old new
-call_enters room h c t r old mid new stays found enters =
+pub call_enters : {G : Type 0} (room : ℕ) → room ≢ 0 → (named : Bool) (c : ContractCall) (path : List ℕ) (t : Target') (r : Result ScVal HostErr) (old mid new : Host G) → Stays old mid
+    → (let found : Result Target' HostErr = Ok t in DoesAround found target (target_of named c.contract) old mid)
+    → DoesAround r datum (λ env. enters_at (framed env (host_of env (opener_of env (room - 1)))) (call_of c) path (target t)) mid new
+    → DoesAround r datum (λ env. call_at named env (opener_of env room) (call_of c) path) old new
+call_enters room h named c path t r old mid new stays found enters =
     let enter = λ (env : Env). framed env (host_of env (opener_of env (room - 1))) in
-    around_same r datum (λ env. calls env (opener_of env room) (call_of c)) (λ env. begins (λ path. after (target_of c.function.now c.contract env) (enters_at (enter env) (call_of c) path))) old new
-    (λ env w. call_splits room h (call_of c) env w)
-    (around_begins r datum (λ env path. after (target_of c.function.now c.contract env) (enters_at (enter env) (call_of c) path)) old new
-    (λ path. around_on t r target datum (target_of c.function.now c.contract) (λ env. enters_at (enter env) (call_of c) path) old mid new (env_later old mid stays) found (enters path)))
+    around_same r datum (λ env. call_at named env (opener_of env room) (call_of c) path) (λ env. after (target_of named c.contract env) (enters_at (enter env) (call_of c) path)) old new
+    (λ env w. call_splits room h named (call_of c) path env w)
+    (around_on t r target datum (target_of named c.contract) (λ env. enters_at (enter env) (call_of c) path) old mid new (env_later old mid stays) found enters)
 
-pub call_refused : {G : Type 0} (room : ℕ) → room ≢ 0 → (c : ContractCall) (e : HostErr) (old new : Host G) → (let none : Result Target' HostErr = Err e in DoesAround none target (target_of c.function.now c.contract) old new)
-    → (let none : Result ScVal HostErr = Err e in DoesAround none datum (λ env. calls env (opener_of env room) (call_of c)) old new)
-call_refused room h c e old new found =
+pub call_refused : {G : Type 0} (room : ℕ) → room ≢ 0 → (named : Bool) (c : ContractCall) (path : List ℕ) (e : HostErr) (old new : Host G)
+    → (let none : Result Target' HostErr = Err e in DoesAround none target (target_of named c.contract) old new)
+    → (let none : Result ScVal HostErr = Err e in DoesAround none datum (λ env. call_at named env (opener_of env room) (call_of c) path) old new)
+call_refused room h named c path e old new found =
     let none : Result ScVal HostErr = Err e in
     let enter = λ (env : Env). framed env (host_of env (opener_of env (room - 1))) in
-    around_same none datum (λ env. calls env (opener_of env room) (call_of c)) (λ env. begins (λ path. after (target_of c.function.now c.contract env) (enters_at (enter env) (call_of c) path))) old new
-    (λ env w. call_splits room h (call_of c) env w)
-    (around_begins none datum (λ env path. after (target_of c.function.now c.contract env) (enters_at (enter env) (call_of c) path)) old new
-    (λ path. around_stop e target datum (target_of c.function.now c.contract) (λ env. enters_at (enter env) (call_of c) path) old new found))
+    around_same none datum (λ env. call_at named env (opener_of env room) (call_of c) path) (λ env. after (target_of named c.contract env) (enters_at (enter env) (call_of c) path)) old new
+    (λ env w. call_splits room h named (call_of c) path env w) (around_stop e target datum (target_of named c.contract) (λ env. enters_at (enter env) (call_of c) path) old new found)
 
 -- ---- the start
 

@@ -2,7 +2,7 @@
 use Rattle.std.proofs.Common.{◌≡◌, ℕ, ◌-◌, ◌≢◌, List, [], ◌∷◌, ◌++◌, length, is_some, true, Option, Some, None, Result, Ok, Err, refl, sym, ap, ◌∙◌, subst}
 use Rattle.std.specs.Option.{option_map, unwrap_or}
 use Rattle.value_types.specs.Datum.{Datum}
-use Rattle.value_types.specs.Views.{datum}
+use Rattle.value_types.specs.Views.{datum, datums}
 use Rattle.value_types.specs.declared.hash.Hash.{Hash}
 use Rattle.value_types.specs.declared.value.ScVal.{ScVal}
 use Rattle.value_types.specs.declared.address.ScAddress.{ScAddress}
@@ -13,59 +13,87 @@ use Rattle.host_spec.specs.Errors.{OTHER_TYPE}
 use Rattle.host_spec.specs.declared.error.HostErr.{HostErr}
 use Rattle.call_parts.specs.Steps.{Returns}
 use Rattle.call_spec.specs.World.{Copied, World, Env}
-use Rattle.call_spec.specs.Acts.{Act, then_do, after, gives, only_where, begins}
-use Rattle.call_spec.specs.Creating.{Creation, id_of, CONSTRUCTOR, is_void, constructs, constructs_if, new_instance, creates}
+use Rattle.call_spec.specs.Acts.{Act, then_do, after, gives, only_where}
+use Rattle.call_spec.specs.Creating.{Creation, CONSTRUCTOR, constructs, constructs_if, new_instance, creates_at}
 use Rattle.call_spec.specs.Found.{with_start}
-use Rattle.call_spec.specs.Frames.{Entered, Opener, framed}
+use Rattle.call_spec.specs.Frames.{Entered, Opener, framed, is_void}
 use Rattle.call_spec.specs.HostFunctions.{host_of, opener_of}
-use Rattle.call_spec.specs.Outcomes.{Says}
-use Rattle.host_ledger.specs.Answered.{any}
-use Rattle.host_ledger.specs.Worlds.{address_of, copied, IsEnv}
+use Rattle.host_ledger.specs.Worlds.{address_of, copied}
 use Rattle.host_ledger.specs.declared.state.InstanceCopy.{InstanceCopy}
 use Rattle.host_ledger.specs.declared.state.Running.{Running}
-use Rattle.contract_call.specs.Worlds.{world_around, resting, DoesAround, Stays}
+use Rattle.contract_call.specs.Worlds.{world_around, IsEnvOf, DoesAround, Stays}
 use Rattle.contract_call.specs.Running.{entered}
-use Rattle.contract_call.specs.Made.{making, constructing, new_id_of, if_void, IsConstructed}
+use Rattle.contract_call.specs.Made.{identifying, granting, authorising, building, constructing, builds_with, if_void, IsConstructed}
+use Rattle.contract_call.specs.Placed.{IsNewPlace}
 use Rattle.contract_call.specs.declared.host.Host.{Host}
-use Rattle.contract_call.specs.declared.creating.Created.{Created}
-use Rattle.contract_call.proofs.Calling.{env_later, around_on, around_stop, around_begins, around_same, start_same, opens}
-use Rattle.contract_call.proofs.Constructing.{creates_first, void_says}
-use Rattle.contract_call.proofs.Joining.{traced, keep_count}
-use Rattle.contract_call.proofs.Showing.{shown_as}
+use Rattle.contract_call.specs.declared.place.Place.{Place}
+use Rattle.contract_call.proofs.Calling.{env_later, around_on, around_stop, around_same, start_same, opens}
+use Rattle.contract_call.proofs.Constructing.{at_first, authorising_first, void_says}
+use Rattle.contract_call.proofs.Joining.{traced}
 use Rattle.contract_call.proofs.Splitting.{joined}
 
 -- a call that changes nothing
 pub returns_around : {A B G : Type 0} (r : Result A HostErr) (view : A → B) (act : Env → Act B) (old : Host G) → ((env : Env) → Returns r view (act env)) → DoesAround r view act old old
 returns_around r view act old h env is rest trace =
     let w = world_around rest old trace in
-    shown_as (λ v t. world_around v old t) keep_count old.ledger.budget (λ _ _. refl) r view rest (act env w) (λ t. world_around rest old t) (λ t. refl) (traced r view (act env w) w (h env w))
+    traced r view (act env w) w (h env w)
 
 -- ---- the create
 
-same_id : {G : Type 0} (old mid : Host G) (c : Creation) (id : Hash) (env : Env) → Stays old mid → id ≡ new_id_of old.ledger.header.now c → IsEnv env mid.ledger → id ≡ id_of env c
-same_id old mid c id env stays is env_is = is ∙ ap (λ h. new_id_of h c) (sym (env_is.header ∙ stays.header))
+module _ (room : ℕ) (creator : Option ScAddress) (c : Creation) (path : List ℕ) where
+  abbrev creates_all : Env → Act Hash
+  creates_all env = creates_at env (opener_of env room) creator c path
 
-pub creates_does : {G : Type 0} (room : ℕ) (creator : Option ScAddress) (c : Creation) (m : Created) (r : Result Hash HostErr) (old mid new : Host G) → Stays old mid → m.id ≡ new_id_of old.ledger.header.now c
-    → ((path : List ℕ) → (let made : Result Created HostErr = Ok m in DoesAround made (λ x. x.module) (λ env. making env creator c path) old mid))
-    → ((path : List ℕ) → DoesAround r (λ id. id) (λ env. constructing (opener_of env room) creator m.id c path m.module) mid new)
-    → DoesAround r (λ id. id) (λ env. creates env (opener_of env room) creator c) old new
-creates_does room creator c m r old mid new stays is made built =
-    around_same r (λ id. id) (λ env. creates env (opener_of env room) creator c)
-    (λ env. begins (λ path. after (making env creator c path) (λ x. constructing (opener_of env room) creator (id_of env c) c path x))) old new (λ env w. creates_first env (opener_of env room) creator c w)
-    (around_begins r (λ id. id) (λ env path. after (making env creator c path) (λ x. constructing (opener_of env room) creator (id_of env c) c path x)) old new
-    (λ path. around_on m r (λ x. x.module) (λ id. id) (λ env. making env creator c path) (λ env x. constructing (opener_of env room) creator (id_of env c) c path x) old mid new (env_later old mid stays) (made path)
-    (λ env env_is rest trace. subst (λ (id : Hash). let out = constructing (opener_of env room) creator id c path m.module (world_around rest mid trace) in Says any r (λ x. x) out (world_around (resting rest out) new))
-    (same_id old mid c m.id env stays is env_is) (built path env env_is rest trace))))
+  abbrev authorises : Env → Act Hash
+  authorises env = authorising env (opener_of env room) creator c path
 
-pub creates_refused : {G : Type 0} (room : ℕ) (creator : Option ScAddress) (c : Creation) (e : HostErr) (old new : Host G)
-    → ((path : List ℕ) → (let made : Result Created HostErr = Err e in DoesAround made (λ x. x.module) (λ env. making env creator c path) old new))
-    → (let r : Result Hash HostErr = Err e in DoesAround r (λ id. id) (λ env. creates env (opener_of env room) creator c) old new)
-creates_refused room creator c e old new made =
-    let r : Result Hash HostErr = Err e in
-    around_same r (λ id. id) (λ env. creates env (opener_of env room) creator c)
-    (λ env. begins (λ path. after (making env creator c path) (λ x. constructing (opener_of env room) creator (id_of env c) c path x))) old new (λ env w. creates_first env (opener_of env room) creator c w)
-    (around_begins r (λ id. id) (λ env path. after (making env creator c path) (λ x. constructing (opener_of env room) creator (id_of env c) c path x)) old new
-    (λ path. around_stop e (λ x. x.module) (λ id. id) (λ env. making env creator c path) (λ env x. constructing (opener_of env room) creator (id_of env c) c path x) old new (made path)))
+  abbrev builds_all : Env → Hash → Act Hash
+  builds_all env id = builds_with env (opener_of env room) creator c path id
+
+  abbrev identifies : Env → Act Hash
+  identifies env = identifying env c
+
+  abbrev grants : Env → Hash → Act Hash
+  grants env id = granting env (opener_of env room) creator c path id
+
+  pub creates_does : {G : Type 0} (id : Hash) (r : Result Hash HostErr) (old mid new : Host G) → Stays old mid → (let given : Result Hash HostErr = Ok id in DoesAround given (λ x. x) authorises old mid)
+      → DoesAround r (λ x. x) (λ env. builds_all env id) mid new → DoesAround r (λ x. x) creates_all old new
+  creates_does id r old mid new stays one two =
+      around_same r (λ x. x) creates_all (λ env. after (authorises env) (builds_all env)) old new (λ env w. at_first env (opener_of env room) creator c path w)
+      (around_on id r (λ x. x) (λ x. x) authorises builds_all old mid new (env_later old mid stays) one two)
+
+  pub creates_refused : {G : Type 0} (e : HostErr) (old new : Host G) → (let none : Result Hash HostErr = Err e in DoesAround none (λ x. x) authorises old new)
+      → (let none : Result Hash HostErr = Err e in DoesAround none (λ x. x) creates_all old new)
+  creates_refused e old new one =
+      let none : Result Hash HostErr = Err e in
+      around_same none (λ x. x) creates_all (λ env. after (authorises env) (builds_all env)) old new (λ env w. at_first env (opener_of env room) creator c path w)
+      (around_stop e (λ (x : Hash). x) (λ (x : Hash). x) authorises builds_all old new one)
+
+  pub authorises_does : {G : Type 0} (id : Hash) (r : Result Hash HostErr) (old mid new : Host G) → Stays old mid → (let given : Result Hash HostErr = Ok id in DoesAround given (λ x. x) identifies old mid)
+      → DoesAround r (λ x. x) (λ env. grants env id) mid new → DoesAround r (λ x. x) authorises old new
+  authorises_does id r old mid new stays one two =
+      around_same r (λ x. x) authorises (λ env. after (identifies env) (grants env)) old new (λ env w. authorising_first env (opener_of env room) creator c path w)
+      (around_on id r (λ x. x) (λ x. x) identifies grants old mid new (env_later old mid stays) one two)
+
+  pub authorises_not : {G : Type 0} (e : HostErr) (old new : Host G) → (let none : Result Hash HostErr = Err e in DoesAround none (λ x. x) identifies old new)
+      → (let none : Result Hash HostErr = Err e in DoesAround none (λ x. x) authorises old new)
+  authorises_not e old new one =
+      let none : Result Hash HostErr = Err e in
+      around_same none (λ x. x) authorises (λ env. after (identifies env) (grants env)) old new (λ env w. authorising_first env (opener_of env room) creator c path w)
+      (around_stop e (λ (x : Hash). x) (λ (x : Hash). x) identifies grants old new one)
+
+-- the module of a new contract, then its constructor
+pub builds_does : {G : Type 0} (room : ℕ) (creator : Option ScAddress) (c : Creation) (path : List ℕ) (id : Hash) (m : Module) (r : Result Hash HostErr) (old mid new : Host G) → Stays old mid
+    → (let given : Result Module HostErr = Ok m in DoesAround given (λ x. x) (λ env. building env id c.code) old mid)
+    → DoesAround r (λ x. x) (λ env. constructing (opener_of env room) creator id c path m) mid new → DoesAround r (λ x. x) (λ env. builds_with env (opener_of env room) creator c path id) old new
+builds_does room creator c path id m r old mid new stays one two =
+    around_on m r (λ x. x) (λ x. x) (λ env. building env id c.code) (λ env m. constructing (opener_of env room) creator id c path m) old mid new (env_later old mid stays) one two
+
+pub builds_refused : {G : Type 0} (room : ℕ) (creator : Option ScAddress) (c : Creation) (path : List ℕ) (id : Hash) (e : HostErr) (old new : Host G)
+    → (let none : Result Module HostErr = Err e in DoesAround none (λ x. x) (λ env. building env id c.code) old new)
+    → (let none : Result Hash HostErr = Err e in DoesAround none (λ x. x) (λ env. builds_with env (opener_of env room) creator c path id) old new)
+builds_refused room creator c path id e old new one =
+    around_stop e (λ (x : Module). x) (λ (x : Hash). x) (λ env. building env id c.code) (λ env m. constructing (opener_of env room) creator id c path m) old new one
 
 -- ---- the constructor
 
@@ -136,7 +164,7 @@ built_is frame creator id code copy args path m index store at by is new =
     } in
     ap (λ x. e x creator (new_instance code)) (sym at) ∙ ap (λ x. e frame.contract x (new_instance code)) (sym by) ∙ ap (e frame.contract frame.caller) (sym (ap copied is ∙ new))
 
-decides : {G : Type 0} (returned : Result ScVal HostErr) (id : Hash) (r : Result Hash HostErr) (act : Env → Act Datum) (old new : Host G) → ((env : Env) → IsEnv env old.ledger → IsEnv env new.ledger) → IsConstructed returned id r
+decides : {G : Type 0} (returned : Result ScVal HostErr) (id : Hash) (r : Result Hash HostErr) (act : Env → Act Datum) (old new : Host G) → ((env : Env) → IsEnvOf env old → IsEnvOf env new) → IsConstructed returned id r
     → DoesAround returned datum act old new → DoesAround r (λ x. x) (λ env. after (act env) (judging id)) old new
 decides (Ok v) id r act old new later is does =
     subst (λ x. DoesAround x (λ y. y) (λ env. after (act env) (judging id)) old new) (sym is)
@@ -144,17 +172,20 @@ decides (Ok v) id r act old new later is does =
 decides (Err e) id r act old new later is does =
     subst (λ x. DoesAround x (λ y. y) (λ env. after (act env) (judging id)) old new) (sym is) (around_stop e datum (λ y. y) act (λ env. judging id) old new does)
 
-pub constructs_does : {G : Type 0} (room : ℕ) → room ≢ 0 → (creator : Option Hash) (id : Hash) (c : Creation) (copy : InstanceCopy) (frame : Running) (args : List Datum) (path : List ℕ) (m : Module) (returned : Result ScVal HostErr)
-    (r : Result Hash HostErr) (old new : Host G) → args ≡ unwrap_or c.args [] → is_some (function_named CONSTRUCTOR m.exports) ≡ true → frame.contract ≡ id → frame.caller ≡ creator → frame.copy ≡ copy
-    → copied copy ≡ new_instance c.code → Stays old new → IsConstructed returned id r
-    → DoesAround returned datum (λ env. with_start (start_of m CONSTRUCTOR (length args)) (λ index store. framed env (host_of env (opener_of env (room - 1))) (entered frame CONSTRUCTOR args (path ++ 1 ∷ []) m index store))) old new
+pub constructs_does : {G : Type 0} (room : ℕ) → room ≢ 0 → (creator : Option Hash) (id : Hash) (c : Creation) (copy : InstanceCopy) (frame : Running) (place : Place) (args : List ScVal) (path : List ℕ) (m : Module)
+    (returned : Result ScVal HostErr) (r : Result Hash HostErr) (old new : Host G) → datums args ≡ unwrap_or c.args [] → is_some (function_named CONSTRUCTOR m.exports) ≡ true → frame.contract ≡ id → frame.caller ≡ creator
+    → frame.copy ≡ copy → copied copy ≡ new_instance c.code → IsNewPlace place CONSTRUCTOR args (path ++ 1 ∷ []) → Stays old new → IsConstructed returned id r
+    → DoesAround returned datum (λ env. with_start (start_of m place.function.items (length (datums args))) (λ index store. framed env (host_of env (opener_of env (room - 1)))
+    (entered frame place.function.items (datums args) place.path.items m index store))) old new
     → DoesAround r (λ x. x) (λ env. constructing (opener_of env room) (option_map address_of creator) id c path m) old new
-constructs_does room h creator id c copy frame args path m returned r old new given some at by is fresh stays constructed does =
+constructs_does room h creator id c copy frame place values path m returned r old new given some at by is fresh placed stays constructed does =
+    let args = datums values in
     let enter = λ (env : Env). framed env (host_of env (opener_of env (room - 1))) in
     let built = λ (env : Env). built_frame (enter env) (option_map address_of creator) id c.code args path m in
+    let there = λ (f p : List ℕ) (env : Env). with_start (start_of m f (length args)) (λ index store. enter env (entered frame f args p m index store)) in
     around_same r (λ x. x) (λ env. constructing (opener_of env room) (option_map address_of creator) id c path m) (λ env. after (with_start (start_of m CONSTRUCTOR (length args)) (built env)) (judging id)) old new
     (λ env w. constructing_is env room h (option_map address_of creator) id c args path m w given some)
     (decides returned id r (λ env. with_start (start_of m CONSTRUCTOR (length args)) (built env)) old new (env_later old new stays) constructed
-    (around_same returned datum (λ env. with_start (start_of m CONSTRUCTOR (length args)) (built env))
-    (λ env. with_start (start_of m CONSTRUCTOR (length args)) (λ index store. enter env (entered frame CONSTRUCTOR args (path ++ 1 ∷ []) m index store))) old new
-    (λ env w. start_same (start_of m CONSTRUCTOR (length args)) _ _ w (λ index store. ap (enter env) (built_is frame creator id c.code copy args (path ++ 1 ∷ []) m index store at by is fresh))) does))
+    (around_same returned datum (λ env. with_start (start_of m CONSTRUCTOR (length args)) (built env)) (there CONSTRUCTOR (path ++ 1 ∷ [])) old new
+    (λ env w. start_same (start_of m CONSTRUCTOR (length args)) _ _ w (λ index store. ap (enter env) (built_is frame creator id c.code copy args (path ++ 1 ∷ []) m index store at by is fresh)))
+    (subst (λ p. DoesAround returned datum (there CONSTRUCTOR p) old new) placed.path (subst (λ f. DoesAround returned datum (there f place.path.items) old new) placed.function does))))

@@ -11,7 +11,7 @@ use Rattle.host_spec.specs.declared.error.HostErr.{HostErr}
 use Rattle.host_spec.specs.declared.error.HostErr.TheVariants as ends
 use Rattle.contract_storage.specs.Footprint.{IsFootprint, allows}
 use Rattle.contract_storage.specs.declared.access.Access.TheVariants as accesses
-use Rattle.call_spec.specs.World.{AccessKind, Read, Extend, Write, Access, Judge, World, Env}
+use Rattle.call_spec.specs.World.{AccessKind, Read, Extend, Write, Access, Judge, World, Authority, Env}
 use Rattle.call_spec.specs.Acts.{Failure, Failed, Spent, Archived, Out, Good, Bad, Undeclared, world_of}
 use Rattle.call_spec.specs.Calling.{undone}
 use Rattle.call_spec.specs.Footprints.{by_footprint, first_rejected}
@@ -22,7 +22,7 @@ use Rattle.call_spec.proofs.Stopping.{end_to_end_law}
 use Rattle.host_ledger.specs.Answered.{any}
 use Rattle.host_ledger.specs.Worlds.{kind_of}
 use Rattle.contract_call.specs.Ended.{IsEnd, EndsBy, Ends}
-use Rattle.contract_call.specs.Worlds.{world_around, resting, DoesAround, MayRun}
+use Rattle.contract_call.specs.Worlds.{world_around, authority_of, DoesAround, MayRun}
 use Rattle.contract_call.specs.declared.host.Host.{Host}
 
 -- ---- outcomes that differ
@@ -64,7 +64,7 @@ same_key p = cc
 
 -- how the program says the end
 abbrev Said : {A G : Type 0} → Result A HostErr → (A → Datum) → Out Datum → World → Host G → Type 0
-Said r view out rest new = Says any r view out (world_around (resting rest out) new)
+Said r view out rest new = Says any r view out (world_around rest new)
 
 stopped : {A G : Type 0} (may : Judge) (m : LedgerMap) (a s : Access) (one : Out Datum) (v rest : World) (r : Result A HostErr) (view : A → Datum) (old new : Host G) → s ≡ a → v.meter.used ≡ a.used
     → Said r view (Undeclared s v) rest new → EndsBy may m (Some a) one r view old new
@@ -85,6 +85,7 @@ good_end may m a b w v rest (Ok x) view old new same alike says =
       same ∙ same_value says.1,
       sym (ap (λ (u : World). u.meter) is) ∙ ap (λ (u : World). u.meter) alike.rest,
       sym (ap (λ (u : World). u.events) is) ∙ ap (λ (u : World). u.events) alike.rest,
+      sym (ap (λ (u : World). u.pairs) is) ∙ ap (λ (u : World). u.pairs) alike.rest,
       subst (λ (p : LedgerMap). Maps may m old.ledger.storage.map w.entries p) (ap (λ (u : World). u.entries) is) alike.maps,
     )
 good_end may m a b w v rest (Err (ends.Failed e)) view old new same alike says = absurd (good_bad says.1)
@@ -93,10 +94,11 @@ good_end may m a b w v rest (Err (ends.Archived key)) view old new same alike sa
 good_end may m a b w v rest (Err (ends.Undeclared key)) view old new same alike says = absurd (good_undeclared says.1)
 good_end may m a b w v rest (Err ends.NoMemory) view old new same alike says = tt
 
--- the entries and the events are as before
+-- the entries, the events and the authorisations that were used are as before
 record IsBefore {G : Type 0} (old : Host G) (v : World) : Type 0 where
   pub entries : v.entries ≡ old.ledger.storage.map
   pub events : v.events ≡ old.ledger.events
+  pub pairs : v.pairs ≡ old.marks.pairs
 
 abbrev BackAtFailure : {G : Type 0} → Host G → Out Datum → Type 0
 BackAtFailure old out = (e : ScError) (v : World) → out ≡ Bad (Failed e) v → IsBefore old v
@@ -107,8 +109,13 @@ bad_end may m (Failed e) w v rest (Ok x) view old new paid back says = absurd (b
 bad_end may m (Failed e) w v rest (Err (ends.Failed c)) view old new paid back says =
     let is = ap world_of says.1 in
     let same : Failed e ≡ Failed c = same_failure says.1 in
-    let before = back e v refl in
-    (sym (same_error same), sym (ap (λ (u : World). u.meter) is) ∙ paid, sym (ap (λ (u : World). u.events) is) ∙ before.events, sym (ap (λ (u : World). u.entries) is) ∙ before.entries)
+    let before = back e v refl in (
+      sym (same_error same),
+      sym (ap (λ (u : World). u.meter) is) ∙ paid,
+      sym (ap (λ (u : World). u.events) is) ∙ before.events,
+      sym (ap (λ (u : World). u.pairs) is) ∙ before.pairs,
+      sym (ap (λ (u : World). u.entries) is) ∙ before.entries,
+    )
 bad_end may m (Failed e) w v rest (Err ends.Spent) view old new paid back says = let p : Failed e ≡ Spent = same_failure says.1 in absurd cc
 bad_end may m (Failed e) w v rest (Err (ends.Archived key)) view old new paid back says = let p : Failed e ≡ Archived key = same_failure says.1 in absurd cc
 bad_end may m (Failed e) w v rest (Err (ends.Undeclared key)) view old new paid back says = absurd (bad_undeclared says.1)
@@ -143,16 +150,17 @@ ended may m None (Undeclared s w) cut rest r view old new back stops says = absu
 
 -- ---- the whole
 
-undone_back : {G : Type 0} (old : Host G) (w : World) → w.entries ≡ old.ledger.storage.map → w.events ≡ old.ledger.events → (out : Out Datum) → BackAtFailure old (undone w out)
-undone_back old w i j (Bad (Failed d) u) e v p = record { entries = sym (ap (λ o. (world_of o).entries) p) ∙ i; events = sym (ap (λ o. (world_of o).events) p) ∙ j }
-undone_back old w i j (Bad Spent u) e v p = let q : Spent ≡ Failed e = same_failure p in absurd cc
-undone_back old w i j (Bad (Archived key) u) e v p = let q : Archived key ≡ Failed e = same_failure p in absurd cc
-undone_back old w i j (Good a u) e v p = absurd (good_bad p)
-undone_back old w i j (Undeclared a u) e v p = absurd (undeclared_bad p)
+undone_back : {G : Type 0} (old : Host G) (w : World) → w.entries ≡ old.ledger.storage.map → w.events ≡ old.ledger.events → w.pairs ≡ old.marks.pairs → (out : Out Datum) → BackAtFailure old (undone w out)
+undone_back old w i j k (Bad (Failed d) u) e v p =
+    record { entries = sym (ap (λ o. (world_of o).entries) p) ∙ i; events = sym (ap (λ o. (world_of o).events) p) ∙ j; pairs = sym (ap (λ o. (world_of o).pairs) p) ∙ k }
+undone_back old w i j k (Bad Spent u) e v p = let q : Spent ≡ Failed e = same_failure p in absurd cc
+undone_back old w i j k (Bad (Archived key) u) e v p = let q : Archived key ≡ Failed e = same_failure p in absurd cc
+undone_back old w i j k (Good a u) e v p = absurd (good_bad p)
+undone_back old w i j k (Undeclared a u) e v p = absurd (undeclared_bad p)
 
-done_back : {G : Type 0} (old : Host G) (may : Judge) (header : Header) (work : Work) (rest : World) → BackAtFailure old (done_under may header work (world_around rest old []))
+done_back : {G : Type 0} (old : Host G) (may : Judge) (header : Header) (authority : Authority) (work : Work) (rest : World) → BackAtFailure old (done_under may header authority work (world_around rest old []))
 unfolding done_under
-done_back old may header work rest = undone_back old (world_around rest old []) refl refl _
+done_back old may header authority work rest = undone_back old (world_around rest old []) refl refl refl _
 
 judges : (footprint : Footprint) (declared : List (LedgerKey × Bool)) → IsFootprint footprint.read_only footprint.read_write declared → (kind : AccessKind) (key : LedgerKey) → key_format.fits key
     → allows declared (kind_of kind) key ≡ by_footprint footprint kind (key_bytes key)
@@ -160,14 +168,18 @@ judges footprint declared is Read key fits = is accesses.Read key fits
 judges footprint declared is Extend key fits = is accesses.Extend key fits
 judges footprint declared is Write key fits = is accesses.Write key fits
 
-pub ends_so : {A G : Type 0} (work : Work) (r : Result A HostErr) (view : A → Datum) (old new : Host G) → MayRun old → DoesAround r view (λ env. done_under env.judge env.header work) old new → Ends work r view old new
+pub ends_so : {A G : Type 0} (work : Work) (r : Result A HostErr) (view : A → Datum) (old new : Host G) → MayRun old → DoesAround r view (λ env. done_under env.judge env.header env.authority work) old new → Ends work r view old new
 ends_so work r view old new ready does footprint declared m agree rest =
     let may = by_footprint footprint in
-    let env : Env = record { header = old.ledger.header.now; judge = may } in
     let header = old.ledger.header.now in
+    let authority = authority_of old in
+    let env : Env = record { header = header; authority = authority; judge = may } in
     let w = world_around rest old [] in
     let start : World = record w { entries = m } in
-    let one = done_under all_allowed header work start in
-    ended may m (first_rejected may (world_of one).trace) one (done_under may header work w) rest r view old new (done_back old may header work rest)
-    (end_to_end_law header work footprint start old.ledger.storage.map agree refl)
-    (does env (record { header = refl; serves = record { number = ready.ledger.number; lives = ready.ledger.lives; judge = judges footprint old.ledger.storage.declared declared } }) rest [])
+    let one = done_under all_allowed header authority work start in
+    ended may m (first_rejected may (world_of one).trace) one (done_under may header authority work w) rest r view old new (done_back old may header authority work rest)
+    (end_to_end_law header authority work footprint start old.ledger.storage.map agree refl)
+    (does env (record {
+      ledger = record { header = refl; serves = record { number = ready.ledger.number; lives = ready.ledger.lives; judge = judges footprint old.ledger.storage.declared declared } };
+      authority = refl;
+    }) rest [])

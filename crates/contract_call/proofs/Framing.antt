@@ -10,13 +10,12 @@ use Rattle.call_spec.specs.Acts.{Act, Out, then_do, after, gives, lift, paying, 
 use Rattle.call_spec.specs.Frames.{HostCalls, Entered, started, finished, runs_from, paying_pages}
 use Rattle.call_spec.specs.Outcomes.{Says, trace_of}
 use Rattle.host_ledger.specs.Answered.{any}
-use Rattle.host_ledger.specs.Worlds.{IsEnv}
-use Rattle.contract_call.specs.Worlds.{world_in, resting, ending, DoesIn, RunsIn}
+use Rattle.contract_call.specs.Worlds.{world_in, ending, IsEnvOf, DoesIn, RunsIn}
 use Rattle.contract_call.specs.Running.{DoesFrom}
 use Rattle.contract_call.specs.Framed.{argument_words}
 use Rattle.contract_call.specs.declared.host.Host.{Host}
 use Rattle.contract_call.proofs.Beginning.{charges_first}
-use Rattle.contract_call.proofs.Joining.{Showing, Keeping, IsKeeping, stop, same_act, fails_as, as_fails, keep_both}
+use Rattle.contract_call.proofs.Joining.{Showing, Keeping, IsKeeping, stop, same_act, fails_as, as_fails, keep_memory}
 use Rattle.contract_call.proofs.Showing.{shown_as}
 use Rattle.contract_call.proofs.Splitting.{joined}
 
@@ -32,8 +31,8 @@ go_on_at mid new keep law a r view other rest out next p h =
     subst (λ o. Says any r other o (new (keep rest (world_of o)))) (sym e) (subst (λ z. Says any r other two (new z)) (law rest (world_of out) (world_of two)) (h (trace_of out)))
 
 -- an act that leaves the memory as it was
-pub count_both : {A B G : Type 0} (r : Result A HostErr) (view : A → B) (rest : World) (out : Out B) (new : Host G) → Says any r view out (world_in (resting rest out) new) → Says any r view out (world_in (ending rest out) new)
-count_both r view rest out new p = shown_as (λ w t. world_in w new t) keep_both new.ledger.budget (λ _ _. refl) r view rest out (λ t. world_in (resting rest out) new t) (λ t. refl) p
+pub count_both : {A B G : Type 0} (r : Result A HostErr) (view : A → B) (rest : World) (out : Out B) (new : Host G) → Says any r view out (world_in rest new) → Says any r view out (world_in (ending rest out) new)
+count_both r view rest out new p = shown_as (λ w t. world_in w new t) keep_memory new.ledger.budget (λ _ _. refl) r view rest out (λ t. world_in rest new t) (λ t. refl) p
 
 -- ---- the run of a frame's function
 
@@ -58,13 +57,13 @@ module _ {G : Type 0} (host : Env → HostCalls) (e : Entered) (first : Copied) 
       let w = world_in rest old trace in
       let out = argument_words e.module_.memories e.args w in
       let r : Result ScVal HostErr = Err x in
-      same_act (λ v t. world_in v h1 t) keep_both r view rest (after (started (host env) e) (finished env) w) (then_do out (ends_so env (host env) e)) (frame_first env (host env) e w)
-      (as_fails x view (then_do out (ends_so env (host env) e)) (λ t. world_in (keep_both rest (world_of (then_do out (ends_so env (host env) e)))) h1 t)
-      (stop (λ v t. world_in v h1 t) keep_both h1.ledger.budget (λ _ _. refl) x rest out (ends_so env (host env) e)
-      (fails_as x words out (λ t. world_in (keep_both rest (world_of out)) h1 t) (let none : Result W HostErr = Err x in count_both none words rest out h1 (begun env is rest trace)))))
+      same_act (λ v t. world_in v h1 t) keep_memory r view rest (after (started (host env) e) (finished env) w) (then_do out (ends_so env (host env) e)) (frame_first env (host env) e w)
+      (as_fails x view (then_do out (ends_so env (host env) e)) (λ t. world_in (keep_memory rest (world_of (then_do out (ends_so env (host env) e)))) h1 t)
+      (stop (λ v t. world_in v h1 t) keep_memory h1.ledger.budget (λ _ _. refl) x rest out (ends_so env (host env) e)
+      (fails_as x words out (λ t. world_in (keep_memory rest (world_of out)) h1 t) (let none : Result W HostErr = Err x in count_both none words rest out h1 (begun env is rest trace)))))
 
   module _ {W : Type 0} (given : W) (words : W → List ℕ) (h1 h2 : Host G) (begun : (let r : Result W HostErr = Ok given in DoesIn r words (λ env. argument_words e.module_.memories e.args) old h1))
-      (later : (env : Env) → IsEnv env old.ledger → IsEnv env h1.ledger) where
+      (later : (env : Env) → IsEnvOf env old → IsEnvOf env h1) where
     -- its code did not return
     pub not_run : (x : HostErr) (view : ScVal → Datum) → (let none : Result ℕ HostErr = Err x in RunsIn none (λ word. word) (λ env. runs_from (host env) e (words given)) h1 h2)
         → (let r : Result ScVal HostErr = Err x in DoesFrom first r view (λ env. after (started (host env) e) (finished env)) old h2)
@@ -72,24 +71,24 @@ module _ {G : Type 0} (host : Env → HostCalls) (e : Entered) (first : Copied) 
         let w = world_in rest old trace in
         let out = argument_words e.module_.memories e.args w in
         let r : Result ScVal HostErr = Err x in
-        same_act (λ v t. world_in v h2 t) keep_both r view rest (after (started (host env) e) (finished env) w) (then_do out (ends_so env (host env) e)) (frame_first env (host env) e w)
-        (go_on_at (λ v t. world_in v h1 t) (λ v t. world_in v h2 t) keep_both (λ _ _ _. refl) given r words view rest out (ends_so env (host env) e) (let some : Result W HostErr = Ok given in count_both some words rest out h1 (begun env is rest trace))
-        (λ t. let at = keep_both rest (world_of out) in
+        same_act (λ v t. world_in v h2 t) keep_memory r view rest (after (started (host env) e) (finished env) w) (then_do out (ends_so env (host env) e)) (frame_first env (host env) e w)
+        (go_on_at (λ v t. world_in v h1 t) (λ v t. world_in v h2 t) keep_memory (λ _ _ _. refl) given r words view rest out (ends_so env (host env) e) (let some : Result W HostErr = Ok given in count_both some words rest out h1 (begun env is rest trace))
+        (λ t. let at = keep_memory rest (world_of out) in
         let ran_out = runs_from (host env) e (words given) (world_in at h1 t) in
-        as_fails x view (then_do ran_out (finished env)) (λ z. world_in (keep_both at (world_of (then_do ran_out (finished env)))) h2 z)
-        (stop (λ v z. world_in v h2 z) keep_both h2.ledger.budget (λ _ _. refl) x at ran_out (finished env)
-        (fails_as x (λ (n : ℕ). n) ran_out (λ z. world_in (keep_both at (world_of ran_out)) h2 z) (ran env (later env is) at t)))))
+        as_fails x view (then_do ran_out (finished env)) (λ z. world_in (keep_memory at (world_of (then_do ran_out (finished env)))) h2 z)
+        (stop (λ v z. world_in v h2 z) keep_memory h2.ledger.budget (λ _ _. refl) x at ran_out (finished env)
+        (fails_as x (λ (n : ℕ). n) ran_out (λ z. world_in (keep_memory at (world_of ran_out)) h2 z) (ran env (later env is) at t)))))
 
     -- it ended
-    pub all_run : (word : ℕ) (r : Result ScVal HostErr) (view : ScVal → Datum) (h3 : Host G) → ((env : Env) → IsEnv env h1.ledger → IsEnv env h2.ledger)
+    pub all_run : (word : ℕ) (r : Result ScVal HostErr) (view : ScVal → Datum) (h3 : Host G) → ((env : Env) → IsEnvOf env h1 → IsEnvOf env h2)
         → (let given-word : Result ℕ HostErr = Ok word in RunsIn given-word (λ n. n) (λ env. runs_from (host env) e (words given)) h1 h2)
         → DoesFrom first r view (λ env. finished env word) h2 h3 → DoesFrom first r view (λ env. after (started (host env) e) (finished env)) old h3
     all_run word r view h3 still ran ended env is rest trace same =
         let w = world_in rest old trace in
         let out = argument_words e.module_.memories e.args w in
-        same_act (λ v t. world_in v h3 t) keep_both r view rest (after (started (host env) e) (finished env) w) (then_do out (ends_so env (host env) e)) (frame_first env (host env) e w)
-        (go_on_at (λ v t. world_in v h1 t) (λ v t. world_in v h3 t) keep_both (λ _ _ _. refl) given r words view rest out (ends_so env (host env) e) (let some : Result W HostErr = Ok given in count_both some words rest out h1 (begun env is rest trace))
-        (λ t. let at = keep_both rest (world_of out) in
+        same_act (λ v t. world_in v h3 t) keep_memory r view rest (after (started (host env) e) (finished env) w) (then_do out (ends_so env (host env) e)) (frame_first env (host env) e w)
+        (go_on_at (λ v t. world_in v h1 t) (λ v t. world_in v h3 t) keep_memory (λ _ _ _. refl) given r words view rest out (ends_so env (host env) e) (let some : Result W HostErr = Ok given in count_both some words rest out h1 (begun env is rest trace))
+        (λ t. let at = keep_memory rest (world_of out) in
         let ran_out = runs_from (host env) e (words given) (world_in at h1 t) in
-        go_on_at (λ v z. world_in v h2 z) (λ v z. world_in v h3 z) keep_both (λ _ _ _. refl) word r (λ (n : ℕ). n) view at ran_out (finished env) (ran env (later env is) at t)
-        (λ z. ended env (still env (later env is)) (keep_both at (world_of ran_out)) z same)))
+        go_on_at (λ v z. world_in v h2 z) (λ v z. world_in v h3 z) keep_memory (λ _ _ _. refl) word r (λ (n : ℕ). n) view at ran_out (finished env) (ran env (later env is) at t)
+        (λ z. ended env (still env (later env is)) (keep_memory at (world_of ran_out)) z same)))

@@ -23,11 +23,11 @@ Keeping = World → World → World
 abbrev pub IsKeeping : Keeping → Type 0
 IsKeeping keep = (rest a b : World) → keep (keep rest a) b ≡ keep rest b
 
-abbrev pub keep_count : Keeping
-keep_count rest w = record rest { frame = record rest.frame { begun = w.frame.begun } }
+abbrev pub keep_rest : Keeping
+keep_rest rest w = rest
 
-abbrev pub keep_both : Keeping
-keep_both rest w = record rest { frame = record rest.frame { memory = w.frame.memory; begun = w.frame.begun } }
+abbrev pub keep_memory : Keeping
+keep_memory rest w = record rest { frame = record rest.frame { memory = w.frame.memory } }
 
 -- ---- an act that ends without a value, and so all that would come after it
 

@@ -6,11 +6,12 @@ use Rattle.host_spec.specs.Answers.{Answer}
 use Rattle.host_spec.specs.declared.error.HostErr.{HostErr}
 use Rattle.host_spec.specs.declared.error.HostErr.TheVariants as ends
 use Rattle.object_store.specs.Shown.{shown_of}
+use Rattle.auth_trees.proofs.Later.{later_itself}
 use Rattle.call_spec.specs.World.{Env}
 use Rattle.call_spec.specs.Acts.{Failed, Bad, Act}
 use Rattle.call_spec.specs.Outcomes.{trace_of}
 use Rattle.host_ledger.proofs.Rows.{later_same}
-use Rattle.contract_call.specs.Worlds.{world_in, resting, MayRun}
+use Rattle.contract_call.specs.Worlds.{world_in, MayRun}
 use Rattle.contract_call.specs.Running.{StaysIn}
 use Rattle.contract_call.specs.Taken.{Takes, TakesIn}
 use Rattle.contract_call.specs.declared.host.Host.{Host}
@@ -34,8 +35,12 @@ stays_by old m ready = record {
     code = refl;
   };
   contracts = refl;
+  marks = later_itself old.marks;
+  verdicts = refl;
+  place = refl;
   ready = record {
     ledger = record { bounds = ready.ledger.bounds; number = ready.ledger.number; lives = ready.ledger.lives; indices = ready.ledger.indices; copy = ready.ledger.copy };
+    entries = ready.entries;
   };
 }
 
@@ -49,7 +54,7 @@ taken_by : {A G : Type 0} (r : Result A HostErr) (act : Env → Act Answer) (nex
     → ((env : Env) → Takes r (act env) (next env) (shown_of old.ledger.objects old.ledger.frame.shown) old.ledger.budget m) → TakesIn r act next old (around old (paid old.ledger m))
 taken_by (Ok a) act next old m h = λ env is rest trace. h env (world_in rest old trace) refl refl
 taken_by (Err (ends.Failed d)) act next old m h =
-    λ env is rest trace. (tt, subst (λ o. o ≡ Bad (Failed d) (world_in (resting rest o) (around old (paid old.ledger m)) (trace_of o))) (sym (h env (world_in rest old trace) refl refl).1) refl)
+    λ env is rest trace. (tt, subst (λ o. o ≡ Bad (Failed d) (world_in rest (around old (paid old.ledger m)) (trace_of o))) (sym (h env (world_in rest old trace) refl refl).1) refl)
 taken_by (Err ends.Spent) act next old m h = λ env is rest trace. h env (world_in rest old trace) refl refl
 taken_by (Err (ends.Archived key)) act next old m h = λ env is rest trace. h env (world_in rest old trace) refl refl
 taken_by (Err (ends.Undeclared key)) act next old m h = λ env is rest trace. h env (world_in rest old trace) refl refl

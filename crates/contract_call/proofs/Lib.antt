@@ -7,6 +7,7 @@ pub mod Constructing
 pub mod Construction
 pub mod Counting
 pub mod Counts
+pub mod Demanding
 pub mod Dividing
 pub mod Ending
 pub mod Framing

@@ -1,5 +1,5 @@
 -- The run of a frame's code, from one call of the host to the next.
-use Rattle.std.proofs.Common.{◌≡◌, ℕ, List, [], ◌++◌, length, take, drop, append_assoc, arith, Some, Result, Ok, Err, refl, sym, ap, ◌∙◌}
+use Rattle.std.proofs.Common.{◌≡◌, ℕ, List, [], ◌++◌, length, take, drop, append_assoc, arith, Some, Result, Ok, Err, refl, sym, ap, ◌∙◌, subst}
 use Rattle.std.proofs.lemmas.Grind.{common_steps}
 use Rattle.std.proofs.Math.Seq.{take-append_seam}
 use Rattle.std.specs.List.{refill}
@@ -24,29 +24,32 @@ use Rattle.call_spec.specs.Frames.{HostCalls, metered, runs, trap_code}
 use Rattle.call_spec.specs.HostFunctions.{host_function, host_of, of_row, opener_of}
 use Rattle.call_spec.specs.Outcomes.{Says, trace_of, stopped_kind}
 use Rattle.host_ledger.specs.Answered.{any}
-use Rattle.host_ledger.specs.Worlds.{IsEnv}
-use Rattle.contract_call.specs.Worlds.{world_in, ending}
+use Rattle.contract_call.specs.Worlds.{authority_of, world_in, ending, IsEnvOf}
 use Rattle.contract_storage.proofs.Going.{again}
 use Rattle.host_ledger.proofs.Rows.{later_same}
 use Rattle.contract_call.specs.Worlds.{MayRun}
 use Rattle.contract_call.specs.Running.{DoesOver, StaysIn}
 use Rattle.host_ledger.proofs.Composing.{serves_later}
+use Rattle.auth_trees.specs.Demands.{Marked, IsLater}
+use Rattle.auth_trees.proofs.Later.{later_itself, later_again}
 use Rattle.contract_call.specs.declared.host.Host.{Host}
-use Rattle.contract_call.proofs.Joining.{keep_both, says_stopped, traced}
+use Rattle.contract_call.specs.declared.place.Place.{Place}
+use Rattle.contract_call.specs.Placed.{IsPathFor, HasRoom}
+use Rattle.contract_call.proofs.Joining.{keep_memory, says_stopped, traced}
 use Rattle.contract_call.proofs.Showing.{shown_as}
 
--- the rest with another linear memory and number of begun calls
-abbrev pub kept : List ℕ → ℕ → World → World
-kept memory count rest = record rest { frame = record rest.frame { memory = memory; begun = count } }
+-- the rest with another linear memory
+abbrev pub kept : List ℕ → World → World
+kept memory rest = record rest { frame = record rest.frame { memory = memory } }
 
 -- The run from the start is the run from here on.
 abbrev pub Follows : {G : Type 0} → Module → ℕ → Suspended → Host G → Suspended → Host G → Type 0
 Follows m room i0 h0 i h = (go : Meter → Run) → Does i0 go → (next : (Meter → Run)) × Does i next
-    × ((env : Env) → IsEnv env h0.ledger → (rest : World) (trace : List Access) → (memory : List ℕ) × (count : ℕ) × (t : List Access)
-    × (runs (host_of env (opener_of env room) m) (go h0.ledger.budget) (world_in rest h0 trace) ≡ runs (host_of env (opener_of env room) m) (next h.ledger.budget) (world_in (kept memory count rest) h t)))
+    × ((env : Env) → IsEnvOf env h0 → (rest : World) (trace : List Access) → (memory : List ℕ) × (t : List Access)
+    × (runs (host_of env (opener_of env room) m) (go h0.ledger.budget) (world_in rest h0 trace) ≡ runs (host_of env (opener_of env room) m) (next h.ledger.budget) (world_in (kept memory rest) h t)))
 
 pub follows_first : {G : Type 0} (m : Module) (room : ℕ) (i : Suspended) (h : Host G) → Follows m room i h i h
-follows_first m room i h go does = (go, does, λ env is rest trace. (rest.frame.memory, rest.frame.begun, trace, refl))
+follows_first m room i h go does = (go, does, λ env is rest trace. (rest.frame.memory, trace, refl))
 
 -- ---- events
 
@@ -100,17 +103,20 @@ spent_is host Stuck b i w h = absurd h
 
 -- ---- ends
 
-end_says : {A G : Type 0} (r : Result A HostErr) (view : A → ℕ) (rest : World) (memory : List ℕ) (count : ℕ) (t : List Access) (h : Host G) (out : Out ℕ)
-    → Says any r view out (λ trace. world_in (kept memory count rest) h t) → Says any r view out (world_in (ending rest out) h)
-end_says r view rest memory count t h out p =
-    shown_as (λ w z. world_in w h z) keep_both h.ledger.budget (λ _ _. refl) r view rest out (λ z. world_in (kept memory count rest) h z) (λ z. refl) (traced r view out (world_in (kept memory count rest) h t) p)
+end_says : {A G : Type 0} (r : Result A HostErr) (view : A → ℕ) (rest : World) (memory : List ℕ) (t : List Access) (h : Host G) (out : Out ℕ)
+    → Says any r view out (λ trace. world_in (kept memory rest) h t) → Says any r view out (world_in (ending rest out) h)
+end_says r view rest memory t h out p =
+    shown_as (λ w z. world_in w h z) keep_memory h.ledger.budget (λ _ _. refl) r view rest out (λ z. world_in (kept memory rest) h z) (λ z. refl) (traced r view out (world_in (kept memory rest) h t) p)
 
 abbrev pub paid : {G : Type 0} → Host G → Meter → Host G
 paid h b = record h { ledger = record h.ledger { budget = b } }
 
+env_paid : {G : Type 0} (h : Host G) (b : Meter) (env : Env) → IsEnvOf env h → IsEnvOf env (paid h b)
+env_paid h b env is = record { ledger = record { header = is.ledger.header; serves = is.ledger.serves }; authority = is.authority }
+
 -- the run ended in the frame, as the result says
 abbrev pub EndsRun : {G : Type 0} → Module → ℕ → Suspended → Host G → Result ℕ HostErr → Host G → Type 0
-EndsRun m room i0 h0 r h = (go : Meter → Run) → Does i0 go → (env : Env) → IsEnv env h0.ledger → (rest : World) (trace : List Access)
+EndsRun m room i0 h0 r h = (go : Meter → Run) → Does i0 go → (env : Env) → IsEnvOf env h0 → (rest : World) (trace : List Access)
     → (let out = runs (host_of env (opener_of env room) m) (go h0.ledger.budget) (world_in rest h0 trace) in Says any r (λ word. word) out (world_in (ending rest out) h))
 
 -- what an event tells of an instance's runs, with these budgets
@@ -124,7 +130,7 @@ run_done m room i0 i after h0 h n b follows tells go does env is rest trace =
     let at = f.2 env is rest trace in
     let host = host_of env (opener_of env room) m in
     let r : Result ℕ HostErr = Ok n in
-    end_says r (λ word. word) rest at.0 at.1 at.2 (paid h b) _ (tt, at.3 ∙ done_is host (f.0 h.ledger.budget) n b after (world_in (kept at.0 at.1 rest) h at.2) (tells f.0 f.1))
+    end_says r (λ word. word) rest at.0 at.1 (paid h b) _ (tt, at.2 ∙ done_is host (f.0 h.ledger.budget) n b after (world_in (kept at.0 rest) h at.1) (tells f.0 f.1))
 
 pub run_trapped : {G : Type 0} (m : Module) (room : ℕ) (i0 i after : Suspended) (h0 h : Host G) (k : TrapKind) (b : Meter) (e : ScError) → e ≡ traps.trap_error k → Follows m room i0 h0 i h
     → ((go : Meter → Run) → Does i go → Tells (go h.ledger.budget) (event.Trap k) b after) → EndsRun m room i0 h0 (Err (ends.Failed e)) (paid h b)
@@ -133,8 +139,8 @@ run_trapped m room i0 i after h0 h k b e is-trap follows tells go does env is re
     let at = f.2 env is rest trace in
     let host = host_of env (opener_of env room) m in
     let r : Result ℕ HostErr = Err (ends.Failed e) in
-    end_says r (λ word. word) rest at.0 at.1 at.2 (paid h b) _
-    (tt, at.3 ∙ trap_is host (f.0 h.ledger.budget) k b after (world_in (kept at.0 at.1 rest) h at.2) (tells f.0 f.1) ∙ ap (λ x. Bad (Failed x) (world_in (kept at.0 at.1 rest) (paid h b) at.2)) (sym is-trap))
+    end_says r (λ word. word) rest at.0 at.1 (paid h b) _
+    (tt, at.2 ∙ trap_is host (f.0 h.ledger.budget) k b after (world_in (kept at.0 rest) h at.1) (tells f.0 f.1) ∙ ap (λ x. Bad (Failed x) (world_in (kept at.0 rest) (paid h b) at.1)) (sym is-trap))
 
 pub run_spent : {G : Type 0} (m : Module) (room : ℕ) (i0 i after : Suspended) (h0 h : Host G) (b : Meter) → Follows m room i0 h0 i h
     → ((go : Meter → Run) → Does i go → Tells (go h.ledger.budget) event.Spent b after) → EndsRun m room i0 h0 (Err ends.Spent) (paid h b)
@@ -143,8 +149,8 @@ run_spent m room i0 i after h0 h b follows tells go does env is rest trace =
     let at = f.2 env is rest trace in
     let host = host_of env (opener_of env room) m in
     let r : Result ℕ HostErr = Err ends.Spent in
-    let e = at.3 ∙ spent_is host (f.0 h.ledger.budget) b after (world_in (kept at.0 at.1 rest) h at.2) (tells f.0 f.1) in
-    end_says r (λ word. word) rest at.0 at.1 at.2 (paid h b) _ (tt, e ∙ ap (Bad Spent) (sym (ap world_of e)), ap (λ o. (world_of o).meter) e)
+    let e = at.2 ∙ spent_is host (f.0 h.ledger.budget) b after (world_in (kept at.0 rest) h at.1) (tells f.0 f.1) in
+    end_says r (λ word. word) rest at.0 at.1 (paid h b) _ (tt, e ∙ ap (Bad Spent) (sym (ap world_of e)), ap (λ o. (world_of o).meter) e)
 
 -- ---- calls of the host
 
@@ -158,7 +164,7 @@ Answers before after room row words r old new = DoesOver before after r (λ word
 
 pub run_answered : {G : Type 0} (m : Module) (room : ℕ) (i0 i i1 i2 : Suspended) (h0 h h2 : Host G) (b : Meter) (f : ℕ) (words : List ℕ) (row : Row) (word : ℕ) (before after : List ℕ) → Follows m room i0 h0 i h
     → ((go : Meter → Run) → Does i go → Tells (go h.ledger.budget) (event.HostCall f words) b i1) → row_at m f ≡ Some row → i1.store.memory.bytes ≡ before
-    → ((on : ℕ → List ℕ → Meter → Run) → Awaits i1 on → Does i2 (on word after)) → ((env : Env) → IsEnv env h0.ledger → IsEnv env h.ledger)
+    → ((on : ℕ → List ℕ → Meter → Run) → Awaits i1 on → Does i2 (on word after)) → ((env : Env) → IsEnvOf env h0 → IsEnvOf env h)
     → Answers before after room row words (Ok word) (paid h b) h2 → Follows m room i0 h0 i2 h2
 run_answered m room i0 i i1 i2 h0 h h2 b f words row word before after follows tells named same given later answer go does =
     let f0 = follows go does in
@@ -169,14 +175,13 @@ run_answered m room i0 i i1 i2 h0 h h2 b f words row word before after follows t
           let at = f0.2 env is rest trace in
           let host = host_of env (opener_of env room) m in
           let next : ℕ → Act ℕ = λ x u. runs host (q.0 x u.frame.memory u.meter) u in
-          let w = world_in (kept at.0 at.1 rest) h at.2 in
-          let waiting = kept i1.store.memory.bytes at.1 rest in
-          let out = host_function env (opener_of env room) row.import words (world_in waiting (paid h b) at.2) in
-          let says = answer env (record { header = (later env is).header; serves = (later env is).serves }) waiting at.2 same in (
+          let w = world_in (kept at.0 rest) h at.1 in
+          let waiting = kept i1.store.memory.bytes rest in
+          let out = host_function env (opener_of env room) row.import words (world_in waiting (paid h b) at.1) in
+          let says = answer env (env_paid h b env (later env is)) waiting at.1 same in (
             after,
-            (world_of out).frame.begun,
             trace_of out,
-            at.3 ∙ ap (λ r. runs host r w) q.1 ∙ ap (λ o. then_do o next) (row_act env room m f row words (world_in waiting (paid h b) at.2) named ∙ says.1),
+            at.2 ∙ ap (λ r. runs host r w) q.1 ∙ ap (λ o. then_do o next) (row_act env room m f row words (world_in waiting (paid h b) at.1) named ∙ says.1),
           ),
     )
 
@@ -194,26 +199,38 @@ fixed_left (Err ends.NoMemory) view out left m pays p = tt
 
 pub run_refused : {G : Type 0} (m : Module) (room : ℕ) (i0 i i1 : Suspended) (h0 h h2 : Host G) (b : Meter) (f : ℕ) (words : List ℕ) (row : Row) (e : HostErr) (before after : List ℕ) → Follows m room i0 h0 i h
     → ((go : Meter → Run) → Does i go → Tells (go h.ledger.budget) (event.HostCall f words) b i1) → row_at m f ≡ Some row → i1.store.memory.bytes ≡ before
-    → ((env : Env) → IsEnv env h0.ledger → IsEnv env h.ledger) → Answers before after room row words (Err e) (paid h b) h2 → EndsRun m room i0 h0 (Err e) h2
+    → ((env : Env) → IsEnvOf env h0 → IsEnvOf env h) → Answers before after room row words (Err e) (paid h b) h2 → EndsRun m room i0 h0 (Err e) h2
 run_refused m room i0 i i1 h0 h h2 b f words row e before after follows tells named same later answer go does env is rest trace =
     let f0 = follows go does in
     let q = asked (f0.0 h.ledger.budget) f words b i1 (tells f0.0 f0.1) in
     let at = f0.2 env is rest trace in
     let host = host_of env (opener_of env room) m in
     let next : ℕ → Act ℕ = λ x u. runs host (q.0 x u.frame.memory u.meter) u in
-    let w = world_in (kept at.0 at.1 rest) h at.2 in
-    let waiting = kept i1.store.memory.bytes at.1 rest in
-    let out = host_function env (opener_of env room) row.import words (world_in waiting (paid h b) at.2) in
+    let w = world_in (kept at.0 rest) h at.1 in
+    let waiting = kept i1.store.memory.bytes rest in
+    let out = host_function env (opener_of env room) row.import words (world_in waiting (paid h b) at.1) in
     let whole = runs host (go h0.ledger.budget) (world_in rest h0 trace) in
-    let says = answer env (record { header = (later env is).header; serves = (later env is).serves }) waiting at.2 same in
+    let says = answer env (env_paid h b env (later env is)) waiting at.1 same in
     let r : Result ℕ HostErr = Err e in
-    let left = world_in (kept after (world_of out).frame.begun rest) h2 (trace_of out) in
-    end_says r (λ word. word) rest after (world_of out).frame.begun (trace_of out) h2 whole
+    let left = world_in (kept after rest) h2 (trace_of out) in
+    end_says r (λ word. word) rest after (trace_of out) h2 whole
     (says_stopped (λ (word : ℕ). word) (λ (word : ℕ). word) e next out whole left
-    (at.3 ∙ ap (λ r. runs host r w) q.1 ∙ ap (λ o. then_do o next) (row_act env room m f row words (world_in waiting (paid h b) at.2) named))
-    (fixed_left r (λ word. word) out (λ t. world_in (kept after (world_of out).frame.begun rest) h2 t) h2.ledger.budget (λ _. refl) says))
+    (at.2 ∙ ap (λ r. runs host r w) q.1 ∙ ap (λ o. then_do o next) (row_act env room m f row words (world_in waiting (paid h b) at.1) named))
+    (fixed_left r (λ word. word) out (λ t. world_in (kept after rest) h2 t) h2.ledger.budget (λ _. refl) says))
 
 -- ---- the state
+
+pub place_again : (p q r : Place) → q ≡ record p { begun = q.begun } → r ≡ record q { begun = r.begun } → r ≡ record p { begun = r.begun }
+place_again p q r one two = two ∙ ap (λ (x : Place). record x { begun = r.begun }) one
+
+-- the path stays
+pub still_room : {G : Type 0} (room : ℕ) (old new : Host G) → new.place ≡ record old.place { begun = new.place.begun } → HasRoom room old → HasRoom room new
+still_room room old new is h = subst (λ (p : Place). IsPathFor p.path.items room) (sym is) h
+
+-- entries and source stay as marks are added
+pub same_authority : {G : Type 0} (old new : Host G) → IsLater old.marks new.marks → new.verdicts.now ≡ old.verdicts.now → authority_of old ≡ authority_of new
+same_authority old new later verdicts =
+    ap (λ (s : Marked). record (authority_of old) { entries = s.entries; source = s.source }) (sym later.1) ∙ ap (λ v. record (authority_of new) { verdicts = v }) (sym verdicts)
 
 pub stays_twice : {G : Type 0} (h0 h h2 : Host G) (b : Meter) → StaysIn h0 h → StaysIn (paid h b) h2 → StaysIn h0 h2
 stays_twice h0 h h2 b one two = record {
@@ -226,6 +243,9 @@ stays_twice h0 h h2 b one two = record {
     code = two.left.code ∙ one.left.code;
   };
   contracts = two.contracts ∙ one.contracts;
+  marks = later_again h0.marks h.marks h2.marks one.marks two.marks;
+  verdicts = two.verdicts ∙ one.verdicts;
+  place = place_again h0.place h.place h2.place one.place two.place;
   ready = two.ready;
 }
 
@@ -240,16 +260,23 @@ stays_same h ready = record {
     code = refl;
   };
   contracts = refl;
+  marks = later_itself h.marks;
+  verdicts = refl;
+  place = refl;
   ready = ready;
 }
 
 pub may_pay : {G : Type 0} (h : Host G) (b : Meter) → MayRun h → MayRun (paid h b)
 may_pay h b ready = record {
   ledger = record { bounds = ready.ledger.bounds; number = ready.ledger.number; lives = ready.ledger.lives; indices = ready.ledger.indices; copy = ready.ledger.copy };
+  entries = ready.entries;
 }
 
-pub env_in : {G : Type 0} (old new : Host G) → StaysIn old new → (env : Env) → IsEnv env old.ledger → IsEnv env new.ledger
-env_in old new stays env is = record { header = is.header ∙ sym stays.left.header; serves = serves_later env old.ledger.storage new.ledger.storage stays.left.storage is.serves }
+pub env_in : {G : Type 0} (old new : Host G) → StaysIn old new → (env : Env) → IsEnvOf env old → IsEnvOf env new
+env_in old new stays env is = record {
+  ledger = record { header = is.ledger.header ∙ sym stays.left.header; serves = serves_later env old.ledger.storage new.ledger.storage stays.left.storage is.ledger.serves };
+  authority = is.authority ∙ same_authority old new stays.marks stays.verdicts;
+}
 
 -- a memory of the same size is the whole memory
 pub refilled : (xs ws : List ℕ) → length ws ≡ length xs → refill (length xs) xs ws ≡ ws

@@ -4,7 +4,7 @@ use Rattle.std.proofs.Math.Seq.{take-append_seam}
 use Rattle.std.proofs.lemmas.List.{reverse-append}
 use Rattle.budget_meter.specs.Meter.{Meter}
 use Rattle.value_types.specs.Datum.{Datum}
-use Rattle.value_types.specs.Views.{datum}
+use Rattle.value_types.specs.Views.{datum, datums}
 use Rattle.value_types.specs.declared.hash.Hash.{Hash}
 use Rattle.value_types.specs.declared.value.ScVal.{ScVal}
 use Rattle.wasm_spec.specs.declared.module.Module.{Module}
@@ -15,22 +15,24 @@ use Rattle.wasm_run.specs.declared.instance.CallPhase.TheVariants as phase
 use Rattle.object_store.specs.Shown.{shown_of}
 use Rattle.host_spec.specs.declared.error.HostErr.{HostErr}
 use Rattle.host_spec.specs.declared.error.HostErr.TheVariants as ends
-use Rattle.call_spec.specs.World.{AccessKind, Access, Pair, Frame, World, Env}
+use Rattle.contract_storage.specs.Stored.{Stored, IsLater}
+use Rattle.auth_trees.specs.Demands.{Marked, IsLater as IsLaterMarked}
+use Rattle.auth_trees.proofs.Later.{later_itself}
+use Rattle.call_spec.specs.World.{AccessKind, Access, Frame, World, Env}
 use Rattle.call_spec.specs.Acts.{Act, Failure, Failed, Spent, Archived, Out, Good, Bad, Undeclared, after, world_of}
 use Rattle.call_spec.specs.Frames.{Entered, frame_of, started, finished, framed, closed, with_frames}
 use Rattle.call_spec.specs.HostFunctions.{host_of, opener_of}
 use Rattle.call_spec.specs.Outcomes.{Says, trace_of, stopped_kind}
 use Rattle.host_ledger.specs.Answered.{any}
-use Rattle.host_ledger.specs.Worlds.{IsEnv, copied}
-use Rattle.host_ledger.specs.declared.state.HostLedger.{HostLedger}
+use Rattle.host_ledger.specs.Worlds.{copied}
 use Rattle.host_ledger.specs.declared.state.InstanceCopy.{InstanceCopy}
 use Rattle.host_ledger.specs.declared.state.Running.{Running}
 use Rattle.host_ledger.proofs.Rows.{later_same}
-use Rattle.contract_call.specs.Worlds.{contracts_of, world_in, world_around, ending, DoesAround, Stays}
+use Rattle.contract_call.specs.Worlds.{contracts_of, placed, world_in, world_around, ending, IsOpened, IsClosed, IsEnvOf, DoesAround, Stays}
 use Rattle.contract_call.specs.Running.{entered, IsNewFrame, Starts, StaysIn, DoesFrom}
 use Rattle.contract_call.specs.declared.host.Host.{Host}
-use Rattle.contract_call.proofs.Joining.{same_act, keep_count}
-use Rattle.contract_call.proofs.Showing.{shown_as}
+use Rattle.contract_call.specs.declared.place.Place.{Place}
+use Rattle.contract_call.proofs.Joining.{same_act, keep_rest}
 
 -- ---- the start of the code
 
@@ -82,62 +84,100 @@ last_off xs ys c e =
     let n : length ys - 1 ≡ length xs = omega (arith, ap length e, length-append xs (c ∷ [])) in
     ap (λ k. take k ys) n ∙ ap (take (length xs)) e ∙ take-append_seam xs (c ∷ [])
 
-module _ (frame : Running) (fresh : IsNewFrame frame) (function : List ℕ) (args : List Datum) (path : List ℕ) (m : Module) (index : ℕ) (store : Store) where
+module _ (frame : Running) (fresh : IsNewFrame frame) (place : Place) (unbegun : place.begun ≡ 0) (m : Module) (index : ℕ) (store : Store) where
   abbrev this : Entered
-  this = entered frame function args path m index store
+  this = entered frame place.function.items (datums place.args.items) place.path.items m index store
 
-  start_is : {G : Type 0} (old h1 : Host G) (rest : World) (trace : List Access) → h1.ledger ≡ record old.ledger { objects = []; frame = frame } → h1.open.items ≡ old.open.items ++ frame.contract ∷ []
+  start_is : {G : Type 0} (old h1 : Host G) (rest : World) (trace : List Access) → IsOpened frame place old h1 → h1.open.items ≡ old.open.items ++ frame.contract ∷ []
       → with_frames (frame_of this) (this.contract ∷ contracts_of old) (world_around rest old trace) ≡ world_in (record rest { frame = frame_of this }) h1 trace
-  start_is {G} old h1 rest trace ledger pushed =
-      let at : Hash → List Datum → List Hash → HostLedger G → World = λ code shown cs l. record rest {
-        entries = l.storage.map;
-        events = l.events;
-        frame = record (frame_of this) { code = code; shown = shown };
+  start_is {G} old h1 rest trace is pushed =
+      let at : Hash → List Datum → List Hash → ℕ → World = λ code shown cs begun. record rest {
+        entries = old.ledger.storage.map;
+        events = old.ledger.events;
+        pairs = old.marks.pairs;
+        frame = record (frame_of this) { code = code; shown = shown; begun = begun };
         contracts = cs;
         trace = trace;
-        meter = l.budget;
+        meter = old.ledger.budget;
       } in
-      ap (λ x. at x [] (frame.contract ∷ contracts_of old) old.ledger) (sym fresh.code)
-      ∙ ap (λ x. at frame.code x (frame.contract ∷ contracts_of old) old.ledger) (sym (ap (shown_of []) fresh.shown))
-      ∙ ap (λ x. at frame.code (shown_of [] frame.shown) x old.ledger) (sym (ap reverse pushed ∙ reversed old.open.items frame.contract))
-      ∙ subst (λ (l : HostLedger G). at frame.code (shown_of [] frame.shown) (contracts_of h1) old.ledger ≡ world_in (record rest { frame = frame_of this }) (record h1 { ledger = l }) trace) (sym ledger) refl
+      ap (λ x. at x [] (frame.contract ∷ contracts_of old) 0) (sym fresh.code)
+      ∙ ap (λ x. at frame.code x (frame.contract ∷ contracts_of old) 0) (sym (ap (shown_of []) fresh.shown))
+      ∙ ap (λ x. at frame.code (shown_of [] frame.shown) x 0) (sym (ap reverse pushed ∙ reversed old.open.items frame.contract))
+      ∙ ap (at frame.code (shown_of [] frame.shown) (contracts_of h1)) (sym unbegun)
+      ∙ ap (λ (h : Host G). world_in (record rest { frame = frame_of this }) h trace) (sym is)
 
-  end_is : {G : Type 0} (old h2 h3 : Host G) (rest mid : World) (t : List Access) (objects : List Datum) (outer : Running) → h3.ledger ≡ record h2.ledger { objects = objects; frame = outer } → contracts_of h3 ≡ contracts_of old
-      → mid.pairs ≡ rest.pairs → with_frames rest.frame (contracts_of old) (world_in mid h2 t) ≡ world_around rest h3 t
-  end_is {G} old h2 h3 rest mid t objects outer ledger pushed pairs =
-      let at : List Pair → List Hash → HostLedger G → World = λ ps cs l. record rest { entries = l.storage.map; events = l.events; pairs = ps; contracts = cs; trace = t; meter = l.budget } in
-      ap (λ x. at x (contracts_of old) h2.ledger) pairs ∙ ap (λ x. at rest.pairs x h2.ledger) (sym pushed)
-      ∙ subst (λ (l : HostLedger G). at rest.pairs (contracts_of h3) h2.ledger ≡ world_around rest (record h3 { ledger = l }) t) (sym ledger) refl
+  end_is : {G : Type 0} (old h2 h3 : Host G) (rest mid : World) (t : List Access) → IsClosed old.ledger.objects old.ledger.frame old.place h2 h3 → contracts_of h3 ≡ contracts_of old
+      → with_frames (placed old.place rest.frame) (contracts_of old) (world_in mid h2 t) ≡ world_around rest h3 t
+  end_is {G} old h2 h3 rest mid t is pushed =
+      let at : List Hash → World = λ cs. record rest {
+        entries = h2.ledger.storage.map;
+        events = h2.ledger.events;
+        pairs = h2.marks.pairs;
+        frame = placed old.place rest.frame;
+        contracts = cs;
+        trace = t;
+        meter = h2.ledger.budget;
+      } in
+      ap at (sym pushed) ∙ ap (λ (h : Host G). world_around rest h t) (sym is)
 
-  env_opened : {G : Type 0} (old h1 : Host G) (env : Env) → h1.ledger ≡ record old.ledger { objects = []; frame = frame } → IsEnv env old.ledger → IsEnv env h1.ledger
-  env_opened {G} old h1 env ledger is = subst (λ (l : HostLedger G). IsEnv env l) (sym ledger) (record { header = is.header; serves = is.serves })
+  env_opened : {G : Type 0} (old h1 : Host G) (env : Env) → IsOpened frame place old h1 → IsEnvOf env old → IsEnvOf env h1
+  env_opened {G} old h1 env is at =
+      subst (λ (h : Host G). IsEnvOf env h) (sym is) (record { ledger = record { header = at.ledger.header; serves = at.ledger.serves }; authority = at.authority })
 
-  pub framed_does : {G : Type 0} (room : ℕ) (first : InstanceCopy) (r : Result ScVal HostErr) (old h1 h2 h3 : Host G) (objects : List Datum) (outer : Running) → first ≡ frame.copy
-      → h1.ledger ≡ record old.ledger { objects = []; frame = frame } → h1.open.items ≡ old.open.items ++ frame.contract ∷ [] → StaysIn h1 h2
-      → DoesFrom (copied first) r datum (λ env. after (started (host_of env (opener_of env room) m) this) (finished env)) h1 h2 → h3.ledger ≡ record h2.ledger { objects = objects; frame = outer }
+  pub framed_does : {G : Type 0} (room : ℕ) (first : InstanceCopy) (r : Result ScVal HostErr) (old h1 h2 h3 : Host G) → first ≡ frame.copy → IsOpened frame place old h1 → h1.open.items ≡ old.open.items ++ frame.contract ∷ [] → StaysIn h1 h2
+      → DoesFrom (copied first) r datum (λ env. after (started (host_of env (opener_of env room) m) this) (finished env)) h1 h2 → IsClosed old.ledger.objects old.ledger.frame old.place h2 h3
       → h3.open.items ≡ take (length h2.open.items - 1) h2.open.items → DoesAround r datum (λ env. framed env (host_of env (opener_of env room)) this) old h3
-  framed_does room first r old h1 h2 h3 objects outer copy ledger pushed stays inside ledger3 open3 env is rest trace =
+  framed_does room first r old h1 h2 h3 copy opened pushed stays inside closing open3 env is rest trace =
       let host = host_of env (opener_of env room) in
       let act : Act Datum = after (started (host m) this) (finished env) in
       let w = world_around rest old trace in
       let rest_in : World = record rest { frame = frame_of this } in
       let out_in = act (world_in rest_in h1 trace) in
-      let out = closed rest.frame (contracts_of old) out_in in
+      let out = closed (placed old.place rest.frame) (contracts_of old) out_in in
       let cs : contracts_of h3 ≡ contracts_of old = ap reverse (open3 ∙ last_off old.open.items h2.open.items frame.contract (stays.contracts ∙ pushed)) in
-      same_act (λ v t. world_around v h3 t) keep_count r datum rest (framed env host this w) out
-      (ap (λ z. closed rest.frame (contracts_of old) (act z)) (start_is old h1 rest trace ledger pushed))
-      (shown_as (λ v t. world_around v h3 t) keep_count h3.ledger.budget (λ _ _. refl) r datum rest out (λ t. world_around rest h3 t) (λ t. refl)
-      (closed_says rest.frame (contracts_of old) r datum out_in (λ t. world_in (ending rest_in out_in) h2 t) (λ t. world_around rest h3 t)
-      (λ t. end_is old h2 h3 rest (ending rest_in out_in) t objects outer ledger3 cs refl) (λ t. refl)
-      (inside env (env_opened old h1 env ledger is) rest_in trace (ap copied (sym copy)))))
+      same_act (λ v t. world_around v h3 t) keep_rest r datum rest (framed env host this w) out
+      (ap (λ z. closed (placed old.place rest.frame) (contracts_of old) (act z)) (start_is old h1 rest trace opened pushed))
+      (closed_says (placed old.place rest.frame) (contracts_of old) r datum out_in (λ t. world_in (ending rest_in out_in) h2 t) (λ t. world_around rest h3 t)
+      (λ t. end_is old h2 h3 rest (ending rest_in out_in) t closing cs) (λ t. refl)
+      (inside env (env_opened old h1 env opened is) rest_in trace (ap copied (sym copy))))
 
--- a state that stayed
-pub stays_equal : {G : Type 0} (old new : Host G) → new.ledger ≡ old.ledger → new.open.items ≡ old.open.items → Stays old new
-stays_equal old new ledger pushed = record {
-  header = ap (λ (l : HostLedger _). l.header.now) ledger;
-  storage = later_same old.ledger.storage new.ledger.storage (ap (λ (l : HostLedger _). l.storage) ledger);
-  events = ([], ap (λ (l : HostLedger _). l.events) ledger ∙ sym (append-nil old.ledger.events));
-  objects = ap (λ (l : HostLedger _). l.objects) ledger;
-  frame = ap (λ (l : HostLedger _). l.frame) ledger;
-  contracts = pushed;
-}
+-- the frame that waited is the one around
+pub closes : {G : Type 0} (old h2 h3 : Host G) (objects : List Datum) (outer : Running) (place : Place) → objects ≡ old.ledger.objects → outer ≡ old.ledger.frame → place ≡ old.place → IsClosed objects outer place h2 h3
+    → IsClosed old.ledger.objects old.ledger.frame old.place h2 h3
+closes old h2 h3 objects outer place i j k closed =
+    subst (λ (p : Place). IsClosed old.ledger.objects old.ledger.frame p h2 h3) k
+    (subst (λ f. IsClosed old.ledger.objects f place h2 h3) j (subst (λ (o : List Datum). IsClosed o outer place h2 h3) i closed))
+
+-- ---- the state
+
+-- a state that stayed, but for the room of its list of contracts
+pub stays_equal : {G : Type 0} (old new : Host G) → new ≡ record old { «open» = new.open } → new.open.items ≡ old.open.items → Stays old new
+stays_equal {G} old new is same =
+    let at : Host G = record old { «open» = new.open } in
+    subst (λ (h : Host G). Stays old h) (sym is) (record {
+      header = refl;
+      storage = later_same old.ledger.storage old.ledger.storage refl;
+      events = ([], sym (append-nil old.ledger.events));
+      objects = refl;
+      frame = refl;
+      contracts = same;
+      marks = later_itself old.marks;
+      verdicts = refl;
+      place = refl;
+    })
+
+-- what a frame of its own leaves to the one around it
+pub frame_stays : {G : Type 0} (frame : Running) (place : Place) (old h1 h2 h3 : Host G) → IsOpened frame place old h1 → h1.open.items ≡ old.open.items ++ frame.contract ∷ [] → StaysIn h1 h2
+    → IsClosed old.ledger.objects old.ledger.frame old.place h2 h3 → h3.open.items ≡ take (length h2.open.items - 1) h2.open.items → Stays old h3
+frame_stays {G} frame place old h1 h2 h3 opened pushed stays closed popped =
+    record {
+      header = ap (λ (h : Host G). h.ledger.header.now) closed ∙ stays.left.header ∙ ap (λ (h : Host G). h.ledger.header.now) opened;
+      storage = subst (λ (s : Stored). IsLater s h3.ledger.storage) (ap (λ (h : Host G). h.ledger.storage) opened) (subst (λ (s : Stored). IsLater h1.ledger.storage s) (sym (ap (λ (h : Host G). h.ledger.storage) closed)) stays.left.storage);
+      events = (stays.left.events.0, ap (λ (h : Host G). h.ledger.events) closed ∙ stays.left.events.1 ∙ ap (λ x. x ++ stays.left.events.0) (ap (λ (h : Host G). h.ledger.events) opened));
+      objects = ap (λ (h : Host G). h.ledger.objects) closed;
+      frame = ap (λ (h : Host G). h.ledger.frame) closed;
+      contracts = popped ∙ last_off old.open.items h2.open.items frame.contract (stays.contracts ∙ pushed);
+      marks = subst (λ (s : Marked). IsLaterMarked s h3.marks) (ap (λ (h : Host G). h.marks) opened) (subst (λ (s : Marked). IsLaterMarked h1.marks s) (sym (ap (λ (h : Host G). h.marks) closed)) stays.marks);
+      verdicts = ap (λ (h : Host G). h.verdicts.now) closed ∙ stays.verdicts ∙ ap (λ (h : Host G). h.verdicts.now) opened;
+      place = ap (λ (h : Host G). h.place) closed ∙ ap (λ (p : Place). record old.place { begun = p.begun }) (sym (ap (λ (h : Host G). h.place) closed));
+    }

@@ -14,6 +14,10 @@ use Rattle.host_spec.specs.Answers.{Answer, value, given}
 use Rattle.host_spec.specs.declared.error.HostErr.{HostErr}
 use Rattle.host_frame.specs.Answered.{answer_of}
 use Rattle.host_frame.specs.declared.answer.Answer.{Answer as Answer'}
+use Rattle.std.specs.Prelude.{All}
+use Rattle.auth_types.specs.AuthEntry.{auth_entry_format}
+use Rattle.auth_trees.specs.Demands.{Marked}
+use Rattle.auth_trees.proofs.Later.{later_again}
 use Rattle.call_spec.specs.World.{Access, World, Env, next_seq}
 use Rattle.call_spec.specs.Acts.{Act, Good, after, gives, lift, world_of}
 use Rattle.call_spec.specs.Calling.{Call, calls}
@@ -23,31 +27,30 @@ use Rattle.call_spec.specs.Rules.{returning}
 use Rattle.host_ledger.specs.Answered.{any}
 use Rattle.host_ledger.specs.Worlds.{address_of, copied, IsHeld}
 use Rattle.host_ledger.specs.declared.state.Running.{Running}
-use Rattle.contract_call.specs.Worlds.{world_in, world_around, resting, with_memory, DoesAround, DoesIn, Stays, MayRun}
+use Rattle.contract_call.specs.Worlds.{contracts_of, placed, world_in, world_around, with_memory, DoesAround, DoesIn, Stays, MayRun}
 use Rattle.contract_call.specs.Running.{StaysIn, DoesOver}
 use Rattle.contract_call.specs.Made.{IsValued}
 use Rattle.contract_call.specs.Taken.{TakesIn}
 use Rattle.contract_call.specs.declared.host.Host.{Host}
-use Rattle.contract_call.proofs.Joining.{stop, go_on, same_act, fails_as, as_fails, keep_count}
+use Rattle.contract_call.proofs.Joining.{stop, go_on, same_act, fails_as, as_fails, keep_rest}
 use Rattle.contract_storage.proofs.Going.{again}
-use Rattle.contract_call.proofs.Looping.{env_in}
+use Rattle.contract_call.proofs.Looping.{env_in, place_again}
 use Rattle.contract_call.proofs.Showing.{shown_as}
 
 -- an act around the running frame, in it
 pub in_around : {A B G : Type 0} (r : Result A HostErr) (view : A → B) (act : Env → Act B) (old new : Host G) → Stays old new → DoesAround r view act old new → DoesIn r view act old new
 in_around r view act old new stays around env is rest trace =
-    let w = world_in rest old trace in
-    let outer : World = record rest { frame = w.frame } in
-    let out = act env w in
+    let outer : World = record rest { frame = (world_in rest old trace).frame } in
     let at : Running → List Datum → List Access → World = λ f o t. record rest {
       entries = new.ledger.storage.map;
       events = new.ledger.events;
-      frame = record rest.frame { contract = f.contract; caller = option_map address_of f.caller; code = f.code; copy = copied f.copy; shown = shown_of o f.shown; begun = (world_of out).frame.begun };
-      contracts = (world_in rest new t).contracts;
+      pairs = new.marks.pairs;
+      frame = record (placed new.place rest.frame) { contract = f.contract; caller = option_map address_of f.caller; code = f.code; copy = copied f.copy; shown = shown_of o f.shown };
+      contracts = contracts_of new;
       trace = t;
       meter = new.ledger.budget;
     } in
-    shown_as (λ v t. world_in v new t) keep_count new.ledger.budget (λ _ _. refl) r view rest out (λ t. world_around (resting outer out) new t)
+    shown_as (λ v t. world_in v new t) keep_rest new.ledger.budget (λ _ _. refl) r view rest (act env (world_in rest old trace)) (λ t. world_around outer new t)
     (λ t. ap (λ f. at f new.ledger.objects t) stays.frame ∙ ap (λ o. at old.ledger.frame o t) stays.objects) (around env is outer trace)
 
 -- a value of an act as a host function's answer
@@ -56,22 +59,22 @@ pub valued_does : {A B G : Type 0} (made : Result A HostErr) (pick : A → B) (v
 valued_does (Ok a) pick view r act old new valued does env is rest trace =
     let w = world_in rest old trace in
     let answer : Result Answer' HostErr = Ok valued.0 in
-    subst (λ (x : Result Answer' HostErr). Says any x answer_of (returning (act env) view w) (world_in (resting rest (returning (act env) view w)) new)) (sym valued.1)
-    (go_on (λ v t. world_in v new t) (λ v t. world_in v new t) keep_count (λ _ _ _. refl) a answer pick answer_of rest (act env w) (λ b. gives (value (view b))) (does env is rest trace)
+    subst (λ (x : Result Answer' HostErr). Says any x answer_of (returning (act env) view w) (world_in rest new)) (sym valued.1)
+    (go_on (λ v t. world_in v new t) (λ v t. world_in v new t) keep_rest (λ _ _ _. refl) a answer pick answer_of rest (act env w) (λ b. gives (value (view b))) (does env is rest trace)
     (λ v t. (tt, ap (λ x. Good x (world_in v new t)) (sym valued.2))))
 valued_does (Err e) pick view r act old new valued does env is rest trace =
     let w = world_in rest old trace in
     let out = act env w in
     let next : _ → Act Answer = λ b. gives (value (view b)) in
-    subst (λ (x : Result Answer' HostErr). Says any x answer_of (returning (act env) view w) (world_in (resting rest (returning (act env) view w)) new)) (sym valued)
-    (as_fails e answer_of (returning (act env) view w) (λ t. world_in (keep_count rest (world_of (returning (act env) view w))) new t)
-    (stop (λ v t. world_in v new t) keep_count new.ledger.budget (λ _ _. refl) e rest out next (fails_as e pick out (λ t. world_in (keep_count rest (world_of out)) new t) (does env is rest trace))))
+    subst (λ (x : Result Answer' HostErr). Says any x answer_of (returning (act env) view w) (world_in rest new)) (sym valued)
+    (as_fails e answer_of (returning (act env) view w) (λ t. world_in (keep_rest rest (world_of (returning (act env) view w))) new t)
+    (stop (λ v t. world_in v new t) keep_rest new.ledger.budget (λ _ _. refl) e rest out next (fails_as e pick out (λ t. world_in (keep_rest rest (world_of out)) new t) (does env is rest trace))))
 
 -- the arguments first
 pub taken_does : {A G : Type 0} (a : A) (r : Result Answer' HostErr) (act : Env → Act Answer) (next : Env → A → Act Answer) (old mid new : Host G) → StaysIn old mid
     → (let taken : Result A HostErr = Ok a in TakesIn taken act next old mid) → DoesIn r answer_of (λ env. next env a) mid new → DoesIn r answer_of act old new
 taken_does a r act next old mid new stays takes does env is rest trace =
-    same_act (λ v t. world_in v new t) keep_count r answer_of rest (act env (world_in rest old trace)) (next env a (world_in rest mid trace)) (takes env is rest trace) (does env (env_in old mid stays env is) rest trace)
+    same_act (λ v t. world_in v new t) keep_rest r answer_of rest (act env (world_in rest old trace)) (next env a (world_in rest mid trace)) (takes env is rest trace) (does env (env_in old mid stays env is) rest trace)
 
 -- a call by the running frame, with the same function's name
 pub called_by : {G : Type 0} (wrap : Act Datum → Act Datum) (room : ℕ) (address : ScAddress) (slice function : List ℕ) (args : List Datum) (made : Result ScVal HostErr) (r : Result Answer' HostErr) (mid new : Host G)
@@ -88,8 +91,7 @@ called_by wrap room address slice function args made r mid new same stays valued
 pub over_same : {A B G : Type 0} (before after : List ℕ) (r : Result A HostErr) (view : A → B) (act : Env → Act B) (old new : Host G) → after ≡ before → DoesIn r view act old new
     → DoesOver before after r view act old new
 over_same before after r view act old new e does env is rest trace same =
-    let out = act env (world_in rest old trace) in
-    subst (λ (m : List ℕ). Says any r view out (world_in (resting (with_memory m rest) out) new)) (same ∙ sym e) (does env is rest trace)
+    subst (λ (m : List ℕ). Says any r view (act env (world_in rest old trace)) (world_in (with_memory m rest) new)) (same ∙ sym e) (does env is rest trace)
 
 -- ---- the answer
 
@@ -99,7 +101,7 @@ pub row_answers : {G : Type 0} (i j : HostImport) (room : ℕ) (words memory : L
 row_answers {G} i j room words memory act r old new is same does =
     subst (λ x. DoesOver memory memory r (λ word. word) (λ env. host_function env (opener_of env room) x words) old new) (sym is)
     (over_same memory memory r (λ word. word) (λ env. host_function env (opener_of env room) j words) old new refl
-    (λ env env_is rest trace. same_act (λ v t. world_in v new t) keep_count r (λ word. word) rest (host_function env (opener_of env room) j words (world_in rest old trace)) (after (act env) (λ answer. lift (given answer)) (world_in rest old trace))
+    (λ env env_is rest trace. same_act (λ v t. world_in v new t) keep_rest r (λ word. word) rest (host_function env (opener_of env room) j words (world_in rest old trace)) (after (act env) (λ answer. lift (given answer)) (world_in rest old trace))
     (same env (world_in rest old trace)) (does env env_is rest trace)))
 
 -- ---- the state
@@ -113,6 +115,7 @@ still old new ready stays = record {
     indices = subst (λ (f : Running). AreIndices new.ledger.objects f.shown) (sym stays.frame) (subst (λ o. AreIndices o old.ledger.frame.shown) (sym stays.objects) ready.ledger.indices);
     copy = subst (λ (f : Running). IsHeld f.copy.storage) (sym stays.frame) ready.ledger.copy;
   };
+  entries = subst (λ (s : Marked). All auth_entry_format.fits s.entries) (sym stays.marks.1) ready.entries;
 }
 
 pub stays_on : {G : Type 0} (old mid new : Host G) → StaysIn old mid → Stays mid new → StaysIn old new
@@ -126,5 +129,8 @@ stays_on old mid new one two = record {
     code = ap (λ (f : Running). f.code) two.frame ∙ one.left.code;
   };
   contracts = two.contracts ∙ one.contracts;
+  marks = later_again old.marks mid.marks new.marks one.marks two.marks;
+  verdicts = two.verdicts ∙ one.verdicts;
+  place = place_again old.place mid.place new.place one.place two.place;
   ready = still mid new one.ready two;
 }

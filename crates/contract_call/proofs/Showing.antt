@@ -13,7 +13,7 @@ use Rattle.host_ledger.specs.Answered.{any}
 use Rattle.host_ledger.specs.declared.state.HostLedger.{HostLedger}
 use Rattle.contract_call.specs.Worlds.{world_in, DoesIn}
 use Rattle.contract_call.specs.declared.host.Host.{Host}
-use Rattle.contract_call.proofs.Joining.{Showing, Keeping, Pays, keep_count}
+use Rattle.contract_call.proofs.Joining.{Showing, Keeping, Pays, keep_rest}
 
 -- What an act leaves is what the state shows.
 pub shown_as : {A B : Type 0} (shows : Showing) (keep : Keeping) (m : Meter) → Pays shows m → (r : Result A HostErr) (view : A → B) (rest : World) (out : Out B) (left : List Access → World)
@@ -41,5 +41,5 @@ pub begun_in : {G : Type 0} (old : Host G) (ledger : HostLedger G) (r : Result (
 begun_in {G} old ledger r view act stays does env is rest trace =
     let w = world_in rest old trace in
     let left : List Access → World = λ t. record w { frame = record w.frame { shown = shown_of ledger.objects ledger.frame.shown }; trace = t; meter = ledger.budget } in
-    shown_as (λ v t. world_in v (record old { ledger = ledger }) t) keep_count ledger.budget (λ _ _. refl) r view rest (act w) left
-    (λ t. subst (λ (l : HostLedger G). world_in (keep_count rest (left t)) (record old { ledger = l }) t ≡ left t) (sym stays) refl) (does w refl refl)
+    shown_as (λ v t. world_in v (record old { ledger = ledger }) t) keep_rest ledger.budget (λ _ _. refl) r view rest (act w) left
+    (λ t. subst (λ (l : HostLedger G). world_in rest (record old { ledger = l }) t ≡ left t) (sym stays) refl) (does w refl refl)

@@ -1,5 +1,5 @@
 -- The acts of a call, split into what is found before a frame is opened and what happens in the frame.
-use Rattle.std.proofs.Common.{◌≡◌, ℕ, ◌+◌, List, [], ◌∷◌, ◌++◌, length, Bool, true, false, not, Option, Some, None, refl, sym, ap, ◌∙◌}
+use Rattle.std.proofs.Common.{◌≡◌, ℕ, List, length, Bool, true, false, not, Option, Some, None, refl, sym, ap, ◌∙◌}
 use Rattle.std.specs.List.{list_any}
 use Rattle.std.specs.Str.{bytes_eq}
 use Rattle.budget_meter.specs.declared.kind.Kind.TheVariants.{VmInstantiation}
@@ -12,11 +12,11 @@ use Rattle.module_loader.specs.Loading.{module_of}
 use Rattle.host_spec.specs.Acts.{charged}
 use Rattle.call_spec.specs.Errors.{RESERVED_NAME, REENTERED}
 use Rattle.call_spec.specs.World.{Copied, World, Env}
-use Rattle.call_spec.specs.Acts.{Out, Good, Bad, Undeclared, Act, then_do, after, gives, only_where, with_world, lift, paying, begins}
+use Rattle.call_spec.specs.Acts.{Out, Good, Bad, Undeclared, Act, then_do, after, gives, only_where, with_world, lift, paying}
 use Rattle.call_spec.specs.Frames.{Entered}
 use Rattle.call_spec.specs.Found.{instance_at, code_at, with_module}
-use Rattle.call_spec.specs.Calling.{is_reserved, is_running, Call, enters, looks_up, calls}
-use Rattle.contract_call.specs.Targets.{tests, Target, module_at, target_at, target_of, enters_at}
+use Rattle.call_spec.specs.Calling.{is_running, Call, enters, looks_up}
+use Rattle.contract_call.specs.Targets.{tests, call_at, Target, module_at, target_at, target_of, enters_at}
 
 -- acts one after another, in either grouping
 pub joined : {A B C : Type 0} (o : Out A) (f : A → Act B) (g : B → Act C) → then_do (then_do o f) g ≡ then_do o (λ a w. then_do (f a w) g)
@@ -37,32 +37,30 @@ running_first : {A : Type 0} (running : Bool) (contract : Hash) (next : Hash →
 running_first true contract next w = refl
 running_first false contract next w = refl
 
-name_first : {A : Type 0} (reserved : Bool) (contract : Hash) (next : Hash → Act A) (w : World)
-    → only_where (not reserved) RESERVED_NAME (with_world (is_running contract) (λ running. only_where (not running) REENTERED (next contract))) w
-    ≡ then_do (only_where (not reserved) RESERVED_NAME (with_world (is_running contract) (λ running. only_where (not running) REENTERED (gives contract))) w) next
-name_first true contract next w = refl
-name_first false contract next w = running_first (is_running contract w) contract next w
+name_first : {A : Type 0} (named : Bool) (contract : Hash) (next : Hash → Act A) (w : World)
+    → only_where named RESERVED_NAME (with_world (is_running contract) (λ running. only_where (not running) REENTERED (next contract))) w
+    ≡ then_do (only_where named RESERVED_NAME (with_world (is_running contract) (λ running. only_where (not running) REENTERED (gives contract))) w) next
+name_first false contract next w = refl
+name_first true contract next w = running_first (is_running contract w) contract next w
 
-pub tests_first : {A : Type 0} (function : List ℕ) (address : ScAddress) (next : Hash → Act A) (w : World) → tests function address next w ≡ then_do (tests function address (λ c. gives c) w) next
-tests_first function (addresses.Contract contract) next w = name_first (is_reserved function) contract next w
-tests_first function (addresses.Account account) next w = refl
-tests_first function (addresses.MuxedAccount id account) next w = refl
-tests_first function (addresses.ClaimableBalance id) next w = refl
-tests_first function (addresses.LiquidityPool id) next w = refl
+pub tests_first : {A : Type 0} (named : Bool) (address : ScAddress) (next : Hash → Act A) (w : World) → tests named address next w ≡ then_do (tests named address (λ c. gives c) w) next
+tests_first named (addresses.Contract contract) next w = name_first named contract next w
+tests_first named (addresses.Account account) next w = refl
+tests_first named (addresses.MuxedAccount id account) next w = refl
+tests_first named (addresses.ClaimableBalance id) next w = refl
+tests_first named (addresses.LiquidityPool id) next w = refl
 
-by_name : (reserved : Bool) (contract : Hash) (running : Bool) (w : World) → is_running contract w ≡ running
-    → only_where (not reserved) RESERVED_NAME (with_world (is_running contract) (λ r. only_where (not r) REENTERED (gives contract))) w
-    ≡ only_where (not reserved) RESERVED_NAME (only_where (not running) REENTERED (gives contract)) w
-by_name true contract running w e = refl
-by_name false contract running w e = ap (λ r. only_where (not r) REENTERED (gives contract) w) e
+by_name : (named : Bool) (contract : Hash) (running : Bool) (w : World) → is_running contract w ≡ running
+    → only_where named RESERVED_NAME (with_world (is_running contract) (λ r. only_where (not r) REENTERED (gives contract))) w
+    ≡ only_where named RESERVED_NAME (only_where (not running) REENTERED (gives contract)) w
+by_name false contract running w e = refl
+by_name true contract running w e = ap (λ r. only_where (not r) REENTERED (gives contract) w) e
 
-pub tested : (function : List ℕ) (address : ScAddress) (contract : Hash) (opened : List Hash) (reserved running : Bool) → address ≡ addresses.Contract contract → reserved ≡ is_reserved function
-    → running ≡ list_any (λ other. bytes_eq contract.0 other.0) opened → (w : World) → w.contracts ≡ opened
-    → tests function address (λ c. gives c) w ≡ only_where (not reserved) RESERVED_NAME (only_where (not running) REENTERED (gives contract)) w
-tested function address contract opened reserved running is named runs w e =
-    ap (λ a. tests function a (λ c. gives c) w) is
-    ∙ ap (λ r. only_where (not r) RESERVED_NAME (with_world (is_running contract) (λ x. only_where (not x) REENTERED (gives contract))) w) (sym named)
-    ∙ by_name reserved contract running w (ap (list_any (λ other. bytes_eq contract.0 other.0)) e ∙ sym runs)
+pub tested : (named : Bool) (address : ScAddress) (contract : Hash) (opened : List Hash) (running : Bool) → named ≡ true → address ≡ addresses.Contract contract
+    → running ≡ list_any (λ other. bytes_eq contract.0 other.0) opened → (w : World) → w.contracts ≡ opened → tests named address (λ c. gives c) w ≡ only_where (not running) REENTERED (gives contract) w
+tested named address contract opened running may is runs w e =
+    ap (λ a. tests named a (λ c. gives c) w) is ∙ by_name named contract running w (ap (list_any (λ other. bytes_eq contract.0 other.0)) e ∙ sym runs)
+    ∙ ap (λ n. only_where n RESERVED_NAME (only_where (not running) REENTERED (gives contract)) w) may
 
 -- ---- the module
 
@@ -94,12 +92,10 @@ looks_up_first env enter call contract path w =
     (λ copy u. module_at_first env copy.code (λ m. enters_at enter call path (at copy m)) u ∙ sym (joined (module_at env copy.code u) (λ m. gives (at copy m)) (enters_at enter call path)))
     ∙ sym (joined (instance_at env contract w) (λ copy. after (module_at env copy.code) (λ m. gives (at copy m))) (enters_at enter call path))
 
-pub calls_first : (env : Env) (enter : Entered → Act Datum) (call : Call) (w : World)
-    → calls env (Some enter) call w ≡ begins (λ path. after (target_of call.function call.address env) (enters_at enter call path)) w
-calls_first env enter call w =
-    let path = w.frame.path ++ w.frame.begun ∷ [] in
-    let u : World = record w { frame = record w.frame { begun = w.frame.begun + 1 } } in
-    tests_first call.function call.address (λ contract. looks_up env enter call contract path) u
-    ∙ same_after (tests call.function call.address (λ c. gives c) u) (λ contract. looks_up env enter call contract path) (λ contract v. then_do (target_at env contract v) (enters_at enter call path))
+pub calls_first : (named : Bool) (env : Env) (enter : Entered → Act Datum) (call : Call) (path : List ℕ) (w : World)
+    → call_at named env (Some enter) call path w ≡ after (target_of named call.address env) (enters_at enter call path) w
+calls_first named env enter call path w =
+    tests_first named call.address (λ contract. looks_up env enter call contract path) w
+    ∙ same_after (tests named call.address (λ c. gives c) w) (λ contract. looks_up env enter call contract path) (λ contract v. then_do (target_at env contract v) (enters_at enter call path))
     (λ contract v. looks_up_first env enter call contract path v)
-    ∙ sym (joined (tests call.function call.address (λ c. gives c) u) (target_at env) (enters_at enter call path))
+    ∙ sym (joined (tests named call.address (λ c. gives c) w) (target_at env) (enters_at enter call path))

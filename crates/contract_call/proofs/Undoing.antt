@@ -1,5 +1,5 @@
 -- Failures that leave the state as it was.
-use Rattle.std.proofs.Common.{◌≡◌, ◌<◌, ◌≤◌, ◌^◌, ℕ, List, [], ◌∷◌, ◌++◌, length-append, arith, length, take, append-nil, Result, Ok, Err, refl, sym, ap, ◌∙◌, subst}
+use Rattle.std.proofs.Common.{◌≡◌, ◌+◌, ◌<◌, ◌≤◌, ◌^◌, ℕ, List, [], ◌∷◌, ◌++◌, length-append, arith, length, take, append-nil, Result, Ok, Err, refl, sym, ap, ◌∙◌, subst}
 use Rattle.std.proofs.Math.Seq.{take-append_seam}
 use Rattle.xdr_spec.specs.Format.{number32}
 use Rattle.value_types.specs.Error.{error_format, code_format}
@@ -18,44 +18,54 @@ use Rattle.contract_storage.specs.Stored.{Stored, IsRestored}
 use Rattle.contract_storage.proofs.Going.{goes_back}
 use Rattle.host_ledger.proofs.Rows.{later_same}
 use Rattle.call_spec.specs.World.{Access, World, Env}
-use Rattle.call_spec.specs.Acts.{Act, Failed, Out, Good, Bad, world_of}
+use Rattle.call_spec.specs.Acts.{Act, Failed, Out, Good, Bad}
 use Rattle.call_spec.specs.Calling.{restored, undone, undoing, caught, catching}
 use Rattle.call_spec.specs.Errors.{HIDDEN_ERROR}
 use Rattle.call_spec.specs.Frames.{passed_on}
 use Rattle.call_spec.specs.Outcomes.{Says, trace_of}
 use Rattle.host_ledger.specs.Answered.{any}
-use Rattle.contract_call.specs.Worlds.{world_around, resting, DoesAround, Stays}
-use Rattle.contract_call.specs.Undone.{Marks, IsBack, Undoes, Catches}
+use Rattle.contract_call.specs.Worlds.{world_around, DoesAround, Stays}
+use Rattle.contract_call.specs.Undone.{IsMark, IsWithin, IsBack, Undoes, Catches}
+use Rattle.auth_trees.specs.Pairs.{Pair}
+use Rattle.auth_trees.specs.Demands.{Marked, IsLater, restored as restored_marks}
+use Rattle.auth_trees.proofs.Later.{goes_back as goes_back_marked, later_itself}
 use Rattle.contract_call.specs.declared.host.Host.{Host}
+use Rattle.contract_call.specs.declared.place.Place.{Place}
 use Rattle.contract_call.specs.declared.undo.Mark.{Mark}
-use Rattle.contract_call.proofs.Joining.{same_act, traced, keep_count}
+use Rattle.contract_call.proofs.Joining.{same_act, traced, keep_rest}
 use Rattle.contract_call.proofs.Showing.{shown_as}
 
 -- ---- back at the mark
 
--- the entries and the events of another state
+-- the entries, the events and the authorisations that were used of another state
 pub record IsAsAt {G : Type 0} (start new : Host G) : Type 0 where
   pub storage : new.ledger.storage ≡ start.ledger.storage
   pub events : new.ledger.events ≡ start.ledger.events
+  pub marks : new.marks ≡ start.marks
 
-pub gone_back : {G : Type 0} (mark : Mark) (start old new : Host G) → Marks mark start → Stays start old → IsBack mark old new → IsAsAt start new
+pub gone_back : {G : Type 0} (mark : Mark) (start old new : Host G) → IsMark mark start → Stays start old → IsBack mark old new → IsAsAt start new
 gone_back mark start old new marks stays back =
     let first = start.ledger.events in
     record {
       storage = goes_back start.ledger.storage old.ledger.storage new.ledger.storage stays.storage
           (subst (λ (n : ℕ). IsRestored n old.ledger.storage new.ledger.storage) marks.storage back.storage);
       events = back.events ∙ ap (λ (n : ℕ). take n old.ledger.events) marks.events ∙ ap (take (length first)) stays.events.1 ∙ take-append_seam first stays.events.0;
+      marks = back.marks ∙ ap (λ (n : ℕ). restored_marks n old.marks) marks.pairs ∙ goes_back_marked start.marks old.marks stays.marks;
     }
 
-restored_is : {G : Type 0} (mark : Mark) (start old new : Host G) → Marks mark start → Stays start old → IsBack mark old new → (rest end : World) (trace later : List Access)
-    → restored (world_around rest start trace) (world_around (keep_count rest end) old later) ≡ world_around (keep_count rest end) new later
-restored_is {G} mark start old new marks stays back rest end trace later =
+restored_is : {G : Type 0} (mark : Mark) (start old new : Host G) → IsMark mark start → Stays start old → IsBack mark old new → (rest : World) (trace later : List Access)
+    → restored (world_around rest start trace) (world_around rest old later) ≡ world_around rest new later
+restored_is {G} mark start old new marks stays back rest trace later =
     let same = gone_back mark start old new marks stays back in
-    let at : LedgerMap → List ContractEvent → World = λ m events. record (world_around (keep_count rest end) old later) { entries = m; events = events } in
-    sym (ap (λ (h : Host G). world_around (keep_count rest end) h later) back.rest
-    ∙ ap (λ (s : Stored). at s.map new.ledger.events) same.storage ∙ ap (at start.ledger.storage.map) same.events)
+    let at : LedgerMap → List ContractEvent → List Pair → World = λ m events pairs. record (world_around rest old later) { entries = m; events = events; pairs = pairs } in
+    sym (ap (λ (h : Host G). world_around rest h later) back.rest
+    ∙ ap (λ (s : Stored). at s.map new.ledger.events new.marks.pairs) same.storage ∙ ap (λ (e : List ContractEvent). at start.ledger.storage.map e new.marks.pairs) same.events
+    ∙ ap (λ (s : Marked). at start.ledger.storage.map start.ledger.events s.pairs) same.marks)
 
-pub stays_back : {G : Type 0} (mark : Mark) (start old new : Host G) → Marks mark start → Stays start old → IsBack mark old new → Stays start new
+same_place : (p q r : Place) → r ≡ q → q ≡ record p { begun = q.begun } → r ≡ record p { begun = r.begun }
+same_place p q r same stays = same ∙ stays ∙ ap (λ (x : Place). record p { begun = x.begun }) (sym same)
+
+pub stays_back : {G : Type 0} (mark : Mark) (start old new : Host G) → IsMark mark start → Stays start old → IsBack mark old new → Stays start new
 stays_back {G} mark start old new marks stays back =
     let same = gone_back mark start old new marks stays back in
     record {
@@ -65,27 +75,29 @@ stays_back {G} mark start old new marks stays back =
       objects = ap (λ (h : Host G). h.ledger.objects) back.rest ∙ stays.objects;
       frame = ap (λ (h : Host G). h.ledger.frame) back.rest ∙ stays.frame;
       contracts = ap (λ (h : Host G). h.open.items) back.rest ∙ stays.contracts;
+      marks = subst (λ (s : Marked). IsLater start.marks s) (sym same.marks) (later_itself start.marks);
+      verdicts = ap (λ (h : Host G). h.verdicts.now) back.rest ∙ stays.verdicts;
+      place = same_place start.place old.place new.place (ap (λ (h : Host G). h.place) back.rest) stays.place;
     }
 
 -- ---- ends that undo nothing
 
 same_end : {A B G : Type 0} (change : World → Out B → Out B) (r : Result A HostErr) (view : A → B) (act : Env → Act B) (start old new : Host G) → new ≡ old
-    → ((env : Env) (rest : World) (trace : List Access) → (let w = world_around rest start trace in let out = act env w in Says any r view out (world_around (resting rest out) old) → change w out ≡ out))
+    → ((env : Env) (rest : World) (trace : List Access) → (let w = world_around rest start trace in let out = act env w in Says any r view out (world_around rest old) → change w out ≡ out))
     → DoesAround r view act start old → DoesAround r view (λ env w. change w (act env w)) start new
 same_end {G = G} change r view act start old new is same does env at rest trace =
     let w = world_around rest start trace in
     let out = act env w in
     let says = does env at rest trace in
-    subst (λ (h : Host G). Says any r view (change w out) (world_around (resting rest (change w out)) h)) (sym is)
-    (same_act (λ v t. world_around v old t) keep_count r view rest (change w out) out (same env rest trace says) says)
+    subst (λ (h : Host G). Says any r view (change w out) (world_around rest h)) (sym is)
+    (same_act (λ v t. world_around v old t) keep_rest r view rest (change w out) out (same env rest trace says) says)
 
 -- ---- failures that are undone
 
-left_is : {A B G : Type 0} (r : Result A HostErr) (view : A → B) (rest end : World) (t : List Access) (new : Host G) (out : Out B) → Says any r view out (λ _. world_around (keep_count rest end) new t)
-    → Says any r view out (world_around (resting rest out) new)
-left_is r view rest end t new out p =
-    let left = world_around (keep_count rest end) new t in
-    shown_as (λ v u. world_around v new u) keep_count new.ledger.budget (λ _ _. refl) r view rest out (λ u. record left { trace = u }) (λ u. refl) (traced r view out left p)
+left_is : {A B G : Type 0} (r : Result A HostErr) (view : A → B) (rest : World) (t : List Access) (new : Host G) (out : Out B) → Says any r view out (λ _. world_around rest new t) → Says any r view out (world_around rest new)
+left_is r view rest t new out p =
+    let left = world_around rest new t in
+    shown_as (λ v u. world_around v new u) keep_rest new.ledger.budget (λ _ _. refl) r view rest out (λ u. record left { trace = u }) (λ u. refl) (traced r view out left p)
 
 pub undoes_good : {A B G : Type 0} (a : A) (view : A → B) (act : Env → Act B) (start old : Host G) → (let r : Result A HostErr = Ok a in DoesAround r view act start old)
     → (let r : Result A HostErr = Ok a in DoesAround r view (λ env. undoing (act env)) start old)
@@ -93,15 +105,15 @@ undoes_good {A} {B} a view act start old does env at rest trace =
     let r : Result A HostErr = Ok a in
     same_end undone r view act start old old refl (λ env rest trace says. ap (λ (o : Out B). undone (world_around rest start trace) o) says.1 ∙ sym says.1) does env at rest trace
 
-pub undoes_end : {A B G : Type 0} (mark : Mark) (e : HostErr) (view : A → B) (act : Env → Act B) (start old new : Host G) → Marks mark start → Stays start old → Undoes mark e old new
+pub undoes_end : {A B G : Type 0} (mark : Mark) (e : HostErr) (view : A → B) (act : Env → Act B) (start old new : Host G) → IsMark mark start → Stays start old → Undoes mark e old new
     → (let r : Result A HostErr = Err e in DoesAround r view act start old) → (let r : Result A HostErr = Err e in DoesAround r view (λ env. undoing (act env)) start new)
 undoes_end {A} {B} mark (ends.Failed d) view act start old new marks stays back does env is rest trace =
     let r : Result A HostErr = Err (ends.Failed d) in
     let w = world_around rest start trace in
     let out = act env w in
     let says = does env is rest trace in
-    left_is r view rest (world_of out) (trace_of out) new (undone w out)
-    (tt, ap (λ (o : Out B). undone w o) says.1 ∙ ap (Bad (Failed d)) (restored_is mark start old new marks stays back rest (world_of out) trace (trace_of out)))
+    left_is r view rest (trace_of out) new (undone w out)
+    (tt, ap (λ (o : Out B). undone w o) says.1 ∙ ap (Bad (Failed d)) (restored_is mark start old new marks stays back rest trace (trace_of out)))
 undoes_end {A} {B} mark ends.Spent view act start old new marks stays is does env at rest trace =
     let r : Result A HostErr = Err ends.Spent in
     same_end undone r view act start old new is (λ env rest trace says. ap (λ (o : Out B). undone (world_around rest start trace) o) says.1 ∙ sym says.1) does env at rest trace
@@ -122,7 +134,7 @@ catches_good made v act start old given does =
     same_end caught r datum act start old old refl (λ env rest trace says. ap (λ (o : Out Datum). caught (world_around rest start trace) o) says.1 ∙ sym says.1)
     (subst (λ (x : Result ScVal HostErr). DoesAround x datum act start old) given does)
 
-caught_failed : {G : Type 0} (mark : Mark) (d : ScError) (act : Env → Act Datum) (start old new : Host G) → Marks mark start → Stays start old → IsBack mark old new
+caught_failed : {G : Type 0} (mark : Mark) (d : ScError) (act : Env → Act Datum) (start old new : Host G) → IsMark mark start → Stays start old → IsBack mark old new
     → (let r : Result ScVal HostErr = Err (ends.Failed d) in DoesAround r datum act start old)
     → (let r : Result ScVal HostErr = Ok (values.Error (passed_on d)) in DoesAround r datum (λ env. catching (act env)) start new)
 caught_failed mark d act start old new marks stays back does env is rest trace =
@@ -130,13 +142,13 @@ caught_failed mark d act start old new marks stays back does env is rest trace =
     let w = world_around rest start trace in
     let out = act env w in
     let says = does env is rest trace in
-    left_is r datum rest (world_of out) (trace_of out) new (caught w out)
-    (tt, ap (λ (o : Out Datum). caught w o) says.1 ∙ ap (Good (datum (values.Error (passed_on d)))) (restored_is mark start old new marks stays back rest (world_of out) trace (trace_of out)))
+    left_is r datum rest (trace_of out) new (caught w out)
+    (tt, ap (λ (o : Out Datum). caught w o) says.1 ∙ ap (Good (datum (values.Error (passed_on d)))) (restored_is mark start old new marks stays back rest trace (trace_of out)))
 
 abbrev Caught : {G : Type 0} → Result ScVal HostErr → (Env → Act Datum) → Host G → Host G → Type 0
 Caught r act start new = DoesAround r datum (λ env. catching (act env)) start new
 
-catches_as : {G : Type 0} (mark : Mark) (e : HostErr) (r : Result ScVal HostErr) (act : Env → Act Datum) (start old new : Host G) → Marks mark start → Stays start old → Catches mark e r old new
+catches_as : {G : Type 0} (mark : Mark) (e : HostErr) (r : Result ScVal HostErr) (act : Env → Act Datum) (start old new : Host G) → IsMark mark start → Stays start old → Catches mark e r old new
     → (let none : Result ScVal HostErr = Err e in DoesAround none datum act start old) → Caught r act start new
 catches_as mark (ends.Failed d) r act start old new marks stays c does =
     subst (λ (x : Result ScVal HostErr). Caught x act start new) (sym c.0) (caught_failed mark d act start old new marks stays c.1 does)
@@ -156,7 +168,7 @@ catches_as mark ends.NoMemory r act start old new marks stays c does =
     let none : Result ScVal HostErr = Err ends.NoMemory in
     subst (λ (x : Result ScVal HostErr). Caught x act start new) (sym c.0) (λ env is rest trace. tt)
 
-pub catches_end : {G : Type 0} (mark : Mark) (made : Result ScVal HostErr) (e : HostErr) (r : Result ScVal HostErr) (act : Env → Act Datum) (start old new : Host G) → made ≡ Err e → Marks mark start → Stays start old
+pub catches_end : {G : Type 0} (mark : Mark) (made : Result ScVal HostErr) (e : HostErr) (r : Result ScVal HostErr) (act : Env → Act Datum) (start old new : Host G) → made ≡ Err e → IsMark mark start → Stays start old
     → Catches mark e r old new → DoesAround made datum act start old → Caught r act start new
 catches_end mark made e r act start old new given marks stays c does =
     catches_as mark e r act start old new marks stays c (subst (λ (x : Result ScVal HostErr). DoesAround x datum act start old) given does)
@@ -166,14 +178,14 @@ catches_end mark made e r act start old new given marks stays c does =
 same_stays : {G : Type 0} (start old new : Host G) → new ≡ old → Stays start old → Stays start new
 same_stays {G} start old new is stays = subst (λ (h : Host G). Stays start h) (sym is) stays
 
-pub undo_stays : {G : Type 0} (mark : Mark) (e : HostErr) (start old new : Host G) → Marks mark start → Stays start old → Undoes mark e old new → Stays start new
+pub undo_stays : {G : Type 0} (mark : Mark) (e : HostErr) (start old new : Host G) → IsMark mark start → Stays start old → Undoes mark e old new → Stays start new
 undo_stays mark (ends.Failed d) start old new marks stays back = stays_back mark start old new marks stays back
 undo_stays mark ends.Spent start old new marks stays is = same_stays start old new is stays
 undo_stays mark (ends.Archived key) start old new marks stays is = same_stays start old new is stays
 undo_stays mark (ends.Undeclared key) start old new marks stays is = same_stays start old new is stays
 undo_stays mark ends.NoMemory start old new marks stays is = same_stays start old new is stays
 
-pub catch_stays : {G : Type 0} (mark : Mark) (e : HostErr) (r : Result ScVal HostErr) (start old new : Host G) → Marks mark start → Stays start old → Catches mark e r old new → Stays start new
+pub catch_stays : {G : Type 0} (mark : Mark) (e : HostErr) (r : Result ScVal HostErr) (start old new : Host G) → IsMark mark start → Stays start old → Catches mark e r old new → Stays start new
 catch_stays mark (ends.Failed d) r start old new marks stays c = stays_back mark start old new marks stays c.1
 catch_stays mark ends.Spent r start old new marks stays c = same_stays start old new c.1 stays
 catch_stays mark (ends.Archived key) r start old new marks stays c = same_stays start old new c.1 stays
@@ -199,7 +211,9 @@ passed_hidden _ h = refl
 longer : (xs ys more : List LedgerMap) (x y : LedgerMap) → ys ++ y ∷ [] ≡ (xs ++ x ∷ []) ++ more → length xs ≤ length ys
 longer xs ys more x y e = omega (arith, ap length e, length-append {A = LedgerMap})
 
-pub may_undo : {G : Type 0} (mark : Mark) (start old : Host G) → Marks mark start → Stays start old → mark.storage.writes ≤ length old.ledger.storage.past
+pub may_undo : {G : Type 0} (mark : Mark) (start old : Host G) → IsMark mark start → Stays start old → IsWithin mark old
 may_undo mark start old marks stays =
     let h = longer start.ledger.storage.past old.ledger.storage.past stays.storage.later.0 start.ledger.storage.map old.ledger.storage.map stays.storage.later.1 in
-    omega (arith, h, marks.storage)
+    let more = stays.marks.0 in
+    let pairs : length old.marks.pairs ≡ length start.marks.pairs + length more = ap (λ (s : Marked). length s.pairs) stays.marks.1 ∙ length-append start.marks.pairs more in
+    record { storage = omega (arith, h, marks.storage); pairs = omega (arith, pairs, marks.pairs) }

@@ -22,10 +22,10 @@ use Rattle.host_ledger.specs.Answered.{any}
 use Rattle.host_ledger.specs.Worlds.{world_at}
 use Rattle.host_ledger.specs.declared.state.HostLedger.{HostLedger}
 use Rattle.host_values.specs.Called.{Calls}
-use Rattle.contract_call.specs.Worlds.{contracts_of, with_memory}
+use Rattle.contract_call.specs.Worlds.{beside, with_memory}
 use Rattle.contract_call.specs.Running.{DoesOver}
 use Rattle.contract_call.specs.declared.host.Host.{Host}
-use Rattle.contract_call.proofs.Answering.{same_count, traced}
+use Rattle.contract_call.proofs.Answering.{traced}
 use Rattle.contract_call.proofs.Lending.{around}
 
 -- the result, with the ends of a host function
@@ -74,5 +74,4 @@ pub does_over : {G : Type 0} (r : Result ℕ HostErr) (i : HostImport) (words be
     → ((env : Env) (opener : Opener) (rest : World) (trace : List Access) → rest.frame.memory ≡ before
     → Says any r (λ n. n) (host_function env opener i words (world_at rest old.ledger trace)) (world_at (with_memory after rest) new))
     → (opener : Opener) → DoesOver before after r (λ n. n) (λ env. host_function env opener i words) old (around old new)
-does_over r i words before after old new h opener env is rest trace m =
-    same_count r (λ n. n) (host_function env opener i words (world_at (record rest { contracts = contracts_of old }) old.ledger trace)) (around old new) (with_memory after rest) (h env opener (record rest { contracts = contracts_of old }) trace m)
+does_over r i words before after old new h opener env is rest trace m = h env opener (beside rest old) trace m

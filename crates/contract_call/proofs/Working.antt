@@ -6,6 +6,7 @@ use Rattle.host_spec.specs.declared.error.HostErr.{HostErr}
 use Rattle.host_spec.specs.declared.error.HostErr.TheVariants as ends
 use Rattle.host_frame.specs.Made.{AreMade}
 use Rattle.contract_storage.specs.Stored.{IsLater, Stored}
+use Rattle.auth_trees.proofs.Later.{later_itself}
 use Rattle.call_spec.specs.World.{Access, World, Env}
 use Rattle.call_spec.specs.Acts.{Act, after, gives}
 use Rattle.call_spec.specs.Calling.{undoing}
@@ -13,11 +14,12 @@ use Rattle.call_spec.specs.HostFunctions.{MOST_FRAMES, opener_of}
 use Rattle.call_spec.specs.WholeRuns.{Work, does, done_under}
 use Rattle.call_parts.specs.Steps.{Steps}
 use Rattle.host_ledger.specs.declared.state.HostLedger.{HostLedger}
-use Rattle.contract_call.specs.Undone.{Marks, Undoes}
+use Rattle.contract_call.specs.Placed.{HasRoom}
+use Rattle.contract_call.specs.Undone.{IsMark, Undoes}
 use Rattle.contract_call.specs.Worlds.{world_around, DoesAround, Stays}
 use Rattle.contract_call.specs.declared.host.Host.{Host}
 use Rattle.contract_call.specs.declared.undo.Mark.{Mark}
-use Rattle.contract_call.proofs.Joining.{go_on, keep_count}
+use Rattle.contract_call.proofs.Joining.{go_on, keep_rest}
 use Rattle.contract_call.proofs.Showing.{shown_as}
 use Rattle.contract_call.proofs.Undoing.{undoes_good, undoes_end}
 
@@ -27,6 +29,13 @@ pub hosted_made : (ds : List Datum) → AreHosted ds → AreMade ds
 hosted_made [] h = h
 hosted_made (d ∷ ds) h = (h.0.made, hosted_made ds h.1)
 
+-- ---- paths
+
+-- the transaction's path is short enough for the most open frames
+pub has_room : {G : Type 0} (room : ℕ) (h : Host G) → room ≡ MOST_FRAMES → HasRoom 64 h → HasRoom room h
+unfolding MOST_FRAMES
+has_room room h most room_for = subst (λ n. HasRoom n h) (sym most) room_for
+
 -- ---- steps of the host
 
 pub steps_around : {A B G : Type 0} (r : Result A HostErr) (view : A → B) (act : Env → Act B) (old : Host G) (ledger : HostLedger G)
@@ -35,8 +44,8 @@ pub steps_around : {A B G : Type 0} (r : Result A HostErr) (view : A → B) (act
 steps_around {G = G} r view act old ledger stays steps env is rest trace =
     let w = world_around rest old trace in
     let left : List Access → World = λ t. record w { entries = ledger.storage.map; trace = t; meter = ledger.budget } in
-    shown_as (λ v t. world_around v (record old { ledger = ledger }) t) keep_count ledger.budget (λ _ _. refl) r view rest (act env w) left
-    (λ t. subst (λ (l : HostLedger G). world_around (keep_count rest (left t)) (record old { ledger = l }) t ≡ left t) (sym stays) refl) (steps env is.serves w refl refl)
+    shown_as (λ v t. world_around v (record old { ledger = ledger }) t) keep_rest ledger.budget (λ _ _. refl) r view rest (act env w) left
+    (λ t. subst (λ (l : HostLedger G). world_around rest (record old { ledger = l }) t ≡ left t) (sym stays) refl) (steps env is.ledger.serves w refl refl)
 
 pub steps_stay : {G : Type 0} (old : Host G) (ledger : HostLedger G) → ledger ≡ record old.ledger { storage = ledger.storage; budget = ledger.budget } → IsLater old.ledger.storage ledger.storage
     → Stays old (record old { ledger = ledger })
@@ -47,6 +56,9 @@ steps_stay {G} old ledger stays later = record {
   objects = ap (λ (l : HostLedger G). l.objects) stays;
   frame = ap (λ (l : HostLedger G). l.frame) stays;
   contracts = refl;
+  marks = later_itself old.marks;
+  verdicts = refl;
+  place = refl;
 }
 
 -- a value that is viewed in another way
@@ -54,23 +66,23 @@ pub viewed : {A B D G : Type 0} (a : A) (view : A → B) (of : B → D) (act : E
     → (let r : Result A HostErr = Ok a in DoesAround r (λ x. of (view x)) (λ env. after (act env) (λ b. gives (of b))) old new)
 viewed {A} a view of act old new one env is rest trace =
     let r : Result A HostErr = Ok a in
-    go_on (λ w t. world_around w new t) (λ w t. world_around w new t) keep_count (λ _ _ _. refl) a r view (λ x. of (view x)) rest (act env (world_around rest old trace)) (λ b. gives (of b))
+    go_on (λ w t. world_around w new t) (λ w t. world_around w new t) keep_rest (λ _ _ _. refl) a r view (λ x. of (view x)) rest (act env (world_around rest old trace)) (λ b. gives (of b))
     (one env is rest trace) (λ w t. (tt, refl))
 
 -- ---- works
 
 pub work_good : {A G : Type 0} (room : ℕ) (a : A) (view : A → Datum) (work : Work) (old new : Host G) → room ≡ MOST_FRAMES
     → (let r : Result A HostErr = Ok a in DoesAround r view (λ env. does env (opener_of env room) work) old new)
-    → (let r : Result A HostErr = Ok a in DoesAround r view (λ env. done_under env.judge env.header work) old new)
+    → (let r : Result A HostErr = Ok a in DoesAround r view (λ env. done_under env.judge env.header env.authority work) old new)
 unfolding done_under
 work_good {A} room a view work old new most done =
     let r : Result A HostErr = Ok a in
     subst (λ (n : ℕ). DoesAround r view (λ env. undoing (does env (opener_of env n) work)) old new) most
     (undoes_good a view (λ env. does env (opener_of env room) work) old new done)
 
-pub work_end : {A G : Type 0} (room : ℕ) (mark : Mark) (e d : HostErr) (view : A → Datum) (work : Work) (old mid new : Host G) → room ≡ MOST_FRAMES → Marks mark old → Stays old mid → Undoes mark e mid new → d ≡ e
+pub work_end : {A G : Type 0} (room : ℕ) (mark : Mark) (e d : HostErr) (view : A → Datum) (work : Work) (old mid new : Host G) → room ≡ MOST_FRAMES → IsMark mark old → Stays old mid → Undoes mark e mid new → d ≡ e
     → (let r : Result A HostErr = Err e in DoesAround r view (λ env. does env (opener_of env room) work) old mid)
-    → (let r : Result A HostErr = Err d in DoesAround r view (λ env. done_under env.judge env.header work) old new)
+    → (let r : Result A HostErr = Err d in DoesAround r view (λ env. done_under env.judge env.header env.authority work) old new)
 unfolding done_under
 work_end {A} room mark e d view work old mid new most marks stays undoes same done =
     let at : HostErr → Result A HostErr = λ x. Err x in

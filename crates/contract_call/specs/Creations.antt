@@ -12,6 +12,9 @@ use Rattle.contract_call.specs.declared.works.NewContract.{NewContract}
 abbrev pub args_of : Vec ScVal Global → List Datum
 args_of args = datums args.items
 
+abbrev pub items_of : Vec ScVal Global → List ScVal
+items_of args = args.items
+
 abbrev pub creation_of : NewContract → Creation
 creation_of c = record { deployer = c.deployer; code = c.code; salt = c.salt; args = option_map args_of c.args }
 

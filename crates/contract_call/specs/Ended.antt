@@ -11,16 +11,18 @@ use Rattle.call_spec.specs.Acts.{Failed, Spent, Archived, Out, Good, Bad, world_
 use Rattle.call_spec.specs.Footprints.{by_footprint, first_rejected}
 use Rattle.call_spec.specs.Laws.{Agree, Maps}
 use Rattle.call_spec.specs.WholeRuns.{Work, all_allowed, done_under}
-use Rattle.contract_call.specs.Worlds.{world_around}
+use Rattle.contract_call.specs.Worlds.{world_around, authority_of}
 use Rattle.contract_call.specs.declared.host.Host.{Host}
 
 -- Compares the result of the Rust function with the end of the whole run over the map m. The storage agrees with m on the keys that may be read. After
--- a failure, entries and events are as before the call. After Spent and Archived only the budget is compared.
+-- a failure, entries, events and authorisations that were used are as before the call. After Spent and Archived only the budget is compared.
 abbrev pub IsEnd : {A B G : Type 0} → Judge → LedgerMap → Out B → Result A HostErr → (A → B) → Host G → Host G → Type 0
 IsEnd may m (Good b w) (Ok a) view old new =
-    (b ≡ view a) × (new.ledger.budget ≡ w.meter) × (new.ledger.events ≡ w.events) × Maps may m old.ledger.storage.map w.entries new.ledger.storage.map
+    (b ≡ view a) × (new.ledger.budget ≡ w.meter) × (new.ledger.events ≡ w.events) × (new.marks.pairs ≡ w.pairs)
+    × Maps may m old.ledger.storage.map w.entries new.ledger.storage.map
 IsEnd may m (Bad (Failed e) w) (Err (ends.Failed d)) view old new =
-    (d ≡ e) × (new.ledger.budget ≡ w.meter) × (new.ledger.events ≡ old.ledger.events) × (new.ledger.storage.map ≡ old.ledger.storage.map)
+    (d ≡ e) × (new.ledger.budget ≡ w.meter) × (new.ledger.events ≡ old.ledger.events) × (new.marks.pairs ≡ old.marks.pairs)
+    × (new.ledger.storage.map ≡ old.ledger.storage.map)
 IsEnd may m (Bad Spent w) (Err ends.Spent) view old new = new.ledger.budget ≡ w.meter
 IsEnd may m (Bad (Archived key) w) (Err (ends.Archived k)) view old new = (k ≡ key) × (new.ledger.budget ≡ w.meter)
 IsEnd may m out (Err ends.NoMemory) view old new = Unit {0}
@@ -38,5 +40,5 @@ EndsBy may m None out r view old new = IsEnd may m out r view old new
 abbrev pub Ends : {A G : Type 0} → Work → Result A HostErr → (A → Datum) → Host G → Host G → Type 0
 Ends work r view old new = (footprint : Footprint) → IsFootprint footprint.read_only footprint.read_write old.ledger.storage.declared
     → (m : LedgerMap) → Agree (by_footprint footprint) m old.ledger.storage.map → (rest : World)
-    → (let out = done_under all_allowed old.ledger.header.now work (record (world_around rest old []) { entries = m }) in
+    → (let out = done_under all_allowed old.ledger.header.now (authority_of old) work (record (world_around rest old []) { entries = m }) in
     EndsBy (by_footprint footprint) m (first_rejected (by_footprint footprint) (world_of out).trace) out r view old new)

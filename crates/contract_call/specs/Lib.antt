@@ -1,8 +1,10 @@
 pub mod Creations
+pub mod Demanded
 pub mod Ended
 pub mod Framed
 pub mod Made
 pub mod Parts
+pub mod Placed
 pub mod Running
 pub mod Taken
 pub mod Targets

@@ -7,8 +7,6 @@ use Rattle.value_types.specs.Views.{datum}
 use Rattle.value_types.specs.declared.hash.Hash.{Hash}
 use Rattle.value_types.specs.declared.address.ScAddress.{ScAddress}
 use Rattle.value_types.specs.declared.value.ScVal.{ScVal}
-use Rattle.ledger_types.specs.declared.header.Header.{Header}
-use Rattle.invoke_types.specs.ContractId.{contract_id_of}
 use Rattle.wasm_spec.specs.declared.module.Module.{Module}
 use Rattle.wasm_spec.specs.Instances.{function_named}
 use Rattle.module_loader.specs.Loading.{module_of}
@@ -25,26 +23,25 @@ use Rattle.call_spec.specs.Acts.{Act, after, gives, paying}
 use Rattle.call_spec.specs.Accesses.{access}
 use Rattle.call_spec.specs.Keys.{instance_key}
 use Rattle.call_spec.specs.Demands.{demanded}
-use Rattle.call_spec.specs.Frames.{Opener}
+use Rattle.call_spec.specs.Frames.{Opener, is_void}
 use Rattle.call_spec.specs.Found.{code_at, with_module}
-use Rattle.call_spec.specs.Creating.{Creation, preimage_of, id_of, function_of, paying_id, makes_instance, is_void, CONSTRUCTOR, constructs_if}
+use Rattle.call_spec.specs.Creating.{Creation, preimage_of, id_of, function_of, paying_id, makes_instance, CONSTRUCTOR, constructs_if}
 use Rattle.contract_call.specs.declared.creating.SizedCode.{SizedCode}
 
 -- ---- the contract
 
--- the id's charge, the demand, the code, the instance, then the module of the code
-abbrev pub making : Env → Option ScAddress → Creation → List ℕ → Act Module
-making env creator c path =
-    paying_id env (preimage_of c) (after (demanded path creator c.deployer (function_of c)) (λ _. after (code_at env c.code) (λ code.
-    after (access env Write (instance_key (id_of env c)) (makes_instance env (id_of env c) c.code)) (λ _.
-    paying VmInstantiation (length code) (with_module (module_of code) (λ m. gives m))))))
+-- the id's charge
+abbrev pub identifying : Env → Creation → Act Hash
+identifying env c = paying_id env (preimage_of c) (gives (id_of env c))
 
-abbrev pub new_id_of : Header → Creation → Hash
-new_id_of header c = contract_id_of header.network_id (preimage_of c)
+-- the demand
+abbrev pub granting : Env → Opener → Option ScAddress → Creation → List ℕ → Hash → Act Hash
+granting env opener creator c path id = after (demanded env opener path creator c.deployer (function_of c)) (λ _. gives id)
 
--- the first part: the id's charge and the demand
-abbrev pub demanding : Env → Option ScAddress → Creation → List ℕ → Act Hash
-demanding env creator c path = paying_id env (preimage_of c) (after (demanded path creator c.deployer (function_of c)) (λ _. gives (id_of env c)))
+-- the id's charge, then the demand
+abbrev pub authorising : Env → Opener → Option ScAddress → Creation → List ℕ → Act Hash
+authorising env opener creator c path =
+    paying_id env (preimage_of c) (after (demanded env opener path creator c.deployer (function_of c)) (λ _. gives (id_of env c)))
 
 -- the length of a code, and the module that it encodes
 abbrev pub sized : SizedCode → ℕ × Option Module
@@ -57,7 +54,7 @@ code_of env hash = after (code_at env hash) (λ code. gives (length code, module
 abbrev pub instantiating : Env → Hash → Hash → ℕ × Option Module → Act Module
 instantiating env id hash code = after (access env Write (instance_key id) (makes_instance env id hash)) (λ _. paying VmInstantiation code.0 (with_module code.1 (λ m. gives m)))
 
--- the second part: the code, the instance, the module
+-- the code, the instance, the module
 abbrev pub building : Env → Hash → Hash → Act Module
 building env id hash = after (code_of env hash) (instantiating env id hash)
 
@@ -66,6 +63,10 @@ building env id hash = after (code_of env hash) (instantiating env id hash)
 -- the constructor of a contract that was made
 abbrev pub constructing : Opener → Option ScAddress → Hash → Creation → List ℕ → Module → Act Hash
 constructing opener creator id c path m = after (constructs_if (function_named CONSTRUCTOR m.exports) opener creator id c.code (unwrap_or c.args []) path m) (λ _. gives id)
+
+-- the contract with this id, and its constructor
+abbrev pub builds_with : Env → Opener → Option ScAddress → Creation → List ℕ → Hash → Act Hash
+builds_with env opener creator c path id = after (building env id c.code) (λ m. constructing opener creator id c path m)
 
 -- A module without a constructor takes no arguments: whether there are none is given.
 abbrev pub unless_given : Bool → Hash → Result Hash HostErr

@@ -2,6 +2,7 @@
 use Rattle.std.specs.Prelude.{◌≡◌, ℕ, [], List, length, Result}
 use Rattle.std.specs.Option.{option_map}
 use Rattle.value_types.specs.Datum.{Datum}
+use Rattle.auth_trees.specs.Demands.{IsLater}
 use Rattle.wasm_spec.specs.declared.module.Module.{Module}
 use Rattle.wasm_spec.specs.Stores.{Store}
 use Rattle.wasm_run.specs.Suspended.{Suspended, IsFresh}
@@ -10,11 +11,11 @@ use Rattle.call_spec.specs.World.{Access, Copied, World, Env}
 use Rattle.call_spec.specs.Acts.{Act}
 use Rattle.call_spec.specs.Frames.{Entered}
 use Rattle.call_spec.specs.Outcomes.{Says}
-use Rattle.host_ledger.specs.Worlds.{address_of, copied, IsEnv, IsHeld}
+use Rattle.host_ledger.specs.Worlds.{address_of, copied, IsHeld}
 use Rattle.host_ledger.specs.Answered.{any}
 use Rattle.host_ledger.specs.Called.{Left}
 use Rattle.host_ledger.specs.declared.state.Running.{Running}
-use Rattle.contract_call.specs.Worlds.{world_in, resting, ending, with_memory, MayRun}
+use Rattle.contract_call.specs.Worlds.{world_in, ending, with_memory, IsEnvOf, MayRun}
 use Rattle.contract_call.specs.declared.host.Host.{Host}
 
 -- what a frame starts with
@@ -41,18 +42,22 @@ pub record IsNewFrame (frame : Running) : Type 0 where
 abbrev pub Starts : Suspended → Entered → Type 0
 Starts i e = IsFresh i e.module_ e.index (length e.args) e.store
 
--- What a run in the frame leaves: writes and events were only added, and the frame is still that of this contract.
+-- What a run in the frame leaves: writes, events and authorisations that were used were only added, calls and creates were only counted, and the frame
+-- is still that of this contract.
 pub record StaysIn {G : Type 0} (old new : Host G) : Type 0 where
   pub left : Left old.ledger new.ledger
   pub contracts : new.open.items ≡ old.open.items
+  pub marks : IsLater old.marks new.marks
+  pub verdicts : new.verdicts.now ≡ old.verdicts.now
+  pub place : new.place ≡ record old.place { begun = new.place.begun }
   pub ready : MayRun new
 
 -- `RunsIn` for a frame that started with this instance
 abbrev pub DoesFrom : {A B G : Type 0} → Copied → Result A HostErr → (A → B) → (Env → Act B) → Host G → Host G → Type 0
-DoesFrom first r view act old new = (env : Env) → IsEnv env old.ledger → (rest : World) (trace : List Access) → rest.frame.first ≡ first
+DoesFrom first r view act old new = (env : Env) → IsEnvOf env old → (rest : World) (trace : List Access) → rest.frame.first ≡ first
     → (let out = act env (world_in rest old trace) in Says any r view out (world_in (ending rest out) new))
 
 -- `DoesIn` for a frame whose linear memory is `before` at the start and `after` at the end
 abbrev pub DoesOver : {A B G : Type 0} → List ℕ → List ℕ → Result A HostErr → (A → B) → (Env → Act B) → Host G → Host G → Type 0
-DoesOver before after r view act old new = (env : Env) → IsEnv env old.ledger → (rest : World) (trace : List Access) → rest.frame.memory ≡ before
-    → (let out = act env (world_in rest old trace) in Says any r view out (world_in (resting (with_memory after rest) out) new))
+DoesOver before after r view act old new = (env : Env) → IsEnvOf env old → (rest : World) (trace : List Access) → rest.frame.memory ≡ before
+    → Says any r view (act env (world_in rest old trace)) (world_in (with_memory after rest) new)

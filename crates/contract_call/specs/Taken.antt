@@ -14,8 +14,7 @@ use Rattle.call_spec.specs.Creating.{Creation, creates}
 use Rattle.call_spec.specs.Rules.{returning}
 use Rattle.call_spec.specs.Outcomes.{Says}
 use Rattle.host_ledger.specs.Answered.{any}
-use Rattle.host_ledger.specs.Worlds.{IsEnv}
-use Rattle.contract_call.specs.Worlds.{world_in, DoesIn}
+use Rattle.contract_call.specs.Worlds.{world_in, IsEnvOf, DoesIn}
 use Rattle.contract_call.specs.declared.host.Host.{Host}
 
 -- `Ok a`: after the charges of the call, the act goes on as `next a`. `Err e`: the act ends with e, and only the budget has changed.
@@ -30,5 +29,5 @@ creates_here env opener c = with_frame (λ frame. returning (creates env opener 
 
 -- `Takes` for the running frame of a host
 abbrev pub TakesIn : {A G : Type 0} → Result A HostErr → (Env → Act Answer) → (Env → A → Act Answer) → Host G → Host G → Type 0
-TakesIn (Ok a) act next old new = (env : Env) → IsEnv env old.ledger → (rest : World) (trace : List Access) → act env (world_in rest old trace) ≡ next env a (world_in rest new trace)
+TakesIn (Ok a) act next old new = (env : Env) → IsEnvOf env old → (rest : World) (trace : List Access) → act env (world_in rest old trace) ≡ next env a (world_in rest new trace)
 TakesIn (Err e) act next old new = let none : Result Answer' HostErr = Err e in DoesIn none answer_of act old new

@@ -1,5 +1,5 @@
 -- What a call finds before it enters a frame: the called contract, its instance and its module.
-use Rattle.std.specs.Prelude.{ℕ, List, length, not}
+use Rattle.std.specs.Prelude.{ℕ, Bool, ◌||◌, List, length, not}
 use Rattle.std.specs.Option.{option_map}
 use Rattle.budget_meter.specs.declared.kind.Kind.TheVariants.{VmInstantiation}
 use Rattle.value_types.specs.Datum.{Datum}
@@ -12,9 +12,9 @@ use Rattle.module_loader.specs.Loading.{module_of}
 use Rattle.call_spec.specs.Errors.{RESERVED_NAME, REENTERED}
 use Rattle.call_spec.specs.World.{Copied, Env}
 use Rattle.call_spec.specs.Acts.{Act, after, gives, only_where, with_world, paying}
-use Rattle.call_spec.specs.Frames.{Entered}
+use Rattle.call_spec.specs.Frames.{Entered, Opener, with_opener}
 use Rattle.call_spec.specs.Found.{instance_at, code_at, with_module, with_start}
-use Rattle.call_spec.specs.Calling.{with_contract, is_reserved, is_running, Call}
+use Rattle.call_spec.specs.Calling.{with_contract, is_reserved, is_running, Call, admits}
 use Rattle.host_ledger.specs.Worlds.{address_of, copied}
 use Rattle.contract_call.specs.declared.targets.ContractCall.{ContractCall}
 use Rattle.contract_call.specs.declared.targets.Target.{Target as Target'}
@@ -23,11 +23,19 @@ use Rattle.contract_call.specs.declared.targets.Target.{Target as Target'}
 abbrev pub call_of : ContractCall → Call
 call_of c = record { caller = option_map address_of c.caller; address = c.contract; function = c.function.now; args = datums c.args.items }
 
--- the tests of the address, of the name, and of the open frames
-abbrev pub tests : {A : Type 0} → List ℕ → ScAddress → (Hash → Act A) → Act A
-tests function address next = with_contract address (λ contract.
-    only_where (not (is_reserved function)) RESERVED_NAME (with_world (is_running contract) (λ running.
+-- whether the caller may call a function of this name
+abbrev pub may_name : ContractCall → Bool
+may_name c = c.by_host || not (is_reserved c.function.now)
+
+-- the tests of the address, of the name, and of the open frames; whether the name may be called is given
+abbrev pub tests : {A : Type 0} → Bool → ScAddress → (Hash → Act A) → Act A
+tests named address next = with_contract address (λ contract.
+    only_where named RESERVED_NAME (with_world (is_running contract) (λ running.
     only_where (not running) REENTERED (next contract))))
+
+-- the tests and the frame of a call that has a path, while another frame may be open
+abbrev pub call_at : Bool → Env → Opener → Call → List ℕ → Act Datum
+call_at named env opener call path = with_opener opener (λ enter. with_contract call.address (admits named env enter call path))
 
 -- the called contract, its instance, and the module of the instance's code
 pub record Target : Type 0 where
@@ -46,8 +54,8 @@ abbrev pub target_at : Env → Hash → Act Target
 target_at env contract = after (instance_at env contract) (λ copy. after (module_at env copy.code) (λ m. gives (record { contract = contract; instance = copy; module_ = m })))
 
 -- the target of a call
-abbrev pub target_of : List ℕ → ScAddress → Env → Act Target
-target_of function address env = after (tests function address (λ c. gives c)) (target_at env)
+abbrev pub target_of : Bool → ScAddress → Env → Act Target
+target_of named address env = after (tests named address (λ c. gives c)) (target_at env)
 
 -- what a frame of the target starts with, if its function can be called with so many arguments
 abbrev pub enters_at : (Entered → Act Datum) → Call → List ℕ → Target → Act Datum

@@ -1,8 +1,9 @@
 -- Failures that leave the state as it was.
-use Rattle.std.specs.Prelude.{◌≡◌, length, take, Result, Ok, Err}
+use Rattle.std.specs.Prelude.{◌≡◌, ◌≤◌, length, take, Result, Ok, Err}
 use Rattle.value_types.specs.declared.value.ScVal.{ScVal}
 use Rattle.value_types.specs.declared.value.ScVal.TheVariants as values
 use Rattle.contract_storage.specs.Stored.{IsRestored}
+use Rattle.auth_trees.specs.Demands.{restored}
 use Rattle.host_spec.specs.declared.error.HostErr.{HostErr}
 use Rattle.host_spec.specs.declared.error.HostErr.TheVariants as ends
 use Rattle.call_spec.specs.Frames.{passed_on}
@@ -10,15 +11,22 @@ use Rattle.contract_call.specs.declared.host.Host.{Host}
 use Rattle.contract_call.specs.declared.undo.Mark.{Mark}
 
 -- the mark is that of this state
-pub record Marks {G : Type 0} (mark : Mark) (start : Host G) : Type 0 where
+pub record IsMark {G : Type 0} (mark : Mark) (start : Host G) : Type 0 where
   pub storage : mark.storage.writes ≡ length start.ledger.storage.past
   pub events : mark.events ≡ length start.ledger.events
+  pub pairs : mark.marks.pairs ≡ length start.marks.pairs
 
--- The state has the entries and the events of the mark, and nothing else changed.
+-- the state has had as many writes and authorisations as the mark says
+pub record IsWithin {G : Type 0} (mark : Mark) (h : Host G) : Type 0 where
+  pub storage : mark.storage.writes ≤ length h.ledger.storage.past
+  pub pairs : mark.marks.pairs ≤ length h.marks.pairs
+
+-- The state has the entries, the events and the authorisations that were used of the mark, and nothing else changed.
 pub record IsBack {G : Type 0} (mark : Mark) (old new : Host G) : Type 0 where
   pub storage : IsRestored mark.storage.writes old.ledger.storage new.ledger.storage
   pub events : new.ledger.events ≡ take mark.events old.ledger.events
-  pub rest : new ≡ record old { ledger = record old.ledger { storage = new.ledger.storage; events = new.ledger.events } }
+  pub marks : new.marks ≡ restored mark.marks.pairs old.marks
+  pub rest : new ≡ record old { ledger = record old.ledger { storage = new.ledger.storage; events = new.ledger.events }; marks = new.marks }
 
 -- A failure restores the mark. Any other end changes nothing.
 abbrev pub Undoes : {G : Type 0} → Mark → HostErr → Host G → Host G → Type 0

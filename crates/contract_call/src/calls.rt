@@ -1,8 +1,8 @@
 //! Calls of contracts, nested over suspended instances.
 
-ghost use Rattle.std.specs.Prelude.{◌≡◌, ℕ, List, [], ◌∷◌, length, IfOk};
+ghost use Rattle.std.specs.Prelude.{◌≡◌, ℕ, [], ◌∷◌, length, slice_get, IfOk};
 ghost use Rattle.value_types.specs.Views.{datum, datums};
-ghost use Rattle.host_spec.specs.Hosted.{IsHosted};
+ghost use Rattle.host_spec.specs.Hosted.{IsHosted, AreHosted};
 ghost use Rattle.host_frame.specs.Made.{AreMade, IsMemory};
 ghost use Rattle.host_spec.specs.Indices.{arguments_of};
 ghost use Rattle.budget_meter.specs.Meter.{Meter};
@@ -11,8 +11,9 @@ ghost use Rattle.wasm_spec.specs.Stores.{Store};
 ghost use Rattle.wasm_spec.specs.Instances.{start_of};
 ghost use Rattle.wasm_run.specs.Suspended.{Does, IsFresh};
 ghost use Rattle.call_spec.specs.Acts.{after, with_world};
-ghost use Rattle.call_spec.specs.Calling.{calls, call as call_in, try_call as try_in};
-ghost use Rattle.call_spec.specs.Creating.{creates, create_contract, create_contract_with_constructor};
+ghost use Rattle.call_spec.specs.Calling.{calls_if, call as call_in, try_call as try_in};
+ghost use Rattle.call_spec.specs.Creating.{creates, creates_at, create_contract, create_contract_with_constructor};
+ghost use Rattle.call_spec.specs.Demands.{proves_entry, require_auth, require_auth_for_args};
 ghost use Rattle.call_spec.specs.Rules.{answered};
 ghost use Rattle.host_interface.specs.declared.kinds.ArgKind.TheVariants as kinds;
 ghost use Rattle.host_frame.specs.Answered.{answer_of};
@@ -24,31 +25,44 @@ ghost use Rattle.host_ledger.specs.Worlds.{address_of, IsHeld, copied};
 ghost use Rattle.std.specs.Option.{option_map};
 ghost use Rattle.contract_call.specs.Worlds.{DoesAround, DoesIn, RunsIn, Stays, MayRun};
 ghost use Rattle.contract_call.specs.Creations.{creation_of, AreArgsHosted};
-ghost use Rattle.contract_call.specs.Made.{constructing};
+ghost use Rattle.auth_parts.specs.Asked.{by_contract, asks_then};
+ghost use Rattle.contract_call.specs.Demanded.{settled, requires_here};
+ghost use Rattle.contract_call.specs.Made.{authorising, builds_with, constructing};
+ghost use Rattle.contract_call.specs.Placed.{IsNewPlace, IsPathFor, IsPathBelow, HasRoom};
 ghost use Rattle.contract_call.specs.Taken.{creates_here};
-ghost use Rattle.contract_call.specs.Targets.{call_of, target, enters_at};
+ghost use Rattle.contract_call.specs.Targets.{may_name as may_name_in, call_of, call_at, target, enters_at};
 ghost use Rattle.contract_call.specs.Running.{entered, IsNewFrame, Starts, StaysIn, DoesFrom, DoesOver};
 
 use crate::creating::{
-    Created, addressed, constructed, given_args, has_constructor, made, unless_args, valued,
+    addressed, constructed, constructor_place, create_function, given_args, has_constructor, made,
+    paid_id, unless_args, valued,
 };
-use crate::errors::TOO_MANY_FRAMES;
+use crate::demands::{
+    ask_entry, authorised, call_with, checked, contract_address, granted, own_call,
+};
+use crate::errors::{DENIED, TOO_MANY_FRAMES};
 use crate::host::Host;
 use crate::parts::{Part, part_of};
-use crate::rows::{auth_for_args_row, auth_row, ledger_answer, shown, upload_row, value_answer};
+use crate::place::{Place, new_place};
+use crate::rows::{ledger_answer, shown, upload_row, value_answer};
 use crate::running::{begin, end, running};
-use crate::targets::{ContractCall, Target, find_target};
+use crate::targets::{ContractCall, Target, find_target, may_name};
 use crate::undo::caught;
-use crate::words::{CallArgs, call_words, construct_words, create_words};
+use crate::words::{
+    AuthArgs, CallArgs, auth_for_args_words, auth_words, call_words, construct_words, create_words,
+};
 use crate::works::NewContract;
+use auth_parts::Asked;
+use auth_trees::Demand;
 use call_parts::{clone_copy, start_instance};
 use entry_lookup::Ground;
 use host_frame::Answer;
 use host_interface::HostImport;
 use host_ledger::{InstanceCopy, Running};
 use host_spec::HostErr;
+use invoke_types::Function;
 use module_loader::LinkedModule;
-use value_types::{Hash, ScVal};
+use value_types::{Hash, ScAddress, ScVal};
 use wasm_run::{CallPhase, Event, Instance, trap_error};
 
 /// A call of a contract's function, while so many more frames may be open.
@@ -59,16 +73,41 @@ pub(crate) fn call<G: Ground>(
     call: ContractCall<'_>,
 ) -> Result<ScVal, HostErr>
     requires ready { MayRun host.old }
+    requires path { HasRoom room host.old }
     requires args { AreMade (datums call.args.items) }
-    ensures does { DoesAround result datum (λ env. calls env (opener_of env room) (call_of call.entry)) host.old host.new }
+    ensures does { DoesAround result datum
+        (λ env. calls_if (may_name_in call.entry) env (opener_of env room) (call_of call.entry)) host.old host.new }
+    ensures hosted { IfOk result (λ value. IsHosted (datum value)) }
+    ensures stays { Stays host.old host.new }
+{
+    match host.begin() {
+        Ok(path) => call_below(host, room, path, call),
+        Err(error) => Err(error),
+    }
+}
+
+/// A call that has a path.
+#[cycle(calls)]
+fn call_below<G: Ground>(
+    host: &mut Host<'_, G>,
+    room: u32,
+    path: Vec<u64>,
+    call: ContractCall<'_>,
+) -> Result<ScVal, HostErr>
+    requires ready { MayRun host.old }
+    requires path { IsPathBelow path.items room }
+    requires args { AreMade (datums call.args.items) }
+    ensures does { DoesAround result datum
+        (λ env. call_at (may_name_in call.entry) env (opener_of env room) (call_of call.entry) path.items) host.old host.new }
     ensures hosted { IfOk result (λ value. IsHosted (datum value)) }
     ensures stays { Stays host.old host.new }
 {
     if room == 0 {
         return Err(TOO_MANY_FRAMES);
     }
-    match find_target(host, call.contract, call.function) {
-        Ok(target) => call_target(host, room - 1, target, call),
+    let named = may_name(&call);
+    match find_target(host, call.contract, named) {
+        Ok(target) => call_target(host, room - 1, path, target, call),
         Err(error) => Err(error),
     }
 }
@@ -78,25 +117,33 @@ pub(crate) fn call<G: Ground>(
 fn call_target<G: Ground>(
     host: &mut Host<'_, G>,
     room: u32,
+    path: Vec<u64>,
     found: Target,
     call: ContractCall<'_>,
 ) -> Result<ScVal, HostErr>
     requires ready { MayRun host.old }
+    requires path { IsPathFor path.items room }
     requires held { IsHeld found.copy.storage }
     requires args { AreMade (datums call.args.items) }
-    ensures does { (path : List ℕ) → DoesAround result datum
-        (λ env. enters_at (framed env (host_of env (opener_of env room))) (call_of call.entry) path
+    ensures does { DoesAround result datum
+        (λ env. enters_at (framed env (host_of env (opener_of env room))) (call_of call.entry) path.items
         (target found)) host.old host.new }
     ensures hosted { IfOk result (λ value. IsHosted (datum value)) }
     ensures stays { Stays host.old host.new }
 {
+    let alloc = host.allocator();
     let Target {
         contract,
         copy,
         module,
     } = found;
-    let frame = running(host.allocator(), contract, call.caller, copy);
-    enter(host, room, frame, &module, call.function, call.args)
+    match new_place(alloc, call.function, call.args.as_slice(), path) {
+        Ok(place) => {
+            let frame = running(alloc, contract, call.caller, copy);
+            enter(host, room, frame, place, &module, call.args)
+        }
+        Err(error) => Err(error),
+    }
 }
 
 /// Runs a function of a module in a new frame, if the module exports it for so many arguments.
@@ -105,23 +152,25 @@ fn enter<G: Ground>(
     host: &mut Host<'_, G>,
     room: u32,
     frame: Running,
+    place: Place,
     module: &LinkedModule,
-    function: &[u8],
     args: Vec<ScVal>,
 ) -> Result<ScVal, HostErr>
     requires ready { MayRun host.old }
     requires frame { IsNewFrame frame }
+    requires place { IsNewPlace place place.function.items args.items place.path.items }
+    requires path { IsPathFor place.path.items room }
     requires args { AreMade (datums args.items) }
-    ensures does { (path : List ℕ) → DoesAround result datum
-        (λ env. with_start (start_of «module».now function.now (length (datums args.items)))
+    ensures does { DoesAround result datum
+        (λ env. with_start (start_of «module».now place.function.items (length (datums args.items)))
         (λ index store. framed env (host_of env (opener_of env room))
-        (entered frame function.now (datums args.items) path «module».now index store))) host.old host.new }
+        (entered frame place.function.items (datums args.items) place.path.items «module».now index store))) host.old host.new }
     ensures hosted { IfOk result (λ value. IsHosted (datum value)) }
     ensures stays { Stays host.old host.new }
 {
     let alloc = host.allocator();
-    match start_instance(alloc, module, function, args.len()) {
-        Ok(instance) => open(host, room, frame, module, instance, args),
+    match start_instance(alloc, module, place.function.as_slice(), args.len()) {
+        Ok(instance) => open(host, room, frame, place, module, instance, args),
         Err(error) => Err(error),
     }
 }
@@ -132,23 +181,26 @@ fn open<G: Ground>(
     host: &mut Host<'_, G>,
     room: u32,
     frame: Running,
+    place: Place,
     module: &LinkedModule,
     instance: Instance<'_>,
     args: Vec<ScVal>,
 ) -> Result<ScVal, HostErr>
     requires ready { MayRun host.old }
     requires frame { IsNewFrame frame }
+    requires place { IsNewPlace place place.function.items args.items place.path.items }
+    requires path { IsPathFor place.path.items room }
     requires args { AreMade (datums args.items) }
     requires starts { (index : ℕ) × (store : Store) × IsFresh instance «module».now index (length (datums args.items)) store }
-    ensures does { (function path : List ℕ) (index : ℕ) (store : Store)
+    ensures does { (index : ℕ) (store : Store)
         → IsFresh instance.entry «module».now index (length (datums args.items)) store
         → DoesAround result datum (λ env. framed env (host_of env (opener_of env room))
-        (entered frame function (datums args.items) path «module».now index store)) host.old host.new }
+        (entered frame place.function.items (datums args.items) place.path.items «module».now index store)) host.old host.new }
     ensures hosted { IfOk result (λ value. IsHosted (datum value)) }
     ensures stays { Stays host.old host.new }
 {
     match clone_copy(&frame.copy) {
-        Ok(first) => match host.open_frame(frame) {
+        Ok(first) => match host.open_frame(frame, place) {
             Ok(waiting) => {
                 let result = inside(host, room, module, instance, &first, args);
                 host.close_frame(waiting);
@@ -171,6 +223,7 @@ fn inside<G: Ground>(
     args: Vec<ScVal>,
 ) -> Result<ScVal, HostErr>
     requires ready { MayRun host.old }
+    requires path { HasRoom room host.old }
     requires args { AreMade (datums args.items) }
     requires starts { (index : ℕ) × (store : Store) × IsFresh instance «module».now index (length (datums args.items)) store }
     ensures does { (e : Entered) → e.module_ ≡ «module».now → e.args ≡ datums args.items → Starts instance.entry e
@@ -201,6 +254,7 @@ fn run<G: Ground>(
     instance: Instance<'_>,
 ) -> Result<u64, HostErr>
     requires ready { MayRun host.old }
+    requires path { HasRoom room host.old }
     requires phase { instance.phase ≡ CallPhase.Ready }
     requires source { instance.source ≡ «module».now }
     ensures does { (go : Meter → Run) → Does instance.entry go
@@ -237,6 +291,7 @@ fn answer<G: Ground>(
     memory: &mut [u8],
 ) -> Result<u64, HostErr>
     requires ready { MayRun host.old }
+    requires path { HasRoom room host.old }
     requires arity { length words.now ≡ length (arguments_of «import») }
     requires memory { IsMemory memory.old }
     ensures does { DoesOver memory.old memory.new result (λ word. word)
@@ -252,11 +307,11 @@ fn answer<G: Ground>(
             shown(host, made)
         }
         Part::Auth => {
-            let made = auth_row(host, words);
+            let made = auth_row(host, room, words);
             shown(host, made)
         }
         Part::AuthForArgs => {
-            let made = auth_for_args_row(host, words);
+            let made = auth_for_args_row(host, room, words);
             shown(host, made)
         }
         Part::Call => {
@@ -282,6 +337,7 @@ fn answer<G: Ground>(
 #[cycle(calls)]
 fn call_row<G: Ground>(host: &mut Host<'_, G>, room: u32, words: &[u64]) -> Result<Answer, HostErr>
     requires ready { MayRun host.old }
+    requires path { HasRoom room host.old }
     requires arity { length words.now ≡ 3 }
     ensures does { DoesIn result answer_of
         (λ env. answered (kinds.Address ∷ kinds.Symbol ∷ kinds.Vec ∷ [])
@@ -302,6 +358,7 @@ fn call_row<G: Ground>(host: &mut Host<'_, G>, room: u32, words: &[u64]) -> Resu
                 room,
                 ContractCall {
                     caller: Some(host.ledger.frame.contract),
+                    by_host: false,
                     contract,
                     function: function.as_slice(),
                     args,
@@ -317,6 +374,7 @@ fn call_row<G: Ground>(host: &mut Host<'_, G>, room: u32, words: &[u64]) -> Resu
 #[cycle(calls)]
 fn try_row<G: Ground>(host: &mut Host<'_, G>, room: u32, words: &[u64]) -> Result<Answer, HostErr>
     requires ready { MayRun host.old }
+    requires path { HasRoom room host.old }
     requires arity { length words.now ≡ 3 }
     ensures does { DoesIn result answer_of
         (λ env. answered (kinds.Address ∷ kinds.Symbol ∷ kinds.Vec ∷ [])
@@ -338,6 +396,7 @@ fn try_row<G: Ground>(host: &mut Host<'_, G>, room: u32, words: &[u64]) -> Resul
                 room,
                 ContractCall {
                     caller: Some(host.ledger.frame.contract),
+                    by_host: false,
                     contract,
                     function: function.as_slice(),
                     args,
@@ -358,6 +417,7 @@ fn create_row<G: Ground>(
     words: &[u64],
 ) -> Result<Answer, HostErr>
     requires ready { MayRun host.old }
+    requires path { HasRoom room host.old }
     requires arity { length words.now ≡ 3 }
     ensures does { DoesIn result answer_of
         (λ env. answered (kinds.Address ∷ kinds.Bytes ∷ kinds.Bytes ∷ [])
@@ -379,6 +439,7 @@ fn construct_row<G: Ground>(
     words: &[u64],
 ) -> Result<Answer, HostErr>
     requires ready { MayRun host.old }
+    requires path { HasRoom room host.old }
     requires arity { length words.now ≡ 4 }
     ensures does { DoesIn result answer_of
         (λ env. answered (kinds.Address ∷ kinds.Bytes ∷ kinds.Bytes ∷ kinds.Vec ∷ [])
@@ -400,6 +461,7 @@ fn create_here<G: Ground>(
     contract: NewContract,
 ) -> Result<Answer, HostErr>
     requires ready { MayRun host.old }
+    requires path { HasRoom room host.old }
     requires args { AreArgsHosted contract.args }
     ensures does { DoesIn result answer_of
         (λ env. creates_here env (opener_of env room) (creation_of contract)) host.old host.new }
@@ -420,13 +482,92 @@ pub(crate) fn create<G: Ground>(
     contract: NewContract,
 ) -> Result<Hash, HostErr>
     requires ready { MayRun host.old }
+    requires path { HasRoom room host.old }
     requires args { AreArgsHosted contract.args }
     ensures does { DoesAround result (λ id. id)
         (λ env. creates env (opener_of env room) (option_map address_of creator) (creation_of contract)) host.old host.new }
     ensures stays { Stays host.old host.new }
 {
-    match made(host, creator, &contract) {
-        Ok(Created { id, module }) => construct(host, room, creator, id, &module, contract),
+    match host.begin() {
+        Ok(path) => create_below(host, room, path, creator, contract),
+        Err(error) => Err(error),
+    }
+}
+
+/// A create that has a path.
+#[cycle(calls)]
+fn create_below<G: Ground>(
+    host: &mut Host<'_, G>,
+    room: u32,
+    path: Vec<u64>,
+    creator: Option<Hash>,
+    contract: NewContract,
+) -> Result<Hash, HostErr>
+    requires ready { MayRun host.old }
+    requires room { HasRoom room host.old }
+    requires path { IsPathBelow path.items room }
+    requires args { AreArgsHosted contract.args }
+    ensures does { DoesAround result (λ id. id)
+        (λ env. creates_at env (opener_of env room) (option_map address_of creator) (creation_of contract) path.items) host.old host.new }
+    ensures stays { Stays host.old host.new }
+{
+    match authorise(host, room, path.as_slice(), creator, &contract) {
+        Ok(id) => build(host, room, path, creator, id, contract),
+        Err(error) => Err(error),
+    }
+}
+
+/// The id of a new contract, after its charge and the demand of its deployer's authorisation.
+#[cycle(calls)]
+fn authorise<G: Ground>(
+    host: &mut Host<'_, G>,
+    room: u32,
+    path: &[u64],
+    creator: Option<Hash>,
+    contract: &NewContract,
+) -> Result<Hash, HostErr>
+    requires ready { MayRun host.old }
+    requires room { HasRoom room host.old }
+    requires path { IsPathBelow path.now room }
+    ensures does { DoesAround result (λ id. id)
+        (λ env. authorising env (opener_of env room) (option_map address_of creator) (creation_of contract.now) path.now) host.old host.new }
+    ensures stays { Stays host.old host.new }
+{
+    match paid_id(host, contract) {
+        Ok(id) => match create_function(host.allocator(), contract) {
+            Ok(function) => {
+                let caller = contract_address(creator);
+                let met = host
+                    .marks
+                    .demand(path, caller, contract.deployer, &function);
+                let settled = settle(host, room, met);
+                granted(settled, id)
+            }
+            Err(error) => Err(error),
+        },
+        Err(error) => Err(error),
+    }
+}
+
+/// Makes the instance of a contract with an id, and calls the contract's constructor, if its module has one.
+#[cycle(calls)]
+fn build<G: Ground>(
+    host: &mut Host<'_, G>,
+    room: u32,
+    path: Vec<u64>,
+    creator: Option<Hash>,
+    id: Hash,
+    contract: NewContract,
+) -> Result<Hash, HostErr>
+    requires ready { MayRun host.old }
+    requires path { IsPathBelow path.items room }
+    requires args { AreArgsHosted contract.args }
+    ensures does { DoesAround result (λ id. id)
+        (λ env. builds_with env (opener_of env room) (option_map address_of creator) (creation_of contract) path.items id) host.old host.new }
+    ensures stays { Stays host.old host.new }
+{
+    match made(host, id, contract.code) {
+        Ok(module) => construct(host, room, path, creator, id, &module, contract),
         Err(error) => Err(error),
     }
 }
@@ -436,20 +577,21 @@ pub(crate) fn create<G: Ground>(
 fn construct<G: Ground>(
     host: &mut Host<'_, G>,
     room: u32,
+    path: Vec<u64>,
     creator: Option<Hash>,
     id: Hash,
     module: &LinkedModule,
     contract: NewContract,
 ) -> Result<Hash, HostErr>
     requires ready { MayRun host.old }
+    requires path { IsPathBelow path.items room }
     requires args { AreArgsHosted contract.args }
-    ensures does { (path : List ℕ) → DoesAround result (λ id. id)
+    ensures does { DoesAround result (λ id. id)
         (λ env. constructing (opener_of env room) (option_map address_of creator) id
-        (creation_of contract) path «module».now) host.old host.new }
+        (creation_of contract) path.items «module».now) host.old host.new }
     ensures stays { Stays host.old host.new }
 {
-    let alloc = host.allocator();
-    let args = given_args(alloc, contract.args);
+    let args = given_args(host.allocator(), contract.args);
     if !has_constructor(module) {
         return unless_args(id, args);
     }
@@ -460,7 +602,139 @@ fn construct<G: Ground>(
         code: contract.code,
         storage: None,
     };
-    let frame = running(alloc, id, creator, copy);
-    let returned = enter(host, room - 1, frame, module, b"__constructor", args);
-    constructed(id, returned)
+    let frame = running(host.allocator(), id, creator, copy);
+    match constructor_place(host.allocator(), args.as_slice(), path) {
+        Ok(place) => {
+            let returned = enter(host, room - 1, frame, place, module, args);
+            constructed(id, returned)
+        }
+        Err(error) => Err(error),
+    }
+}
+
+/// `require_auth`: Void, if the address authorises the running frame's call.
+#[cycle(calls)]
+fn auth_row<G: Ground>(host: &mut Host<'_, G>, room: u32, words: &[u64]) -> Result<Answer, HostErr>
+    requires ready { MayRun host.old }
+    requires path { HasRoom room host.old }
+    requires arity { length words.now ≡ 1 }
+    ensures does { DoesIn result answer_of
+        (λ env. answered (kinds.Address ∷ []) (require_auth env (opener_of env room)) words.now) host.old host.new }
+    ensures made { IsMadeIfOk result }
+    ensures stays { StaysIn host.old host.new }
+{
+    match auth_words(host, words) {
+        Ok(address) => match own_call(host) {
+            Ok(function) => demand_here(host, room, address, function),
+            Err(error) => Err(error),
+        },
+        Err(error) => Err(error),
+    }
+}
+
+/// `require_auth_for_args`: the same, with other arguments.
+#[cycle(calls)]
+fn auth_for_args_row<G: Ground>(
+    host: &mut Host<'_, G>,
+    room: u32,
+    words: &[u64],
+) -> Result<Answer, HostErr>
+    requires ready { MayRun host.old }
+    requires path { HasRoom room host.old }
+    requires arity { length words.now ≡ 2 }
+    ensures does { DoesIn result answer_of
+        (λ env. answered (kinds.Address ∷ kinds.Vec ∷ []) (require_auth_for_args env (opener_of env room)) words.now) host.old host.new }
+    ensures made { IsMadeIfOk result }
+    ensures stays { StaysIn host.old host.new }
+{
+    match auth_for_args_words(host, words) {
+        Ok(AuthArgs { address, args }) => match call_with(host, args) {
+            Ok(function) => demand_here(host, room, address, function),
+            Err(error) => Err(error),
+        },
+        Err(error) => Err(error),
+    }
+}
+
+/// Void, if an address authorises a function in the running frame.
+#[cycle(calls)]
+fn demand_here<G: Ground>(
+    host: &mut Host<'_, G>,
+    room: u32,
+    address: ScAddress,
+    function: Function,
+) -> Result<Answer, HostErr>
+    requires ready { MayRun host.old }
+    requires path { HasRoom room host.old }
+    ensures does { DoesIn result answer_of
+        (λ env. requires_here env (opener_of env room) address function) host.old host.new }
+    ensures made { IsMadeIfOk result }
+    ensures stays { StaysIn host.old host.new }
+{
+    let caller = contract_address(host.ledger.frame.caller);
+    let path = host.place.path.as_slice();
+    let met = host.marks.demand(path, caller, address, &function);
+    let settled = settle(host, room, met);
+    authorised(settled)
+}
+
+/// Ends a demand after the node that meets it, if one does, is used.
+#[cycle(calls)]
+fn settle<G: Ground>(host: &mut Host<'_, G>, room: u32, met: Demand) -> Result<(), HostErr>
+    requires ready { MayRun host.old }
+    requires room { HasRoom room host.old }
+    ensures does { DoesAround result (λ u. u) (λ env. settled env (opener_of env room) met) host.old host.new }
+    ensures stays { Stays host.old host.new }
+{
+    match met {
+        Demand::ByInvoker => Ok(()),
+        Demand::Denied => Err(DENIED),
+        Demand::Matched { first: false, .. } => Ok(()),
+        Demand::Matched { entry, first: true } => prove(host, room, entry),
+    }
+}
+
+/// Asks the address of an authorisation entry, whose root is used for the first time, to prove that it authorises.
+#[cycle(calls)]
+fn prove<G: Ground>(host: &mut Host<'_, G>, room: u32, entry: usize) -> Result<(), HostErr>
+    requires ready { MayRun host.old }
+    requires room { HasRoom room host.old }
+    ensures does { DoesAround result (λ u. u)
+        (λ env. proves_entry env (opener_of env room) (slice_get env.authority.entries entry)) host.old host.new }
+    ensures stays { Stays host.old host.new }
+{
+    match ask_entry(host, entry) {
+        Ok(Asked::Proved) => Ok(()),
+        Ok(Asked::ByContract { contract, args }) => check(host, room, contract, args),
+        Err(error) => Err(error),
+    }
+}
+
+/// Calls the function of a contract that checks an authorisation of the contract.
+#[cycle(calls)]
+fn check<G: Ground>(
+    host: &mut Host<'_, G>,
+    room: u32,
+    contract: Hash,
+    args: Vec<ScVal>,
+) -> Result<(), HostErr>
+    requires ready { MayRun host.old }
+    requires room { HasRoom room host.old }
+    requires args { AreHosted (datums args.items) }
+    ensures does { DoesAround result (λ u. u)
+        (λ env. asks_then env (opener_of env room) (by_contract contract (datums args.items))) host.old host.new }
+    ensures stays { Stays host.old host.new }
+{
+    let returned = call(
+        host,
+        room,
+        ContractCall {
+            caller: None,
+            by_host: true,
+            contract: ScAddress::Contract(contract),
+            function: b"__check_auth",
+            args,
+        },
+    );
+    checked(returned)
 }

@@ -1,6 +1,6 @@
 //! Creates, but for the constructor's run.
 
-ghost use Rattle.std.specs.Prelude.{◌≡◌, ◌==◌, ℕ, List, [], length, is_some, IfOk};
+ghost use Rattle.std.specs.Prelude.{◌≡◌, ◌==◌, ◌++◌, [], ◌∷◌, length, is_some, IfOk, IfErr};
 ghost use Rattle.std.specs.Option.{option_map, unwrap_or};
 ghost use Rattle.value_types.specs.Datum.{address as address_datum};
 ghost use Rattle.value_types.specs.Views.{datum, datums};
@@ -8,42 +8,37 @@ ghost use Rattle.value_types.specs.declared.address.ScAddress.TheVariants as add
 ghost use Rattle.wasm_spec.specs.Instances.{function_named};
 ghost use Rattle.host_spec.specs.Answers.{value};
 ghost use Rattle.host_spec.specs.Hosted.{IsHosted, AreHosted};
+ghost use Rattle.host_spec.specs.declared.error.HostErr.TheVariants as ends;
 ghost use Rattle.host_frame.specs.Answered.{answer_of};
 ghost use Rattle.host_frame.specs.Made.{IsAnswerMade};
 ghost use Rattle.contract_storage.specs.Stored.{IsLater, HasBounds};
-ghost use Rattle.call_spec.specs.World.{World, Env, next_seq};
-ghost use Rattle.call_spec.specs.Creating.{preimage_of, CONSTRUCTOR};
-ghost use Rattle.call_spec.specs.Outcomes.{Says};
+ghost use Rattle.call_spec.specs.World.{Env};
+ghost use Rattle.call_spec.specs.Creating.{function_of, CONSTRUCTOR};
 ghost use Rattle.host_ledger.specs.Accessed.{Accesses};
-ghost use Rattle.host_ledger.specs.Answered.{any};
-ghost use Rattle.host_ledger.specs.Worlds.{address_of, Serves, IsEnv, IsReady};
+ghost use Rattle.host_ledger.specs.Worlds.{IsReady};
 ghost use Rattle.call_parts.specs.Steps.{Steps, Charges};
 ghost use Rattle.contract_call.specs.Worlds.{DoesAround, MayRun, Stays};
-ghost use Rattle.contract_call.specs.Creations.{creation_of, args_of, AreArgsHosted};
-ghost use Rattle.contract_call.specs.Made.{new_id_of, demanding, code_of, sized, instantiating, building, making, IsValued, IsConstructed, unless_given};
+ghost use Rattle.contract_call.specs.Creations.{creation_of, args_of, items_of, AreArgsHosted};
+ghost use Rattle.contract_call.specs.Made.{identifying, code_of, sized, instantiating, building, IsValued, IsConstructed, unless_given};
+ghost use Rattle.contract_call.specs.Placed.{IsNewPlace};
 
 use crate::errors::{NO_FUNCTION, NOT_VOID};
 use crate::host::Host;
+use crate::place::{Place, below, clone_args, new_place};
 use crate::works::NewContract;
 use budget_meter::Budget;
-use call_parts::{demand, find_code, load_module, make_instance, new_id, paid_module};
+use call_parts::{find_code, load_module, make_instance, new_id, paid_module};
 use contract_storage::Storage;
 use entry_lookup::Ground;
 use host_frame::Answer;
 use host_ledger::{HostLedger, made_seq};
 use host_spec::HostErr;
-use ledger_types::{Header, Settings};
+use invoke_types::{CreateContractArgs, CreateContractArgsV2, Function, Preimage};
+use ledger_types::Settings;
 use module_loader::LinkedModule;
 use std::alloc::Global;
-use value_types::{Hash, ScAddress, ScVal};
+use value_types::{Executable, Hash, Items, ScAddress, ScVal};
 use wasm_run::function_named;
-
-/// A contract that was made, with the module of its code.
-#[derive(Drop)]
-pub(crate) struct Created {
-    pub id: Hash,
-    pub module: LinkedModule,
-}
 
 /// The length of a code, and the module that it encodes, if it encodes one.
 #[derive(Drop)]
@@ -52,31 +47,80 @@ struct SizedCode {
     pub module: Option<LinkedModule>,
 }
 
-/// The id of a new contract, after its charge and the demand of its deployer's authorisation.
-fn authorised_id(
-    alloc: Global,
-    budget: &mut Budget,
-    header: &Header,
-    creator: Option<Hash>,
+/// The id of a new contract, after its charge, over the ledger's state.
+fn paid_id_in<G: Ground>(
+    ledger: &mut HostLedger<'_, G>,
     contract: &NewContract,
 ) -> Result<Hash, HostErr>
-    ensures does { (env : Env) → env.header ≡ header.now → (path : List ℕ)
-        → Charges result (λ id. id) (demanding env (option_map address_of creator)
-        (creation_of contract.now) path) budget.old budget.new }
-    ensures id { IfOk result (λ id. id ≡ new_id_of header.now (creation_of contract.now)) }
+    ensures does { (env : Env) → env.header ≡ ledger.old.header.now
+        → Charges result (λ id. id) (identifying env (creation_of contract.now)) ledger.old.budget ledger.new.budget }
+    ensures kept { ledger.new ≡ record ledger.old { budget = ledger.new.budget } }
 {
-    match new_id(
-        alloc,
-        budget,
-        &header.network_id,
+    new_id(
+        ledger.objects.allocator(),
+        &mut ledger.budget,
+        &ledger.header.network_id,
         contract.deployer,
         contract.salt,
-    ) {
-        Err(error) => Err(error),
-        Ok(id) => match demand(creator, contract.deployer) {
+    )
+}
+
+/// The id of a new contract, after its charge.
+pub(crate) fn paid_id<G: Ground>(
+    host: &mut Host<'_, G>,
+    contract: &NewContract,
+) -> Result<Hash, HostErr>
+    requires ready { MayRun host.old }
+    ensures does { DoesAround result (λ id. id) (λ env. identifying env (creation_of contract.now)) host.old host.new }
+    ensures stays { Stays host.old host.new }
+{
+    paid_id_in(&mut host.ledger, contract)
+}
+
+/// Clones the arguments of a constructor. Its only error is memory.
+fn clone_given(alloc: Global, args: &Option<Vec<ScVal>>) -> Result<Option<Vec<ScVal>>, HostErr>
+    ensures ok { IfOk result (λ clone. option_map items_of clone ≡ option_map items_of args.now) }
+    ensures memory { IfErr result (λ e. e ≡ ends.NoMemory) }
+{
+    match args {
+        None => Ok(None),
+        Some(args) => match clone_args(alloc, args.as_slice()) {
+            Ok(args) => Ok(Some(args)),
             Err(error) => Err(error),
-            Ok(()) => Ok(id),
         },
+    }
+}
+
+/// The function of a create, as an authorisation names it.
+fn named_create(deployer: ScAddress, code: Hash, salt: Hash, args: Option<Vec<ScVal>>) -> Function
+    ensures { result ≡ function_of (creation_of (record { deployer = deployer; code = code; salt = salt; args = args })) }
+{
+    let preimage = Preimage::FromAddress {
+        address: deployer,
+        salt,
+    };
+    let executable = Executable::Wasm(code);
+    match args {
+        None => Function::CreateContract(CreateContractArgs {
+            preimage,
+            executable,
+        }),
+        Some(args) => Function::CreateContractV2(CreateContractArgsV2 {
+            preimage,
+            executable,
+            constructor_args: Items::from_vec(args),
+        }),
+    }
+}
+
+/// The function that the deployer of a new contract has to authorise. Its only error is memory.
+pub(crate) fn create_function(alloc: Global, contract: &NewContract) -> Result<Function, HostErr>
+    ensures ok { IfOk result (λ f. f ≡ function_of (creation_of contract.now)) }
+    ensures memory { IfErr result (λ e. e ≡ ends.NoMemory) }
+{
+    match clone_given(alloc, &contract.args) {
+        Ok(args) => Ok(named_create(contract.deployer, contract.code, contract.salt, args)),
+        Err(error) => Err(error),
     }
 }
 
@@ -148,83 +192,40 @@ fn build<G: Ground>(
     }
 }
 
-/// Makes a contract over the ledger's entries: its id, the authorisation of its deployer, its code, its instance.
-fn create_over<G: Ground>(
-    alloc: Global,
-    storage: &mut Storage<'_, G>,
-    budget: &mut Budget,
-    header: &Header,
-    creator: Option<Hash>,
-    contract: &NewContract,
-) -> Result<Created, HostErr>
-    requires bounds { HasBounds (next_seq header.now) header.now.settings }
-    requires number { storage.old.n ≡ next_seq header.now }
-    requires lives { storage.old.lives ≡ header.now.settings }
-    ensures does { (path : List ℕ) (env : Env) → env.header ≡ header.now → Serves env storage.old → (w : World)
-        → w.entries ≡ storage.old.map → w.meter ≡ budget.old
-        → Says any result (λ m. m.module) (making env (option_map address_of creator) (creation_of contract.now) path w)
-        (λ trace. record w { entries = storage.new.map; trace = trace; meter = budget.new }) }
-    ensures id { IfOk result (λ m. m.id ≡ new_id_of header.now (creation_of contract.now)) }
-    ensures later { IsLater storage.old storage.new }
-{
-    match authorised_id(alloc, budget, header, creator, contract) {
-        Err(error) => Err(error),
-        Ok(id) => {
-            let n = made_seq(header);
-            match build(
-                alloc,
-                storage,
-                budget,
-                n,
-                &header.settings,
-                id,
-                contract.code,
-            ) {
-                Err(error) => Err(error),
-                Ok(module) => Ok(Created { id, module }),
-            }
-        }
-    }
-}
-
-/// The same over the ledger's state.
-fn create_in<G: Ground>(
+/// Finds the code of a new contract, makes the contract's instance, and takes the code's module, over the ledger's state.
+fn build_in<G: Ground>(
     ledger: &mut HostLedger<'_, G>,
-    creator: Option<Hash>,
-    contract: &NewContract,
-) -> Result<Created, HostErr>
+    id: Hash,
+    code: Hash,
+) -> Result<LinkedModule, HostErr>
     requires ready { IsReady ledger.old }
-    ensures does { (path : List ℕ) (env : Env) → IsEnv env ledger.old → (w : World) → w.entries ≡ ledger.old.storage.map
-        → w.meter ≡ ledger.old.budget
-        → Says any result (λ m. m.module) (making env (option_map address_of creator) (creation_of contract.now) path w)
-        (λ trace. record w { entries = ledger.new.storage.map; trace = trace; meter = ledger.new.budget }) }
-    ensures id { IfOk result (λ m. m.id ≡ new_id_of ledger.old.header.now (creation_of contract.now)) }
+    ensures does { Steps result (λ m. m) (λ env. building env id code) ledger.old.storage ledger.new.storage ledger.old.budget ledger.new.budget }
     ensures later { IsLater ledger.old.storage ledger.new.storage }
     ensures kept { ledger.new ≡ record ledger.old { storage = ledger.new.storage; budget = ledger.new.budget } }
 {
-    create_over(
+    let n = made_seq(ledger.header);
+    build(
         ledger.objects.allocator(),
         &mut ledger.storage,
         &mut ledger.budget,
-        ledger.header,
-        creator,
-        contract,
+        n,
+        &ledger.header.settings,
+        id,
+        code,
     )
 }
 
-/// Makes a contract: its id, the authorisation of its deployer, its code, its instance.
+/// Makes the instance of a new contract with an id, and returns the module of its code.
 pub(crate) fn made<G: Ground>(
     host: &mut Host<'_, G>,
-    creator: Option<Hash>,
-    contract: &NewContract,
-) -> Result<Created, HostErr>
+    id: Hash,
+    code: Hash,
+) -> Result<LinkedModule, HostErr>
     requires ready { MayRun host.old }
-    ensures does { (path : List ℕ) → DoesAround result (λ m. m.module)
-        (λ env. making env (option_map address_of creator) (creation_of contract.now) path) host.old host.new }
-    ensures id { IfOk result (λ m. m.id ≡ new_id_of host.old.ledger.header.now (creation_of contract.now)) }
+    ensures does { DoesAround result (λ m. m) (λ env. building env id code) host.old host.new }
     ensures stays { Stays host.old host.new }
 {
-    create_in(&mut host.ledger, creator, contract)
+    build_in(&mut host.ledger, id, code)
 }
 
 /// The arguments of a constructor, none if there are none.
@@ -236,6 +237,21 @@ pub(crate) fn given_args(alloc: Global, args: Option<Vec<ScVal>>) -> Vec<ScVal>
     match args {
         Some(args) => args,
         None => Vec::new(alloc),
+    }
+}
+
+/// The place of a constructor's frame, below the path of its create. Its only error is memory.
+pub(crate) fn constructor_place(
+    alloc: Global,
+    args: &[ScVal],
+    path: Vec<u64>,
+) -> Result<Place, HostErr>
+    ensures ok { IfOk result (λ p. IsNewPlace p CONSTRUCTOR args.now (path.items ++ 1 ∷ [])) }
+    ensures memory { IfErr result (λ e. e ≡ ends.NoMemory) }
+{
+    match below(path, 1) {
+        Ok(path) => new_place(alloc, b"__constructor", args, path),
+        Err(error) => Err(error),
     }
 }
 

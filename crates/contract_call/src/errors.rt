@@ -28,5 +28,8 @@ pub(crate) const NO_FUNCTION: HostErr = HostErr::Failed(ScError::WasmVm(ScErrorC
 /// A hash or a salt that does not have 32 bytes.
 pub(crate) const OTHER_SIZE: HostErr = HostErr::Failed(ScError::Value(ScErrorCode::UnexpectedSize));
 
+/// No authorisation meets a demand.
+pub(crate) const DENIED: HostErr = HostErr::Failed(ScError::Auth(ScErrorCode::InvalidAction));
+
 /// What a contract sees of a failure of a contract that it called, if the failure is none of type CONTRACT.
 pub(crate) const HIDDEN_ERROR: ScError = ScError::Context(ScErrorCode::InvalidAction);

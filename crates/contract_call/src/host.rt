@@ -1,28 +1,37 @@
 //! The state of one transaction's run.
 
-ghost use Rattle.std.specs.Prelude.{◌≡◌, ◌-◌, ◌++◌, [], ◌∷◌, None, length, take, IfOk, OnOk, IfErr, OnErr};
+ghost use Rattle.std.specs.Prelude.{◌≡◌, ◌-◌, ◌++◌, ◌∷◌, [], All, None, length, take, IfOk, OnOk, IfErr, OnErr};
+ghost use Rattle.auth_types.specs.AuthEntry.{auth_entry_format};
 ghost use Rattle.host_spec.specs.declared.error.HostErr.TheVariants as ends;
 ghost use Rattle.contract_storage.specs.Stored.{HasBounds};
 ghost use Rattle.call_spec.specs.World.{next_seq};
-ghost use Rattle.contract_call.specs.Worlds.{MayRun};
+ghost use Rattle.contract_call.specs.Worlds.{numbered, IsOpened, IsClosed, MayRun};
 
+use crate::place::{Place, outermost};
+use auth_trees::Marks;
 use budget_meter::Budget;
 use contract_storage::Storage;
 use entry_lookup::Ground;
 use host_ledger::{Events, HostLedger, InstanceCopy, Running};
 use host_spec::HostErr;
-use ledger_types::Header;
+use ledger_types::{Header, Verdicts};
 use object_store::{Objects, Shown};
 use std::alloc::Global;
 use value_types::Hash;
 
-/// The state of one transaction's run: what the functions over the ledger work on, and the contracts with an open frame. It serves
-/// one `invoke`, `upload` or `create`.
+/// The state of one transaction's run: what the functions over the ledger work on, the contracts with an open frame, and what may
+/// meet demands of authorisation. It serves one `invoke`, `upload` or `create`.
 #[derive(Drop)]
 pub struct Host<'a, G: Ground> {
     pub ledger: HostLedger<'a, G>,
     /// The oldest first.
     pub open: Vec<Hash>,
+    /// The operation's authorisation entries, and which of their nodes met demands.
+    pub marks: Marks<'a>,
+    /// The signatures of accounts that are known to be good.
+    pub verdicts: &'a Verdicts,
+    /// Where the running frame is.
+    pub place: Place,
 }
 
 /// A frame that waits while another one runs, with its values.
@@ -30,6 +39,7 @@ pub struct Host<'a, G: Ground> {
 pub(crate) struct Waiting {
     pub frame: Running,
     pub objects: Objects,
+    pub place: Place,
 }
 
 /// The frame of no contract: the transaction itself.
@@ -51,21 +61,30 @@ fn outside(alloc: Global) -> Running
 
 impl<'a, G: Ground> Host<'a, G> {
     /// Makes a host without events and open frames. `header` is that of the ledger before the one that is made, with the close
-    /// time of the one that is made.
+    /// time of the one that is made. `marks` has the operation's authorisation entries.
     pub fn new(
         alloc: Global,
         storage: Storage<'a, G>,
         header: &'a Header,
         budget: Budget,
+        marks: Marks<'a>,
+        verdicts: &'a Verdicts,
     ) -> Host<'a, G>
         requires bounds { HasBounds (next_seq header.now) header.now.settings }
         requires number { storage.n ≡ next_seq header.now }
         requires lives { storage.lives ≡ header.now.settings }
+        requires entries { All auth_entry_format.fits marks.entries }
         ensures storage { result.ledger.storage ≡ storage.entry }
         ensures header { result.ledger.header.now ≡ header.now }
         ensures budget { result.ledger.budget ≡ budget }
         ensures events { result.ledger.events ≡ [] }
         ensures contracts { result.open.items ≡ [] }
+        ensures marks { result.marks ≡ marks.entry }
+        ensures verdicts { result.verdicts.now ≡ verdicts.now }
+        ensures function { result.place.function.items ≡ [] }
+        ensures args { result.place.args.items ≡ [] }
+        ensures path { result.place.path.items ≡ [] }
+        ensures begun { result.place.begun ≡ 0 }
         ensures ready { MayRun result }
     {
         Host {
@@ -78,6 +97,9 @@ impl<'a, G: Ground> Host<'a, G> {
                 frame: outside(alloc),
             },
             open: Vec::new(alloc),
+            marks,
+            verdicts,
+            place: outermost(alloc),
         }
     }
 
@@ -89,9 +111,9 @@ impl<'a, G: Ground> Host<'a, G> {
     /// Appends a contract to those with an open frame. Its only error is memory.
     fn push(&mut self, contract: Hash) -> Result<(), HostErr>
         ensures ok { OnOk result (self.new.open.items ≡ self.old.open.items ++ contract ∷ []) }
-        ensures err { OnErr result (self.new.open.items ≡ self.old.open.items) }
         ensures memory { IfErr result (λ e. e ≡ ends.NoMemory) }
-        ensures ledger { self.new.ledger ≡ self.old.ledger }
+        ensures err { OnErr result (self.new.open.items ≡ self.old.open.items) }
+        ensures rest { self.new ≡ record self.old { «open» = self.new.open } }
     {
         match self.open.push(contract) {
             Ok(()) => Ok(()),
@@ -100,12 +122,15 @@ impl<'a, G: Ground> Host<'a, G> {
     }
 
     /// Opens a frame, which has shown nothing yet. Returns the frame that waits. Its only error is memory.
-    pub(crate) fn open_frame(&mut self, frame: Running) -> Result<Waiting, HostErr>
-        ensures waiting { IfOk result (λ w. (w.frame ≡ self.old.ledger.frame) × (w.objects ≡ self.old.ledger.objects)) }
-        ensures frame { OnOk result (self.new.ledger ≡ record self.old.ledger { objects = []; frame = frame }) }
+    pub(crate) fn open_frame(&mut self, frame: Running, place: Place) -> Result<Waiting, HostErr>
+        ensures waiting { IfOk result (λ w. w.frame ≡ self.old.ledger.frame) }
+        ensures objects { IfOk result (λ w. w.objects ≡ self.old.ledger.objects) }
+        ensures place { IfOk result (λ w. w.place ≡ self.old.place) }
+        ensures frame { OnOk result (IsOpened frame place self.old self.new) }
         ensures contracts { OnOk result (self.new.open.items ≡ self.old.open.items ++ frame.contract ∷ []) }
         ensures memory { IfErr result (λ e. e ≡ ends.NoMemory) }
-        ensures err { OnErr result ((self.new.ledger ≡ self.old.ledger) × (self.new.open.items ≡ self.old.open.items)) }
+        ensures err { OnErr result (self.new ≡ record self.old { «open» = self.new.open }) }
+        ensures same { OnErr result (self.new.open.items ≡ self.old.open.items) }
     {
         let alloc = self.allocator();
         match self.push(frame.contract) {
@@ -113,18 +138,35 @@ impl<'a, G: Ground> Host<'a, G> {
             Ok(()) => {
                 let objects = std::mem::replace(&mut self.ledger.objects, Objects::new(alloc));
                 let frame = std::mem::replace(&mut self.ledger.frame, frame);
-                Ok(Waiting { frame, objects })
+                let place = std::mem::replace(&mut self.place, place);
+                Ok(Waiting {
+                    frame,
+                    objects,
+                    place,
+                })
             }
         }
     }
 
     /// Closes the running frame, and goes back to the one that waits.
     pub(crate) fn close_frame(&mut self, waiting: Waiting)
-        ensures frame { self.new.ledger ≡ record self.old.ledger { objects = waiting.objects; frame = waiting.frame } }
+        ensures frame { IsClosed waiting.objects waiting.frame waiting.place self.old self.new }
         ensures contracts { self.new.open.items ≡ take (length self.old.open.items - 1) self.old.open.items }
     {
         self.ledger.objects = waiting.objects;
         self.ledger.frame = waiting.frame;
+        self.place = waiting.place;
         let _contract = self.open.pop();
+    }
+
+    /// Counts a call or create that the running frame begins, and returns its path. Its only error is memory.
+    pub(crate) fn begin(&mut self) -> Result<Vec<u64>, HostErr>
+        ensures path { IfOk result (λ path. path.items ≡ self.old.place.path.items ++ self.old.place.begun ∷ []) }
+        ensures count { IfOk result (λ path. self.new ≡ numbered self.old) }
+        ensures err { IfErr result (λ e. self.new ≡ self.old) }
+        ensures memory { IfErr result (λ e. e ≡ ends.NoMemory) }
+    {
+        let alloc = self.allocator();
+        self.place.begin(alloc)
     }
 }

@@ -2,10 +2,10 @@
 //!
 //! 1. A frame runs its code in an instance of `wasm_run`, which stops at each call of an import. `answer` finds the crate whose
 //!    function it is, or makes the call itself, and the instance goes on with the word. So a call runs above its caller's frame,
-//!    and a cycle of functions carries them, at most 64 frames deep.
+//!    and a cycle of functions carries them, at most 64 frames deep. A demand of authorisation is part of the cycle: a contract
+//!    that is asked runs in a frame of its own.
 //! 2. The clauses compare a function with an act of call_spec, from every world that the host's state shows: end, value, trace of
-//!    accesses, entries, events and sums. What the state does not hold, such as the authorisations that were used, is the same in
-//!    both worlds.
+//!    accesses, entries, events, used authorisations and sums. What the state does not hold is the same in both worlds.
 //!
 //!    | clause | the running frame |
 //!    |---|---|
@@ -16,16 +16,18 @@
 //!    | `RunsIn` | the state's frame, whose linear memory may change |
 //!
 //! 3. `Stays` says what a call may not touch: the ledger's header, the frame and the values of its caller, and the open contracts.
-//!    Its writes and events are added to those before.
+//!    Its writes, its events and the authorisations that it uses are added to those before.
 //! 4. A call that fails goes back to the state before it, without memory. No other end is caught.
 #![tactic(auto)]
 
 mod calls;
 mod creating;
+mod demands;
 mod errors;
 mod frames;
 mod host;
 mod parts;
+mod place;
 mod rows;
 mod running;
 mod targets;
@@ -34,4 +36,5 @@ mod words;
 mod works;
 
 pub use host::Host;
+pub use place::Place;
 pub use works::{NewContract, create, invoke, upload};

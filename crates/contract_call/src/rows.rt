@@ -15,7 +15,6 @@ ghost use Rattle.host_frame.specs.Made.{IsAnswerMade, IsMemory};
 ghost use Rattle.call_spec.specs.World.{Access, Copied, World, Env, next_seq};
 ghost use Rattle.call_spec.specs.Acts.{Act, after, lift};
 ghost use Rattle.call_spec.specs.Creating.{uploads, upload_wasm};
-ghost use Rattle.call_spec.specs.Demands.{requires as demands, require_auth, require_auth_for_args};
 ghost use Rattle.call_spec.specs.Frames.{Opener};
 ghost use Rattle.call_spec.specs.HostFunctions.{host_function};
 ghost use Rattle.call_spec.specs.Outcomes.{Says};
@@ -31,7 +30,7 @@ ghost use Rattle.contract_call.specs.Running.{DoesOver, StaysIn};
 
 use crate::host::Host;
 use budget_meter::Budget;
-use call_parts::{demand, upload};
+use call_parts::upload;
 use contract_storage::Storage;
 use entry_lookup::Ground;
 use host_frame::{Answer, Values, enter, give};
@@ -41,7 +40,7 @@ use host_spec::HostErr;
 use host_values::call_function;
 use ledger_types::Header;
 use std::alloc::Global;
-use value_types::{Hash, ScAddress};
+use value_types::Hash;
 
 /// Calls a function over values, over the ledger's state.
 fn value_in<G: Ground>(
@@ -220,108 +219,6 @@ pub(crate) fn upload_row<G: Ground>(
 {
     match words {
         [a] => upload_in(&mut host.ledger, *a),
-        _ => unreachable!(),
-    }
-}
-
-/// Void, if the caller authorises a call: it has to be the contract with this address.
-fn authorised(caller: Option<Hash>, address: ScAddress) -> Result<Answer, HostErr>
-    ensures does { (args : List Datum) (w : World) → w.frame.caller ≡ option_map address_of caller
-        → Says any result answer_of (demands address args w.frame w) (λ trace. w) }
-    ensures made { IsMadeIfOk result }
-{
-    match demand(caller, address) {
-        Ok(()) => Ok(Answer::void()),
-        Err(error) => Err(error),
-    }
-}
-
-/// The body of `require_auth`.
-fn auth_body(
-    budget: &mut Budget,
-    values: &Values<'_>,
-    caller: Option<Hash>,
-    a: u64,
-) -> Result<Answer, HostErr>
-    ensures does { (w : World) → w.meter ≡ budget.old → w.frame.shown ≡ values.now → w.frame.caller ≡ option_map address_of caller
-        → Says any result answer_of (answered (kinds.Address ∷ []) require_auth (a ∷ []) w)
-        (λ trace. record w { meter = budget.new }) }
-    ensures made { IsMadeIfOk result }
-{
-    let address = values.address(a)?;
-    enter(budget, &[a])?;
-    authorised(caller, address)
-}
-
-/// `require_auth` over the ledger's state.
-fn auth_in<G: Ground>(ledger: &mut HostLedger<'_, G>, a: u64) -> Result<Answer, HostErr>
-    requires { IsReady ledger.old }
-    ensures { Answers result (kinds.Address ∷ []) (λ _. require_auth) (a ∷ []) ledger.old ledger.new }
-{
-    let values = Values::new(&ledger.objects, &ledger.frame.shown);
-    auth_body(&mut ledger.budget, &values, ledger.frame.caller, a)
-}
-
-/// `require_auth`: Void, if the running frame's caller has this address.
-pub(crate) fn auth_row<G: Ground>(host: &mut Host<'_, G>, words: &[u64]) -> Result<Answer, HostErr>
-    requires ready { MayRun host.old }
-    requires arity { length words.now ≡ 1 }
-    ensures does { DoesIn result answer_of (λ env. answered (kinds.Address ∷ []) require_auth words.now) host.old host.new }
-    ensures made { IsMadeIfOk result }
-    ensures stays { StaysIn host.old host.new }
-{
-    match words {
-        [a] => auth_in(&mut host.ledger, *a),
-        _ => unreachable!(),
-    }
-}
-
-/// The body of `require_auth_for_args`.
-fn auth_for_args_body(
-    budget: &mut Budget,
-    values: &Values<'_>,
-    caller: Option<Hash>,
-    a: u64,
-    b: u64,
-) -> Result<Answer, HostErr>
-    ensures does { (w : World) → w.meter ≡ budget.old → w.frame.shown ≡ values.now → w.frame.caller ≡ option_map address_of caller
-        → Says any result answer_of (answered (kinds.Address ∷ kinds.Vec ∷ []) require_auth_for_args (a ∷ b ∷ []) w)
-        (λ trace. record w { meter = budget.new }) }
-    ensures made { IsMadeIfOk result }
-{
-    let address = values.address(a)?;
-    let _args = values.vec(b)?;
-    enter(budget, &[a, b])?;
-    authorised(caller, address)
-}
-
-/// `require_auth_for_args` over the ledger's state.
-fn auth_for_args_in<G: Ground>(
-    ledger: &mut HostLedger<'_, G>,
-    a: u64,
-    b: u64,
-) -> Result<Answer, HostErr>
-    requires { IsReady ledger.old }
-    ensures { Answers result (kinds.Address ∷ kinds.Vec ∷ []) (λ _. require_auth_for_args) (a ∷ b ∷ []) ledger.old ledger.new }
-{
-    let values = Values::new(&ledger.objects, &ledger.frame.shown);
-    auth_for_args_body(&mut ledger.budget, &values, ledger.frame.caller, a, b)
-}
-
-/// `require_auth_for_args`: the same, with other arguments.
-pub(crate) fn auth_for_args_row<G: Ground>(
-    host: &mut Host<'_, G>,
-    words: &[u64],
-) -> Result<Answer, HostErr>
-    requires ready { MayRun host.old }
-    requires arity { length words.now ≡ 2 }
-    ensures does { DoesIn result answer_of
-        (λ env. answered (kinds.Address ∷ kinds.Vec ∷ []) require_auth_for_args words.now) host.old host.new }
-    ensures made { IsMadeIfOk result }
-    ensures stays { StaysIn host.old host.new }
-{
-    match words {
-        [a, b] => auth_for_args_in(&mut host.ledger, *a, *b),
         _ => unreachable!(),
     }
 }

@@ -12,7 +12,7 @@ ghost use Rattle.call_parts.specs.Steps.{Steps};
 ghost use Rattle.host_ledger.specs.Answered.{any};
 ghost use Rattle.host_ledger.specs.Worlds.{Serves, IsHeld, copied};
 ghost use Rattle.contract_call.specs.Worlds.{DoesAround, MayRun, Stays};
-ghost use Rattle.contract_call.specs.Targets.{tests, target, module_at, target_at as target_at_in, target_of as target_of_in};
+ghost use Rattle.contract_call.specs.Targets.{may_name as may_name_in, tests, target, module_at, target_at as target_at_in, target_of as target_of_in};
 
 use crate::errors::{OTHER_TYPE, REENTERED, RESERVED_NAME};
 use crate::host::Host;
@@ -31,6 +31,8 @@ use value_types::{Hash, ScAddress, ScVal};
 pub(crate) struct ContractCall<'c> {
     /// The contract that calls, if a contract does.
     pub caller: Option<Hash>,
+    /// Whether the host itself calls.
+    pub by_host: bool,
     pub contract: ScAddress,
     pub function: &'c [u8],
     pub args: Vec<ScVal>,
@@ -51,6 +53,13 @@ fn is_reserved(function: &[u8]) -> bool
     function.starts_with(b"__")
 }
 
+/// Whether the caller may call a function of this name.
+pub(crate) fn may_name(call: &ContractCall<'_>) -> bool
+    ensures { result ≡ may_name_in call.now }
+{
+    call.by_host || !is_reserved(call.function)
+}
+
 /// Whether a contract has an open frame. The newest frames are last.
 fn is_running(open: &[Hash], contract: Hash) -> bool
     ensures { result ≡ list_any (λ other. bytes_eq contract.0 other.0) (reverse open.now) }
@@ -58,15 +67,15 @@ fn is_running(open: &[Hash], contract: Hash) -> bool
     open.iter().rev().any(|other| contract == *other)
 }
 
-/// The contract at the address, if its function may be called now.
-fn admitted(open: &[Hash], address: ScAddress, function: &[u8]) -> Result<Hash, HostErr>
+/// The contract at the address, if its function may be called now. `named` says whether the caller may call a function of its name.
+fn admitted(open: &[Hash], address: ScAddress, named: bool) -> Result<Hash, HostErr>
     ensures { (w : World) → w.contracts ≡ reverse open.now
-        → Says any result (λ c. c) (tests function.now address (λ c. gives c) w) (λ trace. w) }
+        → Says any result (λ c. c) (tests named address (λ c. gives c) w) (λ trace. w) }
 {
     let ScAddress::Contract(contract) = address else {
         return Err(OTHER_TYPE);
     };
-    if is_reserved(function) {
+    if !named {
         return Err(RESERVED_NAME);
     }
     if is_running(open, contract) {
@@ -121,15 +130,15 @@ pub(crate) fn target_of<G: Ground>(
     storage: &Storage<'_, G>,
     budget: &mut Budget,
     address: ScAddress,
-    function: &[u8],
+    named: bool,
 ) -> Result<Target, HostErr>
     ensures does { (env : Env) → Serves env storage.now → (w : World) → w.entries ≡ storage.now.map → w.meter ≡ budget.old
         → w.contracts ≡ reverse open.now
-        → Says any result target (target_of_in function.now address env w)
+        → Says any result target (target_of_in named address env w)
         (λ trace. record w { trace = trace; meter = budget.new }) }
     ensures held { IfOk result (λ t. IsHeld t.copy.storage) }
 {
-    match admitted(open, address, function) {
+    match admitted(open, address, named) {
         Ok(contract) => target_at(alloc, storage, budget, contract),
         Err(error) => Err(error),
     }
@@ -140,11 +149,11 @@ fn target_in<G: Ground>(
     ledger: &mut HostLedger<'_, G>,
     open: &[Hash],
     contract: ScAddress,
-    function: &[u8],
+    named: bool,
 ) -> Result<Target, HostErr>
     ensures does { (env : Env) → Serves env ledger.old.storage → (w : World) → w.entries ≡ ledger.old.storage.map
         → w.meter ≡ ledger.old.budget → w.contracts ≡ reverse open.now
-        → Says any result target (target_of_in function.now contract env w)
+        → Says any result target (target_of_in named contract env w)
         (λ trace. record w { trace = trace; meter = ledger.new.budget }) }
     ensures held { IfOk result (λ t. IsHeld t.copy.storage) }
     ensures stays { ledger.new ≡ record ledger.old { budget = ledger.new.budget } }
@@ -155,7 +164,7 @@ fn target_in<G: Ground>(
         &ledger.storage,
         &mut ledger.budget,
         contract,
-        function,
+        named,
     )
 }
 
@@ -163,12 +172,12 @@ fn target_in<G: Ground>(
 pub(crate) fn find_target<G: Ground>(
     host: &mut Host<'_, G>,
     contract: ScAddress,
-    function: &[u8],
+    named: bool,
 ) -> Result<Target, HostErr>
     requires ready { MayRun host.old }
-    ensures does { DoesAround result target (target_of_in function.now contract) host.old host.new }
+    ensures does { DoesAround result target (target_of_in named contract) host.old host.new }
     ensures held { IfOk result (λ t. IsHeld t.copy.storage) }
     ensures stays { Stays host.old host.new }
 {
-    target_in(&mut host.ledger, &host.open, contract, function)
+    target_in(&mut host.ledger, &host.open, contract, named)
 }

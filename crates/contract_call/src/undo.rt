@@ -1,6 +1,6 @@
 //! Failures that leave the state as it was.
 
-ghost use Rattle.std.specs.Prelude.{◌≡◌, ◌≤◌, length, IfOk};
+ghost use Rattle.std.specs.Prelude.{◌≡◌, IfOk};
 ghost use Rattle.value_types.specs.Datum.{Datum, error as error_datum};
 ghost use Rattle.value_types.specs.Views.{datum};
 ghost use Rattle.host_spec.specs.Hosted.{IsHosted};
@@ -9,11 +9,12 @@ ghost use Rattle.call_spec.specs.Acts.{Act};
 ghost use Rattle.call_spec.specs.Calling.{catching};
 ghost use Rattle.call_spec.specs.Frames.{passed_on as passed_on_in};
 ghost use Rattle.contract_call.specs.Worlds.{DoesAround, Stays};
-ghost use Rattle.contract_call.specs.Undone.{Marks, IsBack, Undoes, Catches};
+ghost use Rattle.contract_call.specs.Undone.{IsMark, IsWithin, IsBack, Undoes, Catches};
 ghost use Rattle.contract_call.specs.declared.host.Host.{Host as Host'};
 
 use crate::errors::HIDDEN_ERROR;
 use crate::host::Host;
+use auth_trees::Point as MarksPoint;
 use contract_storage::Point;
 use entry_lookup::Ground;
 use host_spec::HostErr;
@@ -25,33 +26,35 @@ pub(crate) struct Mark {
     pub storage: Point,
     /// The number of events.
     pub events: usize,
+    pub marks: MarksPoint,
 }
 
 impl<'a, G: Ground> Host<'a, G> {
-    /// Marks the state of the ledger and of the events.
+    /// Marks the state of the ledger, of the events and of the authorisations that were used.
     pub(crate) fn mark(&self) -> Mark
-        ensures storage { result.storage.writes ≡ length self.now.ledger.storage.past }
-        ensures events { result.events ≡ length self.now.ledger.events }
+        ensures { IsMark result self.now }
     {
         Mark {
             storage: self.ledger.storage.snapshot(),
             events: self.ledger.events.len(),
+            marks: self.marks.snapshot(),
         }
     }
 
-    /// Goes back to the ledger's entries and the events of a mark. It takes no memory.
+    /// Goes back to the ledger's entries, the events and the used authorisations of a mark. It takes no memory.
     fn restore(&mut self, mark: Mark)
-        requires { mark.storage.writes ≤ length self.old.ledger.storage.past }
+        requires { IsWithin mark self.old }
         ensures { IsBack mark self.old self.new }
     {
         self.ledger.storage.restore(mark.storage);
         self.ledger.events.truncate(mark.events);
+        self.marks.restore(mark.marks);
     }
 }
 
 /// Goes back to a mark if the end is a failure, and returns the end.
 pub(crate) fn undo<G: Ground>(host: &mut Host<'_, G>, mark: Mark, error: HostErr) -> HostErr
-    requires { mark.storage.writes ≤ length host.old.ledger.storage.past }
+    requires { IsWithin mark host.old }
     ensures same { result ≡ error }
     ensures undoes { Undoes mark error host.old host.new }
 {
@@ -89,7 +92,7 @@ fn caught_end<G: Ground>(
     mark: Mark,
     error: HostErr,
 ) -> Result<ScVal, HostErr>
-    requires { mark.storage.writes ≤ length host.old.ledger.storage.past }
+    requires { IsWithin mark host.old }
     ensures catches { Catches mark error result host.old host.new }
     ensures hosted { IfOk result (λ value. IsHosted (datum value)) }
 {
@@ -109,11 +112,11 @@ pub(crate) fn caught<G: Ground>(
     made: Result<ScVal, HostErr>,
 ) -> Result<ScVal, HostErr>
     requires made { IfOk made (λ value. IsHosted (datum value)) }
-    requires room { mark.storage.writes ≤ length host.old.ledger.storage.past }
-    ensures does { (start : Host' G) (act : Env → Act Datum) → Marks mark start → Stays start host.old
+    requires room { IsWithin mark host.old }
+    ensures does { (start : Host' G) (act : Env → Act Datum) → IsMark mark start → Stays start host.old
         → DoesAround made datum act start host.old
         → DoesAround result datum (λ env. catching (act env)) start host.new }
-    ensures stays { (start : Host' G) → Marks mark start → Stays start host.old → Stays start host.new }
+    ensures stays { (start : Host' G) → IsMark mark start → Stays start host.old → Stays start host.new }
     ensures hosted { IfOk result (λ value. IsHosted (datum value)) }
 {
     match made {

@@ -40,6 +40,13 @@ pub(crate) struct CallArgs {
     pub args: Vec<ScVal>,
 }
 
+/// The arguments of `require_auth_for_args`.
+#[derive(Drop)]
+pub(crate) struct AuthArgs {
+    pub address: ScAddress,
+    pub args: Vec<ScVal>,
+}
+
 /// Clones bytes. Its only error is memory.
 fn clone_bytes(alloc: Global, bytes: &[u8]) -> Result<Vec<u8>, ValueErr>
     ensures ok { IfOk result (λ v. v.items ≡ bytes.now) }
@@ -270,6 +277,93 @@ pub(crate) fn construct_words<G: Ground>(
 {
     match words {
         [a, b, c, d] => construct_taken(&mut host.ledger, *a, *b, *c, *d),
+        _ => unreachable!(),
+    }
+}
+
+/// The argument of `require_auth`, after the charges of the call.
+fn auth_address(values: &Values<'_>, budget: &mut Budget, a: u64) -> Result<ScAddress, HostErr>
+    ensures takes { (rule : Rule (kinds.Address ∷ []))
+        → Takes result (answered (kinds.Address ∷ []) rule (a ∷ [])) (λ x. rule x) values.now budget.old budget.new }
+{
+    let address = values.address(a)?;
+    enter(budget, &[a])?;
+    Ok(address)
+}
+
+/// The argument of `require_auth` by the ledger's running frame.
+fn auth_taken<G: Ground>(ledger: &mut HostLedger<'_, G>, a: u64) -> Result<ScAddress, HostErr>
+    requires { AreIndices ledger.old.objects ledger.old.frame.shown }
+    ensures takes { (rule : Rule (kinds.Address ∷ []))
+        → Takes result (answered (kinds.Address ∷ []) rule (a ∷ [])) (λ x. rule x)
+        (shown_of ledger.old.objects ledger.old.frame.shown) ledger.old.budget ledger.new.budget }
+    ensures paid { ledger.new ≡ record ledger.old { budget = ledger.new.budget } }
+{
+    let values = Values::new(&ledger.objects, &ledger.frame.shown);
+    auth_address(&values, &mut ledger.budget, a)
+}
+
+/// The argument of `require_auth` by the running frame.
+pub(crate) fn auth_words<G: Ground>(
+    host: &mut Host<'_, G>,
+    words: &[u64],
+) -> Result<ScAddress, HostErr>
+    requires ready { MayRun host.old }
+    requires arity { length words.now ≡ 1 }
+    ensures takes { (rule : Env → Rule (kinds.Address ∷ []))
+        → TakesIn result (λ env. answered (kinds.Address ∷ []) (rule env) words.now) (λ env x. rule env x) host.old host.new }
+    ensures stays { StaysIn host.old host.new }
+{
+    match words {
+        [a] => auth_taken(&mut host.ledger, *a),
+        _ => unreachable!(),
+    }
+}
+
+/// The arguments of `require_auth_for_args`, after the charges of the call.
+fn auth_args(values: &Values<'_>, budget: &mut Budget, a: u64, b: u64) -> Result<AuthArgs, HostErr>
+    ensures takes { (rule : Rule (kinds.Address ∷ kinds.Vec ∷ []))
+        → Takes result (answered (kinds.Address ∷ kinds.Vec ∷ []) rule (a ∷ b ∷ []))
+        (λ x. rule x.address (datums x.args.items)) values.now budget.old budget.new }
+{
+    let address = values.address(a)?;
+    let args = values.vec(b)?;
+    enter(budget, &[a, b])?;
+    let args = clone_values(values.allocator(), args)?;
+    Ok(AuthArgs { address, args })
+}
+
+/// The arguments of `require_auth_for_args` by the ledger's running frame.
+fn auth_for_args_taken<G: Ground>(
+    ledger: &mut HostLedger<'_, G>,
+    a: u64,
+    b: u64,
+) -> Result<AuthArgs, HostErr>
+    requires { AreIndices ledger.old.objects ledger.old.frame.shown }
+    ensures takes { (rule : Rule (kinds.Address ∷ kinds.Vec ∷ []))
+        → Takes result (answered (kinds.Address ∷ kinds.Vec ∷ []) rule (a ∷ b ∷ []))
+        (λ x. rule x.address (datums x.args.items))
+        (shown_of ledger.old.objects ledger.old.frame.shown) ledger.old.budget ledger.new.budget }
+    ensures paid { ledger.new ≡ record ledger.old { budget = ledger.new.budget } }
+{
+    let values = Values::new(&ledger.objects, &ledger.frame.shown);
+    auth_args(&values, &mut ledger.budget, a, b)
+}
+
+/// The arguments of `require_auth_for_args` by the running frame.
+pub(crate) fn auth_for_args_words<G: Ground>(
+    host: &mut Host<'_, G>,
+    words: &[u64],
+) -> Result<AuthArgs, HostErr>
+    requires ready { MayRun host.old }
+    requires arity { length words.now ≡ 2 }
+    ensures takes { (rule : Env → Rule (kinds.Address ∷ kinds.Vec ∷ []))
+        → TakesIn result (λ env. answered (kinds.Address ∷ kinds.Vec ∷ []) (rule env) words.now)
+        (λ env x. rule env x.address (datums x.args.items)) host.old host.new }
+    ensures stays { StaysIn host.old host.new }
+{
+    match words {
+        [a, b] => auth_for_args_taken(&mut host.ledger, *a, *b),
         _ => unreachable!(),
     }
 }

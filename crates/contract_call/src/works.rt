@@ -15,6 +15,7 @@ ghost use Rattle.call_spec.specs.WholeRuns.{calling, uploading, creating, done_u
 ghost use Rattle.contract_call.specs.Worlds.{DoesAround, MayRun};
 ghost use Rattle.contract_call.specs.Creations.{creation_of, AreArgsHosted};
 ghost use Rattle.contract_call.specs.Ended.{Ends};
+ghost use Rattle.contract_call.specs.Placed.{HasRoom};
 
 use crate::calls;
 use crate::host::Host;
@@ -40,9 +41,10 @@ pub fn invoke<G: Ground>(
     args: Vec<ScVal>,
 ) -> Result<ScVal, HostErr>
     requires ready { MayRun host.old }
+    requires path { HasRoom 64 host.old }
     requires args { AreHosted (datums args.items) }
     ensures does { DoesAround result datum
-        (λ env. done_under env.judge env.header (calling contract function.now (datums args.items))) host.old host.new }
+        (λ env. done_under env.judge env.header env.authority (calling contract function.now (datums args.items))) host.old host.new }
     ensures ends { Ends (calling contract function.now (datums args.items)) result datum host.old host.new }
     ensures base { host.new.ledger.storage.base ≡ host.old.ledger.storage.base }
     ensures hosted { IfOk result (λ value. IsHosted (datum value)) }
@@ -50,6 +52,7 @@ pub fn invoke<G: Ground>(
     let mark = host.mark();
     let call = ContractCall {
         caller: None,
+        by_host: false,
         contract,
         function,
         args,
@@ -84,7 +87,7 @@ pub fn upload<G: Ground>(host: &mut Host<'_, G>, code: &[u8]) -> Result<Hash, Ho
     requires ready { MayRun host.old }
     requires size { length code.now < 2 ^ 32 }
     ensures does { DoesAround result (λ hash. bytes hash.0)
-        (λ env. done_under env.judge env.header (uploading code.now)) host.old host.new }
+        (λ env. done_under env.judge env.header env.authority (uploading code.now)) host.old host.new }
     ensures ends { Ends (uploading code.now) result (λ hash. bytes hash.0) host.old host.new }
     ensures base { host.new.ledger.storage.base ≡ host.old.ledger.storage.base }
 {
@@ -108,9 +111,10 @@ pub struct NewContract {
 /// Makes a contract and calls its constructor, if it has one. Returns the contract's id.
 pub fn create<G: Ground>(host: &mut Host<'_, G>, contract: NewContract) -> Result<Hash, HostErr>
     requires ready { MayRun host.old }
+    requires path { HasRoom 64 host.old }
     requires args { AreArgsHosted contract.args }
     ensures does { DoesAround result (λ id. address_datum (addresses.Contract id))
-        (λ env. done_under env.judge env.header (creating (creation_of contract))) host.old host.new }
+        (λ env. done_under env.judge env.header env.authority (creating (creation_of contract))) host.old host.new }
     ensures ends { Ends (creating (creation_of contract)) result (λ id. address_datum (addresses.Contract id)) host.old host.new }
     ensures base { host.new.ledger.storage.base ≡ host.old.ledger.storage.base }
 {

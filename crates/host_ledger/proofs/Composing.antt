@@ -1,6 +1,5 @@
 -- One act after another.
 use Rattle.std.proofs.Common.{List, Result, Ok, Err, sym, ap, subst}
-use Rattle.ledger_spec.specs.LedgerMap.{LedgerMap}
 use Rattle.host_spec.specs.declared.error.HostErr.{HostErr}
 use Rattle.host_spec.specs.declared.error.HostErr.TheVariants as ends
 use Rattle.contract_storage.specs.Stored.{Stored, IsLater}

@@ -1,7 +1,7 @@
 -- Sums of bytes that stop at 2^64 - 1, and the entries that they count.
-use Rattle.std.specs.List.{sum_by, list_any}
+use Rattle.std.specs.List.{sum_by}
 use Rattle.std.specs.Prelude.{nat_le}
-use Rattle.std.proofs.Common.{◌≡◌, ℕ, ◌+◌, ◌<◌, ◌≤◌, ◌^◌, Bool, true, false, cond, nat_lt, List, ◌++◌, length, get_or, take, Option, Some, None, IfSome, refl, sym, ap, ap₂, subst, ◌∙◌, arith}
+use Rattle.std.proofs.Common.{◌≡◌, ℕ, ◌+◌, ◌<◌, ◌≤◌, ◌^◌, Bool, true, false, cond, nat_lt, List, ◌++◌, length, get_or, take, Option, Some, IfSome, sym, ap, ap₂, subst, ◌∙◌, arith}
 use Rattle.std.proofs.lemmas.Bool.Decides.{nat_tests}
 use Rattle.std.proofs.lemmas.List.Sums.{sum_by_more, sum_by-append}
 use Rattle.xdr_core.specs.Sizes.{capped}

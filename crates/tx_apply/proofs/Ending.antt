@@ -19,10 +19,10 @@ use Rattle.call_spec.specs.World.{Judge, Access, World}
 use Rattle.call_spec.specs.Acts.{Failed, Spent, Archived, Out, Good, Bad, Undeclared, world_of, then_do, gives, lifted, paying}
 use Rattle.call_spec.specs.Footprints.{by_footprint, first_rejected}
 use Rattle.call_spec.specs.WholeRuns.{Work, all_allowed, done_under}
-use Rattle.contract_call.specs.Worlds.{world_around}
+use Rattle.contract_call.specs.Worlds.{authority_of, world_around}
 use Rattle.contract_call.specs.Ended.{IsEnd, EndsBy, Ends}
 use Rattle.contract_call.specs.declared.host.Host.{Host}
-use Rattle.tx_apply.specs.Entering.{with_meter, Enters}
+use Rattle.auth_parts.specs.Entering.{with_meter, Enters}
 use Rattle.tx_apply.specs.Running.{charging, Charges, EndsCharged}
 use Rattle.tx_apply.proofs.Running.{charged_traced}
 
@@ -55,7 +55,7 @@ module _ {A B G : Type 0} (f : A → Datum) (g : B → Datum) (may : Judge) (m :
 
   pub viewed_by : (first : Option Access) (out : Out Datum) (a : A) (b : B) → f a ≡ g b → ByA first out (Ok a) → ByB first out (Ok b)
   viewed_by (Some c) out a b e h = absurd h
-  viewed_by None (Good d w) a b e h = (h.0 ∙ e, h.1, h.2, h.3)
+  viewed_by None (Good d w) a b e h = (h.0 ∙ e, h.1, h.2, h.3, h.4)
   viewed_by None (Bad (Failed d) w) a b e h = absurd h
   viewed_by None (Bad Spent w) a b e h = absurd h
   viewed_by None (Bad (Archived key) w) a b e h = absurd h
@@ -85,7 +85,7 @@ ends_memory work g old new footprint is m agree rest = memory_by g (by_footprint
 -- ---- the charge for the value
 
 -- what the program says of the charge
-pub charge_refused : (e : ValueErr) (value : ScVal) (before after : Meter) → (let r : Result (Unit {0}) ValueErr = Err e in Enters r (paying ValSer (size_of (datum value))) before after)
+pub charge_refused : (e : ValueErr) (value : ScVal) (before after : Meter) → (let r : Result (Unit {0}) ValueErr = Err e in Enters {A = Datum} r (paying ValSer (size_of (datum value))) before after)
     → let none : Result ScVal HostErr = Err (host_end e) in Charges none value before after
 charge_refused (errs.Failed error) value before after h = h
 charge_refused errs.Spent value before after h = h
@@ -112,7 +112,7 @@ module _ {G : Type 0} (work : Work) (old mid : Host G) where
     charged_by after value (Some a) out r h c = absurd h
     charged_by after value None (Good b w) (Ok v) h c =
         let is : charging b w ≡ Good (datum value) (with_meter after w) = ap (λ (d : Datum). charging d w) h.0 ∙ c.1 (gives (datum value)) w (sym h.1) in
-        subst (λ (x : Out Datum). let given : Result ScVal HostErr = Ok v in IsEnd may m x given datum old (paid after)) (sym is) (sym (ap datum c.0), refl, h.2, h.3)
+        subst (λ (x : Out Datum). let given : Result ScVal HostErr = Ok v in IsEnd may m x given datum old (paid after)) (sym is) (sym (ap datum c.0), refl, h.2, h.3, h.4)
     charged_by after value None (Good b w) (Err ends.Spent) h c =
         let is : charging b w ≡ Bad Spent (with_meter after w) = ap (λ (d : Datum). charging d w) h.0 ∙ c (gives (datum value)) w (sym h.1) in
         subst (λ (x : Out Datum). let none : Result ScVal HostErr = Err ends.Spent in IsEnd may m x none datum old (paid after)) (sym is) refl
@@ -141,13 +141,13 @@ module _ {G : Type 0} (work : Work) (old mid : Host G) where
       → Charges r value mid.ledger.budget after → EndsCharged work r old (paid after)
   charged_ends after value r h c footprint is rest =
       let may = by_footprint footprint in
-      let out = done_under all_allowed old.ledger.header.now work (world_around rest old []) in
+      let out = done_under all_allowed old.ledger.header.now (authority_of old) work (world_around rest old []) in
       subst (λ (t : List Access). EndsBy may old.ledger.storage.map (first_rejected may t) (then_do out charging) r datum old (paid after)) (sym (charged_traced out))
       (charged_by may old.ledger.storage.map after value (first_rejected may (world_of out).trace) out r (h footprint is old.ledger.storage.map (λ k e. refl) rest) c)
 
   pub failed_ends : (e : HostErr) → (let none : Result ScVal HostErr = Err e in Ends work none datum old mid) → let none : Result ScVal HostErr = Err e in EndsCharged work none old mid
   failed_ends e h footprint is rest =
       let may = by_footprint footprint in
-      let out = done_under all_allowed old.ledger.header.now work (world_around rest old []) in
+      let out = done_under all_allowed old.ledger.header.now (authority_of old) work (world_around rest old []) in
       subst (λ (t : List Access). let none : Result ScVal HostErr = Err e in EndsBy may old.ledger.storage.map (first_rejected may t) (then_do out charging) none datum old mid) (sym (charged_traced out))
       (failed_charged_by may old.ledger.storage.map (first_rejected may (world_of out).trace) out e (h footprint is old.ledger.storage.map (λ k e. refl) rest))

@@ -3,6 +3,7 @@ use Rattle.std.proofs.Common.{◌≡◌, ◌<◌, ◌≤◌, ◌^◌, ℕ, List,
 use Rattle.std.proofs.lemmas.List.Elements.{All-from_recursion}
 use Rattle.xdr_spec.specs.Format.{list, opaque}
 use Rattle.value_types.specs.Formats.{scval_format}
+use Rattle.auth_types.specs.AuthEntry.{auth_entry_format}
 use Rattle.auth_types.specs.declared.auth_entry.AuthEntry.{AuthEntry}
 use Rattle.invoke_types.specs.Arguments.{invoke_format, create_v2_format}
 use Rattle.invoke_types.specs.HostFunction.{host_function_format}
@@ -34,6 +35,11 @@ code_size code h = h.1
 pub function_fits : (function : HostFunction) (auth : List AuthEntry) → body_format.fits (InvokeHostFunction function auth) → host_function_format.fits function
 unfolding body_format
 function_fits function auth h = h.0
+
+-- the authorisation entries of a call
+pub auth_fits : (function : HostFunction) (auth : List AuthEntry) → body_format.fits (InvokeHostFunction function auth) → All auth_entry_format.fits auth
+unfolding body_format list
+auth_fits function auth h = All-from_recursion auth_entry_format.fits auth h.1.2
 
 first_fits : (operations : List Operation) (operation : Operation) → 1 ≤ length operations → operation ≡ get_or operations 0 operation → (list 100 operation_format).fits operations → body_format.fits operation.body
 unfolding list operation_format

@@ -9,7 +9,6 @@ pub mod Ending
 pub mod Sums
 pub mod ByKey
 pub mod Fitting
-pub mod Paying
 pub mod Mapped
 pub mod Adding
 pub mod Making

@@ -8,8 +8,6 @@ use Rattle.tx_results.specs.declared.operation.InvokeResult.TheVariants.{Trapped
 use Rattle.ledger_spec.specs.LedgerMap.{LedgerMap}
 use Rattle.call_spec.specs.Invoked as spec
 use Rattle.call_spec.specs.Invoked.{Invoked}
-use Rattle.host_spec.specs.Ends.{host_end}
-use Rattle.host_spec.specs.declared.error.ValueErr.{ValueErr}
 use Rattle.host_spec.specs.declared.error.HostErr.{HostErr}
 use Rattle.host_spec.specs.declared.error.HostErr.TheVariants as ends
 use Rattle.tx_apply.specs.declared.results.TransactionDone.{TransactionDone}

@@ -1,15 +1,13 @@
 -- The run of a host function with the charge for its value, and what becomes of the operation.
-use Rattle.std.specs.Prelude.{nat_lt, if◌then◌else◌}
 use Rattle.std.specs.FinMap.{get, same_map}
 use Rattle.std.specs.Cmp.Lexicographic.{nat_list_cmp_total}
 use Rattle.std.proofs.Common.{◌≡◌, ℕ, Bool, true, false, List, [], reverse, Option, Some, None, Result, Ok, Err, IfSome, refl, sym, ap, subst, ◌∙◌}
 use Rattle.budget_meter.specs.Meter.{Meter}
 use Rattle.budget_meter.specs.declared.kind.Kind.TheVariants.{ValSer}
 use Rattle.value_types.specs.Datum.{Datum}
-use Rattle.value_types.specs.Views.{datum, scval}
+use Rattle.value_types.specs.Views.{datum, datums, scval}
 use Rattle.value_types.proofs.Lawful.{scval-datum}
 use Rattle.value_types.specs.declared.value.ScVal.{ScVal}
-use Rattle.value_types.specs.declared.hash.Hash.{Hash}
 use Rattle.ledger_types.specs.declared.header.Header.{Header}
 use Rattle.invoke_types.specs.declared.event.ContractEvent.{ContractEvent}
 use Rattle.tx_xdr.specs.declared.transaction.SorobanData.{SorobanData}
@@ -23,19 +21,20 @@ use Rattle.host_spec.specs.declared.error.ValueErr.{ValueErr}
 use Rattle.host_spec.specs.declared.error.ValueErr.TheVariants as errs
 use Rattle.host_spec.specs.declared.error.HostErr.{HostErr}
 use Rattle.host_spec.specs.declared.error.HostErr.TheVariants as ends
-use Rattle.call_spec.specs.World.{Read, Judge, Access, World, Env}
+use Rattle.call_spec.specs.World.{Read, Judge, Access, outside, World, Authority, Env}
 use Rattle.call_spec.specs.Acts.{Failure, Failed, Spent, Archived, Out, Good, Bad, Undeclared, Act, world_of, then_do, after, gives, lifted}
 use Rattle.call_spec.specs.Calling.{restored, undone}
 use Rattle.call_spec.specs.Footprints.{by_footprint, first_rejected}
 use Rattle.call_spec.specs.HostFunctions.{MOST_FRAMES, opener_of}
-use Rattle.call_spec.specs.WholeRuns.{Work, arguments_in, entering, does, meter_of, start_of, all_allowed, run_under, done_under, whole}
+use Rattle.call_spec.specs.Entering.{entering}
+use Rattle.call_spec.specs.WholeRuns.{Work, arguments_in, does, meter_of, start_of, all_allowed, run_under, done_under, whole}
 use Rattle.call_spec.specs.Invoked.{Invoked, unsuccessful, by_writes, by_end, by_trace, by_run}
 use Rattle.call_spec.specs.Laws.{Maps}
 use Rattle.contract_storage.specs.Footprint.{IsFootprint}
-use Rattle.contract_call.specs.Worlds.{world_around}
+use Rattle.contract_call.specs.Worlds.{authority_of, world_around}
 use Rattle.contract_call.specs.Ended.{IsEnd, EndsBy}
 use Rattle.contract_call.specs.declared.host.Host.{Host}
-use Rattle.tx_apply.specs.Entering.{with_meter, Passes, Stops, Enters}
+use Rattle.auth_parts.specs.Entering.{with_meter, Passes, Stops, Enters}
 use Rattle.tx_apply.specs.Running.{charging, EndsCharged, entered_run, result_of, outcome_with}
 
 -- ---- the arguments, the work, the charge
@@ -53,21 +52,21 @@ module _ (n : ℕ) (resources : SorobanData) (old : LedgerMap) where
   undone_same before (Bad (Archived key) w) = refl
   undone_same before (Undeclared a w) = refl
 
-  module _ (header : Header) (work : Work) (before later : Meter) (is : before ≡ meter_of header resources.instructions) where
+  module _ (header : Header) (authority : Authority) (work : Work) (before later : Meter) (is : before ≡ meter_of header resources.instructions) where
     abbrev start : World
     start = start_of header resources.instructions old
 
     abbrev acting : Act Datum
-    acting = let env : Env = record { header = header; judge = all_allowed } in does env (opener_of env MOST_FRAMES) work
+    acting = let env : Env = record { header = header; authority = authority; judge = all_allowed } in does env (opener_of env MOST_FRAMES) work
 
-    pub whole_entered : Passes (entering (arguments_in work)) before later → by_run n resources old (whole header resources.instructions work old) ≡ by_run n resources old (entered_run header later work old)
+    pub whole_entered : Passes {A = Datum} (entering (arguments_in work)) before later → by_run n resources old (whole header authority resources.instructions work old) ≡ by_run n resources old (entered_run header authority later work old)
     unfolding run_under done_under
     whole_entered passes =
         ap (λ (o : Out Datum). by_run n resources old (then_do o charging)) (passes acting start (sym is))
         ∙ sym (undone_same (with_meter later start) (acting (with_meter later start)))
 
-    pub whole_stopped : (failure : Failure) → Stops failure (entering (arguments_in work)) before later
-        → by_run n resources old (whole header resources.instructions work old) ≡ by_end n resources old (Bad failure (with_meter later start))
+    pub whole_stopped : (failure : Failure) → Stops {A = Datum} failure (entering (arguments_in work)) before later
+        → by_run n resources old (whole header authority resources.instructions work old) ≡ by_end n resources old (Bad failure (with_meter later start))
     unfolding run_under
     whole_stopped failure stops = ap (λ (o : Out Datum). by_run n resources old (then_do o charging)) (stops acting start (sym is))
 
@@ -109,7 +108,7 @@ module _ {G : Type 0} (n : ℕ) (resources : SorobanData) (old new : Host G) whe
   returned may b w v h =
       let value : v ≡ scval b = sym (scval-datum v) ∙ sym (ap scval h.0) in
       ap (λ (x : ScVal). outcome_with n resources before x new.ledger.storage.map new.ledger.events new.ledger.budget.used) value
-      ∙ ap (λ (x : LedgerMap). outcome_with n resources before (scval b) x new.ledger.events new.ledger.budget.used) (same_entries may before w.entries new.ledger.storage.map h.3)
+      ∙ ap (λ (x : LedgerMap). outcome_with n resources before (scval b) x new.ledger.events new.ledger.budget.used) (same_entries may before w.entries new.ledger.storage.map h.4)
       ∙ ap (λ (x : List ContractEvent). outcome_with n resources before (scval b) w.entries x new.ledger.budget.used) h.2
       ∙ ap (λ (x : Meter). outcome_with n resources before (scval b) w.entries w.events x.used) h.1
 
@@ -131,45 +130,58 @@ module _ {G : Type 0} (n : ℕ) (resources : SorobanData) (old new : Host G) whe
       → EndsBy (by_footprint resources.footprint) before (first_rejected (by_footprint resources.footprint) (world_of out).trace) out r datum old new → Comes before r (by_run n resources before out)
   run_comes out r h = trace_comes (by_footprint resources.footprint) (first_rejected (by_footprint resources.footprint) (world_of out).trace) out r h
 
-  -- ---- from a host without events
+  -- ---- from a host at its start
 
-  pub record Starts (header : Header) (meter : Meter) (entries : LedgerMap) : Type 0 where
+  pub record Starts (header : Header) (authority : Authority) (meter : Meter) (entries : LedgerMap) : Type 0 where
     pub header-is : old.ledger.header.now ≡ header
+    pub authority-is : authority_of old ≡ authority
     pub map-is : before ≡ entries
     pub events-is : old.ledger.events ≡ []
+    pub pairs-is : old.marks.pairs ≡ []
     pub open-is : old.open.items ≡ []
+    pub function-is : old.place.function.items ≡ []
+    pub args-is : old.place.args.items ≡ []
+    pub path-is : old.place.path.items ≡ []
+    pub begun-is : old.place.begun ≡ 0
     pub meter-is : old.ledger.budget ≡ meter
 
-  abbrev world_with : Header → LedgerMap → List ContractEvent → List Hash → Meter → World
-  world_with header m events contracts meter = record (start_of header 0 m) { events = events; contracts = reverse contracts; meter = meter }
+  abbrev run_from : Header → Authority → World → Work → Out Datum
+  run_from header authority w work = after (done_under all_allowed header authority work) charging w
 
-  abbrev run_from : Header → World → Work → Out Datum
-  run_from header w work = after (done_under all_allowed header work) charging w
+  abbrev first : Header → LedgerMap → World
+  first header entries = start_of header 0 entries
 
-  start_same : (header : Header) (meter : Meter) (entries : LedgerMap) → Starts header meter entries → world_around (start_of header 0 entries) old [] ≡ with_meter meter (start_of header 0 entries)
-  start_same header meter entries is =
-      ap (λ (m : LedgerMap). world_with header m old.ledger.events old.open.items old.ledger.budget) is.map-is
-      ∙ ap (λ (events : List ContractEvent). world_with header entries events old.open.items old.ledger.budget) is.events-is
-      ∙ ap (λ (contracts : List Hash). world_with header entries [] contracts old.ledger.budget) is.open-is
-      ∙ ap (λ (m : Meter). world_with header entries [] [] m) is.meter-is
+  start_same : (header : Header) (authority : Authority) (meter : Meter) (entries : LedgerMap) → Starts header authority meter entries
+      → world_around (first header entries) old [] ≡ with_meter meter (first header entries)
+  start_same header authority meter entries is = λ i. record (first header entries) {
+    entries = is.map-is i;
+    events = is.events-is i;
+    pairs = is.pairs-is i;
+    frame = record outside { function = is.function-is i; args = datums (is.args-is i); path = is.path-is i; begun = is.begun-is i };
+    contracts = reverse (is.open-is i);
+    meter = is.meter-is i;
+  }
 
-  pub started_comes : (header : Header) (meter : Meter) (entries : LedgerMap) (work : Work) (r : Result ScVal HostErr) → Starts header meter entries
+  pub started_comes : (header : Header) (authority : Authority) (meter : Meter) (entries : LedgerMap) (work : Work) (r : Result ScVal HostErr)
+      → Starts header authority meter entries
       → IsFootprint resources.footprint.read_only resources.footprint.read_write old.ledger.storage.declared → EndsCharged work r old new
-      → Comes entries r (by_run n resources entries (entered_run header meter work entries))
-  started_comes header meter entries work r is declared h =
-      subst (λ (m : LedgerMap). Comes m r (by_run n resources m (entered_run header meter work entries))) is.map-is
+      → Comes entries r (by_run n resources entries (entered_run header authority meter work entries))
+  started_comes header authority meter entries work r is declared h =
+      let around = world_around (first header entries) old [] in
+      subst (λ (m : LedgerMap). Comes m r (by_run n resources m (entered_run header authority meter work entries))) is.map-is
       (subst (λ (out : Out Datum). Comes before r (by_run n resources before out))
-      (ap (λ (x : Header). run_from x (world_around (start_of header 0 entries) old []) work) is.header-is
-      ∙ ap (λ (w : World). run_from header w work) (start_same header meter entries is))
-      (run_comes (run_from old.ledger.header.now (world_around (start_of header 0 entries) old []) work) r (h resources.footprint declared (start_of header 0 entries))))
+      (ap (λ (x : Header). run_from x (authority_of old) around work) is.header-is
+      ∙ ap (λ (a : Authority). run_from header a around work) is.authority-is
+      ∙ ap (λ (w : World). run_from header authority w work) (start_same header authority meter entries is))
+      (run_comes (run_from old.ledger.header.now (authority_of old) around work) r (h resources.footprint declared (first header entries))))
 
 -- ---- arguments that do not enter
 
-module _ (n : ℕ) (resources : SorobanData) (old : LedgerMap) (header : Header) (work : Work) (before later : Meter) (is : before ≡ meter_of header resources.instructions) where
-  pub stopped_comes : (e : ValueErr) → (let r : Result (Unit {0}) ValueErr = Err e in Enters r (entering (arguments_in work)) before later)
-      → IfSome (result_of (host_end e)) (λ r. unsuccessful r old later.used ≡ by_run n resources old (whole header resources.instructions work old))
-  stopped_comes (errs.Failed error) h = sym (whole_stopped n resources old header work before later is (Failed error) h)
-  stopped_comes errs.Spent h = sym (whole_stopped n resources old header work before later is Spent h)
+module _ (n : ℕ) (resources : SorobanData) (old : LedgerMap) (header : Header) (authority : Authority) (work : Work) (before later : Meter) (is : before ≡ meter_of header resources.instructions) where
+  pub stopped_comes : (e : ValueErr) → (let r : Result (Unit {0}) ValueErr = Err e in Enters {A = Datum} r (entering (arguments_in work)) before later)
+      → IfSome (result_of (host_end e)) (λ r. unsuccessful r old later.used ≡ by_run n resources old (whole header authority resources.instructions work old))
+  stopped_comes (errs.Failed error) h = sym (whole_stopped n resources old header authority work before later is (Failed error) h)
+  stopped_comes errs.Spent h = sym (whole_stopped n resources old header authority work before later is Spent h)
   stopped_comes errs.NoMemory h = tt
 
 -- ---- the budget at the start

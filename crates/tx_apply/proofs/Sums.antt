@@ -1,14 +1,14 @@
 -- The bytes that are written, by the changes alone.
-use Rattle.std.specs.Prelude.{cond, ◌||◌, ◌&&◌, IsTrue, T, map}
+use Rattle.std.specs.Prelude.{cond, ◌||◌, ◌&&◌, T, map}
 use Rattle.std.specs.List.{AllByRecursion, list_any, sum_by}
 use Rattle.std.specs.List.Sorted.{IsStrictlySortedBy}
 use Rattle.std.specs.declared.cmp.Ordering.{Ordering}
 use Rattle.std.specs.declared.cmp.Ordering.TheVariants.{Less, Equal, Greater}
 use Rattle.std.specs.Ordering.{is_lt, is_eq, eq_by_cmp}
 use Rattle.std.specs.Cmp.Lexicographic.{nat_list_cmp_total}
-use Rattle.std.specs.FinMap.{get, entries, entries_sorted, is_sorted, keys, contains_key, contains_key-keys}
+use Rattle.std.specs.FinMap.{get, entries, entries_sorted, is_sorted, keys, contains_key-keys}
 use Rattle.std.specs.FinMap.Entries.{below_all}
-use Rattle.std.proofs.Common.{◌≡◌, ℕ, ◌+◌, Bool, true, false, is_some, List, [], ◌∷◌, Option, Some, None, refl, sym, ap, ap₂, subst, ◌∙◌, zero-add, arith}
+use Rattle.std.proofs.Common.{◌≡◌, ℕ, ◌+◌, Bool, true, false, is_some, List, [], ◌∷◌, Option, Some, None, refl, sym, ap, ap₂, ◌∙◌, zero-add, arith}
 use Rattle.std.proofs.lemmas.Cmp.{tied_itself}
 use Rattle.std.proofs.lemmas.List.Sums.{sum_by-cons}
 use Rattle.std.proofs.lemmas.List.Elements.{recursion_from_All}

@@ -1,8 +1,9 @@
 -- The effect of an envelope is that of what the code makes of its transaction.
 use Rattle.std.specs.Option.{option_map}
-use Rattle.std.proofs.Common.{◌≡◌, ℕ, Bool, true, false, List, [], ◌∷◌, Option, Some, None, if◌then◌else◌, refl, sym, ap, ap₂, ◌∙◌}
+use Rattle.std.proofs.Common.{◌≡◌, ℕ, Bool, true, false, List, [], ◌∷◌, Option, Some, None, if◌then◌else◌, refl, sym, ap, ◌∙◌}
 use Rattle.ledger_types.specs.declared.header.Header.{Header}
 use Rattle.ledger_types.specs.declared.verdicts.Verdicts.{Verdicts}
+use Rattle.tx_parts.specs.declared.account.MuxedAccount.{MuxedAccount}
 use Rattle.tx_xdr.specs.declared.transaction.Operation.{Operation}
 use Rattle.tx_xdr.specs.declared.transaction.OperationBody.{OperationBody}
 use Rattle.tx_xdr.specs.declared.transaction.OperationBody.TheVariants.{InvokeHostFunction, ExtendFootprintTtl, RestoreFootprint}
@@ -20,6 +21,7 @@ use Rattle.tx_results.specs.declared.results.TransactionResultPair.{TransactionR
 use Rattle.stage_runs.specs.Maps.{LedgerMap}
 use Rattle.stage_runs.specs.Transactions.{Effect, declared_by, footprint_in}
 use Rattle.stage_runs.specs.Whole as runs
+use Rattle.call_spec.specs.World.{Authority}
 use Rattle.call_spec.specs.Invoked.{Invoked, invoked}
 use Rattle.apply_spec.specs.Checks.{refusal_of}
 use Rattle.apply_spec.specs.Enforced as whole
@@ -49,34 +51,38 @@ module _ (header : Header) (entries : LedgerMap) (envelope : Envelope) where
   told_extended extend_to false e = rw e refl
 
   -- a host function, with the resources that are given
-  told_called : (ext : TransactionExt) → (transaction_in envelope).ext ≡ ext → (function : HostFunction)
-      → effect_after (whole.called header entries ext function) ≡ told header envelope (called header entries ext function)
-  told_called exts.None e function = refl
-  told_called (exts.Soroban resources) e function =
-      let end : Invoked = invoked header resources entries function in
-      call_effect header entries envelope end (invoked_tells header resources entries function)
+  told_called : (authority : Authority) (ext : TransactionExt) → (transaction_in envelope).ext ≡ ext → (function : HostFunction)
+      → effect_after (whole.called header authority entries ext function) ≡ told header envelope (called header authority entries ext function)
+  told_called authority exts.None e function = refl
+  told_called authority (exts.Soroban resources) e function =
+      let end : Invoked = invoked header authority resources entries function in
+      call_effect header entries envelope end (invoked_tells header authority resources entries function)
       ∙ ap (λ (x : TransactionExt). told header envelope (ended_of_call entries (footprint_in x) end)) e
 
-  told_performed : (body : OperationBody) → effect_after (whole.performed header entries (transaction_in envelope) body) ≡ told header envelope (performed header entries (transaction_in envelope) body)
-  told_performed (ExtendFootprintTtl extend_to) = told_extended extend_to (whole.may_extend header.settings (declared_by envelope) extend_to) refl
-  told_performed RestoreFootprint = refl
-  told_performed (InvokeHostFunction host_function auth) = told_called (transaction_in envelope).ext refl host_function
+  told_performed : (verdicts : Verdicts) (source : Option MuxedAccount) (body : OperationBody)
+      → effect_after (whole.performed header verdicts entries (transaction_in envelope) source body)
+      ≡ told header envelope (performed header verdicts entries (transaction_in envelope) source body)
+  told_performed verdicts source (ExtendFootprintTtl extend_to) = told_extended extend_to (whole.may_extend header.settings (declared_by envelope) extend_to) refl
+  told_performed verdicts source RestoreFootprint = refl
+  told_performed verdicts source (InvokeHostFunction host_function auth) =
+      told_called (whole.authority_of verdicts (transaction_in envelope) source auth) (transaction_in envelope).ext refl host_function
 
-  told_first : (operations : List Operation)
-      → effect_after (whole.first_performed header entries (transaction_in envelope) operations) ≡ told header envelope (first_performed header entries (transaction_in envelope) operations)
-  told_first [] = refl
-  told_first (operation ∷ rest) = told_performed operation.body
+  told_first : (verdicts : Verdicts) (operations : List Operation)
+      → effect_after (whole.first_performed header verdicts entries (transaction_in envelope) operations)
+      ≡ told header envelope (first_performed header verdicts entries (transaction_in envelope) operations)
+  told_first verdicts [] = refl
+  told_first verdicts (operation ∷ rest) = told_performed verdicts operation.source operation.body
 
   told_unless : (o : Option TransactionOutcome) (effect : Effect) (done : Ended) → effect ≡ told header envelope done
       → runs.unless_refused (option_map (whole.result_pair header.network_id envelope) o) effect ≡ told header envelope (unless_refused o done)
   told_unless (Some outcome) effect done e = refl
   told_unless None effect done e = e
 
-  pub told_enforced : (verdicts : Verdicts) → whole.enforced header verdicts entries envelope ≡ told header envelope (ended header entries (transaction_in envelope))
+  pub told_enforced : (verdicts : Verdicts) → whole.enforced header verdicts entries envelope ≡ told header envelope (ended header verdicts entries (transaction_in envelope))
   told_enforced verdicts =
-      told_unless (refusal_of header (transaction_in envelope)) (effect_after (whole.first_performed header entries (transaction_in envelope) (transaction_in envelope).operations))
-      (first_performed header entries (transaction_in envelope) (transaction_in envelope).operations)
-      (told_first (transaction_in envelope).operations)
+      told_unless (refusal_of header (transaction_in envelope)) (effect_after (whole.first_performed header verdicts entries (transaction_in envelope) (transaction_in envelope).operations))
+      (first_performed header verdicts entries (transaction_in envelope) (transaction_in envelope).operations)
+      (told_first verdicts (transaction_in envelope).operations)
 
 -- an envelope's result tells of a host function that succeeded exactly if that of its transaction does
 pub told_same : (header : Header) (envelope : Envelope) (outcome : TransactionOutcome)
@@ -88,7 +94,7 @@ told_same header (envelopes.FeeBump signed) outcome =
 
 -- what is returned is the effect
 pub told_done : (header : Header) (verdicts : Verdicts) (entries : LedgerMap) (envelope : Envelope) (done : Ended) (pair : TransactionResultPair)
-    → done ≡ ended header entries (transaction_in envelope) → pair ≡ whole.result_pair header.network_id envelope done.outcome
+    → done ≡ ended header verdicts entries (transaction_in envelope) → pair ≡ whole.result_pair header.network_id envelope done.outcome
     → record { result = pair; success = done.success; changes = done.changes; extensions = done.extensions; used = done.used } ≡ whole.enforced header verdicts entries envelope
 told_done header verdicts entries envelope done pair is paired =
     ap (λ (p : TransactionResultPair). let e : Effect = record { result = p; success = done.success; changes = done.changes; extensions = done.extensions; used = done.used } in e) paired

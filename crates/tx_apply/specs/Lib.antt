@@ -1,7 +1,7 @@
 pub mod Outcomes
 pub mod Done
 pub mod Spellings
+pub mod Authorities
 pub mod Jobs
-pub mod Entering
 pub mod Running
 pub mod Changed

@@ -3,8 +3,10 @@
 use Rattle.std.specs.Prelude.{ℕ, ◌+◌, List, [], ◌∷◌, Option, Some, None, if◌then◌else◌}
 use Rattle.budget_meter.specs.declared.budget.Used.{Used}
 use Rattle.ledger_types.specs.declared.header.Header.{Header}
+use Rattle.ledger_types.specs.declared.verdicts.Verdicts.{Verdicts}
 use Rattle.invoke_types.specs.declared.host_function.HostFunction.{HostFunction}
 use Rattle.invoke_types.specs.declared.success.SuccessPreimage.{SuccessPreimage}
+use Rattle.tx_parts.specs.declared.account.MuxedAccount.{MuxedAccount}
 use Rattle.tx_xdr.specs.declared.transaction.Footprint.{Footprint}
 use Rattle.tx_xdr.specs.declared.transaction.Operation.{Operation}
 use Rattle.tx_xdr.specs.declared.transaction.OperationBody.{OperationBody}
@@ -23,10 +25,10 @@ use Rattle.stage_runs.specs.Maps.{LedgerMap}
 use Rattle.stage_runs.specs.Whole as runs
 use Rattle.stage_runs.specs.declared.Change.{Change}
 use Rattle.stage_runs.specs.declared.Extension.{Extension}
-use Rattle.call_spec.specs.World.{next_seq}
+use Rattle.call_spec.specs.World.{next_seq, Authority}
 use Rattle.call_spec.specs.Invoked.{Invoked, invoked}
 use Rattle.apply_spec.specs.Checks.{footprint_of, refusal_of}
-use Rattle.apply_spec.specs.Enforced.{may_extend, outcome_of_call}
+use Rattle.apply_spec.specs.Enforced.{authority_of, may_extend, outcome_of_call}
 use Rattle.apply_spec.specs.Extending as extending
 
 -- the outcome of a transaction, its success preimage, changes and extensions, and what it used
@@ -73,22 +75,24 @@ ended_of_call entries footprint end = record {
 }
 
 -- the checks reject a transaction without Soroban data
-abbrev pub called : Header → LedgerMap → TransactionExt → HostFunction → Ended
-called header entries exts.None function = without_effect Malformed
-called header entries (exts.Soroban resources) function = ended_of_call entries resources.footprint (invoked header resources entries function)
+abbrev pub called : Header → Authority → LedgerMap → TransactionExt → HostFunction → Ended
+called header authority entries exts.None function = without_effect Malformed
+called header authority entries (exts.Soroban resources) function =
+    ended_of_call entries resources.footprint (invoked header authority resources entries function)
 
 -- ---- transactions
 
--- the only operation
-abbrev pub performed : Header → LedgerMap → Transaction → OperationBody → Ended
-performed header entries tx (ExtendFootprintTtl extend_to) = extended header entries (footprint_of tx) extend_to
-performed header entries tx RestoreFootprint = without_effect (Failed (NotSupported ∷ []))
-performed header entries tx (InvokeHostFunction host_function auth) = called header entries tx.ext host_function
+-- the only operation, with this source
+abbrev pub performed : Header → Verdicts → LedgerMap → Transaction → Option MuxedAccount → OperationBody → Ended
+performed header verdicts entries tx source (ExtendFootprintTtl extend_to) = extended header entries (footprint_of tx) extend_to
+performed header verdicts entries tx source RestoreFootprint = without_effect (Failed (NotSupported ∷ []))
+performed header verdicts entries tx source (InvokeHostFunction host_function auth) =
+    called header (authority_of verdicts tx source auth) entries tx.ext host_function
 
 -- the first operation; the checks reject a transaction without one
-abbrev pub first_performed : Header → LedgerMap → Transaction → List Operation → Ended
-first_performed header entries tx [] = without_effect MissingOperation
-first_performed header entries tx (operation ∷ rest) = performed header entries tx operation.body
+abbrev pub first_performed : Header → Verdicts → LedgerMap → Transaction → List Operation → Ended
+first_performed header verdicts entries tx [] = without_effect MissingOperation
+first_performed header verdicts entries tx (operation ∷ rest) = performed header verdicts entries tx operation.source operation.body
 
 -- a transaction that fails a check has no effect
 abbrev pub unless_refused : Option TransactionOutcome → Ended → Ended
@@ -96,5 +100,5 @@ unless_refused (Some outcome) done = without_effect outcome
 unless_refused None done = done
 
 -- the checks come first, then the operation
-abbrev pub ended : Header → LedgerMap → Transaction → Ended
-ended header entries tx = unless_refused (refusal_of header tx) (first_performed header entries tx tx.operations)
+abbrev pub ended : Header → Verdicts → LedgerMap → Transaction → Ended
+ended header verdicts entries tx = unless_refused (refusal_of header tx) (first_performed header verdicts entries tx tx.operations)

@@ -21,15 +21,15 @@ use Rattle.host_spec.specs.Hosted.{size_of}
 use Rattle.host_spec.specs.declared.error.HostErr.{HostErr}
 use Rattle.host_spec.specs.declared.error.HostErr.TheVariants as ends
 use Rattle.contract_storage.specs.Footprint.{IsFootprint}
-use Rattle.call_spec.specs.World.{World}
+use Rattle.call_spec.specs.World.{World, Authority}
 use Rattle.call_spec.specs.Acts.{Failed, Spent, Out, Act, after, gives, paying, world_of}
 use Rattle.call_spec.specs.Footprints.{by_footprint, first_rejected}
 use Rattle.call_spec.specs.WholeRuns.{Work, start_of, all_allowed, done_under}
 use Rattle.call_spec.specs.Invoked.{Invoked, written_bytes, unsuccessful}
-use Rattle.contract_call.specs.Worlds.{world_around}
+use Rattle.contract_call.specs.Worlds.{authority_of, world_around}
 use Rattle.contract_call.specs.Ended.{EndsBy}
 use Rattle.contract_call.specs.declared.host.Host.{Host}
-use Rattle.tx_apply.specs.Entering.{with_meter, Passes, Stops}
+use Rattle.auth_parts.specs.Entering.{with_meter, Passes, Stops}
 
 -- the charge for a value that is returned
 abbrev pub charging : Datum → Act Datum
@@ -37,9 +37,9 @@ charging d = paying ValSer (size_of d) (gives d)
 
 -- The value is returned after its charge, which may fail. Memory may run out.
 abbrev pub Charges : Result ScVal HostErr → ScVal → Meter → Meter → Type 0
-Charges (Ok v) value before after = (v ≡ value) × Passes (paying ValSer (size_of (datum value))) before after
-Charges (Err ends.Spent) value before after = Stops Spent (paying ValSer (size_of (datum value))) before after
-Charges (Err (ends.Failed e)) value before after = Stops (Failed e) (paying ValSer (size_of (datum value))) before after
+Charges (Ok v) value before after = (v ≡ value) × Passes {A = Datum} (paying ValSer (size_of (datum value))) before after
+Charges (Err ends.Spent) value before after = Stops {A = Datum} Spent (paying ValSer (size_of (datum value))) before after
+Charges (Err (ends.Failed e)) value before after = Stops {A = Datum} (Failed e) (paying ValSer (size_of (datum value))) before after
 Charges (Err ends.NoMemory) value before after = Unit {0}
 Charges (Err (ends.Undeclared key)) value before after = ⊥
 Charges (Err (ends.Archived key)) value before after = ⊥
@@ -47,12 +47,13 @@ Charges (Err (ends.Archived key)) value before after = ⊥
 -- `Ends` for a work followed by the charge for its value, over the storage's own map
 abbrev pub EndsCharged : {G : Type 0} → Work → Result ScVal HostErr → Host G → Host G → Type 0
 EndsCharged work r old new = (footprint : Footprint) → IsFootprint footprint.read_only footprint.read_write old.ledger.storage.declared → (rest : World)
-    → (let out = after (done_under all_allowed old.ledger.header.now work) charging (world_around rest old []) in
+    → (let out = after (done_under all_allowed old.ledger.header.now (authority_of old) work) charging (world_around rest old []) in
     EndsBy (by_footprint footprint) old.ledger.storage.map (first_rejected (by_footprint footprint) (world_of out).trace) out r datum old new)
 
 -- the whole run after its arguments have entered the host, with this budget then
-abbrev pub entered_run : Header → Meter → Work → LedgerMap → Out Datum
-entered_run header meter work entries = after (done_under all_allowed header work) charging (with_meter meter (start_of header 0 entries))
+abbrev pub entered_run : Header → Authority → Meter → Work → LedgerMap → Out Datum
+entered_run header authority meter work entries =
+    after (done_under all_allowed header authority work) charging (with_meter meter (start_of header 0 entries))
 
 -- ---- outcomes
 

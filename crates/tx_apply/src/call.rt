@@ -2,6 +2,7 @@
 
 ghost use Rattle.std.specs.Prelude.{◌≡◌, All, IfOk, IsSomeAnd, IsTrue};
 ghost use Rattle.value_types.specs.Views.{datum, datums};
+ghost use Rattle.auth_types.specs.AuthEntry.{auth_entry_format};
 ghost use Rattle.ledger_types.specs.Key.{key_format};
 ghost use Rattle.ledger_spec.specs.LedgerMap.{LedgerMap};
 ghost use Rattle.ledger_spec.specs.LedgerFile.{are_settings, has_next};
@@ -12,20 +13,23 @@ ghost use Rattle.host_spec.specs.Hosted.{IsHosted, AreHosted};
 ghost use Rattle.call_spec.specs.World.{next_seq};
 ghost use Rattle.call_spec.specs.WholeRuns.{whole};
 ghost use Rattle.call_spec.specs.Invoked.{by_run, invoked};
+ghost use Rattle.tx_apply.specs.Authorities.{authority_in};
 ghost use Rattle.tx_apply.specs.Changed.{CanStand};
 ghost use Rattle.tx_apply.specs.Jobs.{work_in, values_in, IsSpelled};
 ghost use Rattle.tx_apply.specs.Running.{entered_run, result_of as result_of_end, successful_with, outcome_with};
 ghost use Rattle.tx_apply.specs.Outcomes.{ended_of_call, unsuccessful};
 ghost use Rattle.tx_apply.specs.Done.{ended_of, CanEnd};
 
+use crate::authority::Authority;
 use crate::changes::{by_key, changes_at, extensions_at};
-use crate::entering::enter_all;
 use crate::job::{Job, job_of, values};
 use crate::reading::{declares_archived, reads_more};
 use crate::results::{TransactionDone, failed_call, nothing_used, one_result};
 use crate::run::run_job;
 use crate::success::success_hash;
 use crate::writing::writes_more;
+use auth_parts::enter_all;
+use auth_trees::Marks;
 use budget_meter::{Budget, Limits, Used};
 use contract_call::Host;
 use contract_storage::Storage;
@@ -126,7 +130,13 @@ fn succeeded<G: Ground>(
 fn events_of<G: Ground>(host: Host<'_, G>) -> Events
     ensures { result ≡ host.entry.ledger.events }
 {
-    let Host { ledger, open: _ } = host;
+    let Host {
+        ledger,
+        open: _,
+        marks: _,
+        verdicts: _,
+        place: _,
+    } = host;
     let HostLedger {
         header: _,
         storage: _,
@@ -170,17 +180,20 @@ fn run<G: Ground>(
     ground: &G,
     header: &Header,
     resources: &SorobanData,
+    authority: &Authority<'_>,
     job: &Job<'_>,
     budget: Budget,
 ) -> Result<TransactionDone, NoMemory>
     requires spelled { IsSpelled job.now }
     requires hosted { AreHosted (datums (values_in job.now)) }
+    requires entries { All auth_entry_format.fits authority.now.entries.now }
     requires read_only { All (λ key. key_format.fits key) resources.now.footprint.read_only }
     requires read_write { All (λ key. key_format.fits key) resources.now.footprint.read_write }
     requires settings { IsTrue (are_settings header.now.settings) }
     requires next { IsTrue (has_next header.now) }
     ensures done { IfOk result (λ done. ended_of done ≡ ended_of_call (G.map ground.now) resources.now.footprint
-        (by_run (next_seq header.now) resources.now (G.map ground.now) (entered_run header.now budget (work_in job.now) (G.map ground.now)))) }
+        (by_run (next_seq header.now) resources.now (G.map ground.now)
+        (entered_run header.now (authority_in authority.now) budget (work_in job.now) (G.map ground.now)))) }
     ensures can { IfOk result (λ done. CanEnd (ended_of done)) }
 {
     let n = header.seq + 1;
@@ -192,7 +205,8 @@ fn run<G: Ground>(
         resources.footprint.read_only.as_slice(),
         resources.footprint.read_write.as_slice(),
     )?;
-    let mut host = Host::new(alloc, storage, header, budget);
+    let marks = Marks::prepare(alloc, authority.entries, authority.source)?;
+    let mut host = Host::new(alloc, storage, header, budget, marks, authority.verdicts);
     match run_job(alloc, &mut host, job) {
         Ok(value) => returned(alloc, ground, n, resources, host, value),
         Err(end) => ended(alloc, &end, host.ledger.budget.spent()),
@@ -205,20 +219,23 @@ fn enter_and_run<G: Ground>(
     ground: &G,
     header: &Header,
     resources: &SorobanData,
+    authority: &Authority<'_>,
     job: &Job<'_>,
 ) -> Result<TransactionDone, NoMemory>
     requires spelled { IsSpelled job.now }
+    requires entries { All auth_entry_format.fits authority.now.entries.now }
     requires read_only { All (λ key. key_format.fits key) resources.now.footprint.read_only }
     requires read_write { All (λ key. key_format.fits key) resources.now.footprint.read_write }
     requires settings { IsTrue (are_settings header.now.settings) }
     requires next { IsTrue (has_next header.now) }
     ensures done { IfOk result (λ done. ended_of done ≡ ended_of_call (G.map ground.now) resources.now.footprint
-        (by_run (next_seq header.now) resources.now (G.map ground.now) (whole header.now resources.now.instructions (work_in job.now) (G.map ground.now)))) }
+        (by_run (next_seq header.now) resources.now (G.map ground.now)
+        (whole header.now (authority_in authority.now) resources.now.instructions (work_in job.now) (G.map ground.now)))) }
     ensures can { IfOk result (λ done. CanEnd (ended_of done)) }
 {
     let mut budget = budget_of(&header.settings, resources.instructions);
     match enter_all(&mut budget, values(job)) {
-        Ok(()) => run(alloc, ground, header, resources, job, budget),
+        Ok(()) => run(alloc, ground, header, resources, authority, job, budget),
         Err(end) => ended(alloc, &HostErr::from(end), budget.spent()),
     }
 }
@@ -229,15 +246,17 @@ pub(crate) fn call<G: Ground>(
     ground: &G,
     header: &Header,
     resources: &SorobanData,
+    authority: &Authority<'_>,
     function: &HostFunction,
 ) -> Result<TransactionDone, NoMemory>
     requires function { host_function_format.fits function.now }
+    requires entries { All auth_entry_format.fits authority.now.entries.now }
     requires read_only { All (λ key. key_format.fits key) resources.now.footprint.read_only }
     requires read_write { All (λ key. key_format.fits key) resources.now.footprint.read_write }
     requires settings { IsTrue (are_settings header.now.settings) }
     requires next { IsTrue (has_next header.now) }
     ensures done { IfOk result (λ done. ended_of done ≡ ended_of_call (G.map ground.now) resources.now.footprint
-        (invoked header.now resources.now (G.map ground.now) function.now)) }
+        (invoked header.now (authority_in authority.now) resources.now (G.map ground.now) function.now)) }
     ensures can { IfOk result (λ done. CanEnd (ended_of done)) }
 {
     let n = header.seq + 1;
@@ -250,5 +269,5 @@ pub(crate) fn call<G: Ground>(
     if reads_more(ground, n, &resources.footprint, resources.disk_read_bytes) {
         return failed_call(alloc, InvokeResult::ResourceLimitExceeded, nothing_used());
     }
-    enter_and_run(alloc, ground, header, resources, &job)
+    enter_and_run(alloc, ground, header, resources, authority, &job)
 }

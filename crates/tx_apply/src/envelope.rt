@@ -112,8 +112,8 @@ fn result_pair(
 /// Checks and runs an envelope over the entries of a ledger. A fee bump's inner transaction runs as if alone, and fees are not
 /// judged.
 ///
-/// `header` is that of the previous ledger, with the close time of the ledger that is being made. No operation asks for a
-/// verdict yet.
+/// `header` is that of the previous ledger, with the close time of the ledger that is being made. An account's signature of an
+/// authorisation entry is good if `verdicts` has the account's key with the hash of the entry's payload.
 pub fn enforce<G: Ground>(
     alloc: Global,
     ground: &G,
@@ -127,7 +127,7 @@ pub fn enforce<G: Ground>(
     ensures done { IfOk result (λ done. effect_of done ≡ enforced header.now verdicts.now (G.map ground.now) envelope.now) }
     ensures within { IfOk result IsWithin }
 {
-    let done = run_transaction(alloc, ground, header, envelope.transaction())?;
+    let done = run_transaction(alloc, ground, header, verdicts, envelope.transaction())?;
     let result = result_pair(alloc, &header.network_id, envelope, done.outcome)?;
     Ok(TxDone {
         result,

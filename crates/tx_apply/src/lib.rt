@@ -1,11 +1,11 @@
 //! Checks and runs one transaction over the entries of a ledger.
 #![tactic(auto)]
 
+mod authority;
 mod bounds;
 mod call;
 mod changes;
 mod checks;
-mod entering;
 mod envelope;
 mod extend;
 mod footprint;

@@ -3,7 +3,7 @@
 ghost use Rattle.std.specs.Prelude.{◌≡◌, ◌<◌, ◌^◌, length, IfOk, IfErr};
 ghost use Rattle.std.specs.Option.{option_map};
 ghost use Rattle.value_types.specs.Hash.{hash_format};
-ghost use Rattle.value_types.specs.Datum.{bytes, address as address_datum};
+ghost use Rattle.value_types.specs.Datum.{Datum, bytes, address as address_datum};
 ghost use Rattle.value_types.specs.Views.{datum, datums};
 ghost use Rattle.value_types.specs.declared.address.ScAddress.TheVariants as addresses;
 ghost use Rattle.host_spec.specs.Hosted.{IsHosted, AreHosted, size_of as size_in};
@@ -11,9 +11,10 @@ ghost use Rattle.call_spec.specs.Acts.{paying};
 ghost use Rattle.call_spec.specs.WholeRuns.{calling, uploading, creating};
 ghost use Rattle.contract_call.specs.Creations.{args_of, creation_of, AreArgsHosted};
 ghost use Rattle.contract_call.specs.Ended.{Ends};
+ghost use Rattle.contract_call.specs.Placed.{HasRoom};
 ghost use Rattle.contract_call.specs.Worlds.{MayRun};
 ghost use Rattle.tx_apply.specs.Jobs.{work_in, values_in, datums_in, IsSpelled};
-ghost use Rattle.tx_apply.specs.Entering.{Enters};
+ghost use Rattle.auth_parts.specs.Entering.{Enters};
 ghost use Rattle.tx_apply.specs.Running.{Charges, EndsCharged};
 
 use crate::job::Job;
@@ -63,6 +64,7 @@ fn call<G: Ground>(
     args: &[ScVal],
 ) -> Result<ScVal, HostErr>
     requires ready { MayRun host.old }
+    requires path { HasRoom 64 host.old }
     requires args { AreHosted (datums args.now) }
     ensures ends { Ends (calling contract function.now (datums args.now)) result datum host.old host.new }
     ensures base { host.new.ledger.storage.base ≡ host.old.ledger.storage.base }
@@ -107,6 +109,7 @@ fn create_contract<G: Ground>(
     contract: NewContract,
 ) -> Result<ScVal, HostErr>
     requires ready { MayRun host.old }
+    requires path { HasRoom 64 host.old }
     requires args { AreArgsHosted contract.args }
     ensures ends { Ends (creating (creation_of contract)) result datum host.old host.new }
     ensures base { host.new.ledger.storage.base ≡ host.old.ledger.storage.base }
@@ -125,6 +128,7 @@ fn perform<G: Ground>(
     job: &Job<'_>,
 ) -> Result<ScVal, HostErr>
     requires ready { MayRun host.old }
+    requires path { HasRoom 64 host.old }
     requires spelled { IsSpelled job.now }
     requires hosted { AreHosted (datums (values_in job.now)) }
     ensures ends { Ends (work_in job.now) result datum host.old host.new }
@@ -161,7 +165,7 @@ fn perform<G: Ground>(
 /// Charges the value that is returned.
 fn charge_value(budget: &mut Budget, value: &ScVal) -> Result<(), ValueErr>
     requires { IsHosted (datum value.now) }
-    ensures { Enters result (paying Kind.ValSer (size_in (datum value.now))) budget.old budget.new }
+    ensures { Enters {A = Datum} result (paying Kind.ValSer (size_in (datum value.now))) budget.old budget.new }
 {
     charge(budget, Kind::ValSer, size_of(value))
 }
@@ -182,6 +186,7 @@ pub(crate) fn run_job<G: Ground>(
     job: &Job<'_>,
 ) -> Result<ScVal, HostErr>
     requires ready { MayRun host.old }
+    requires path { HasRoom 64 host.old }
     requires spelled { IsSpelled job.now }
     requires hosted { AreHosted (datums (values_in job.now)) }
     ensures ends { EndsCharged (work_in job.now) result host.old host.new }

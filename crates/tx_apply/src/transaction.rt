@@ -1,6 +1,7 @@
 //! Runs one transaction: its checks, then its operation.
 
 ghost use Rattle.std.specs.Prelude.{◌≡◌, All, IfOk, IsTrue};
+ghost use Rattle.auth_types.specs.AuthEntry.{auth_entry_format};
 ghost use Rattle.ledger_types.specs.Key.{key_format};
 ghost use Rattle.ledger_spec.specs.LedgerFile.{are_settings, has_next};
 ghost use Rattle.invoke_types.specs.HostFunction.{host_function_format};
@@ -8,9 +9,11 @@ ghost use Rattle.tx_xdr.specs.Operation.{body_format};
 ghost use Rattle.tx_xdr.specs.Transaction.{transaction_format};
 ghost use Rattle.stage_runs.specs.Transactions.{footprint_in};
 ghost use Rattle.apply_spec.specs.Checks.{footprint_of};
+ghost use Rattle.tx_apply.specs.Authorities.{authority_in};
 ghost use Rattle.tx_apply.specs.Outcomes.{ended, extended, called, performed};
 ghost use Rattle.tx_apply.specs.Done.{ended_of, CanEnd};
 
+use crate::authority::{Authority, authority_of};
 use crate::call::call;
 use crate::checks::refusal_of;
 use crate::extend::{extensions, may_extend};
@@ -18,10 +21,10 @@ use crate::footprint::{read_only_of, read_write_of};
 use crate::results::{TransactionDone, failed, nothing_used, one_result, without_effect};
 use entry_lookup::Ground;
 use invoke_types::HostFunction;
-use ledger_types::Header;
+use ledger_types::{Header, Verdicts};
 use std::alloc::Global;
 use tx_results::{ExtendResult, InnerResult, OperationResult, TransactionOutcome};
-use tx_xdr::{OperationBody, Transaction, TransactionExt};
+use tx_xdr::{Operation, OperationBody, Transaction, TransactionExt};
 use value_types::Items;
 use xdr_core::NoMemory;
 
@@ -66,21 +69,26 @@ fn call_with<G: Ground>(
     alloc: Global,
     ground: &G,
     header: &Header,
+    authority: &Authority<'_>,
     ext: &TransactionExt,
     function: &HostFunction,
 ) -> Result<TransactionDone, NoMemory>
     requires function { host_function_format.fits function.now }
+    requires entries { All auth_entry_format.fits authority.now.entries.now }
     requires read_only { All (λ key. key_format.fits key) (footprint_in ext.now).read_only }
     requires read_write { All (λ key. key_format.fits key) (footprint_in ext.now).read_write }
     requires settings { IsTrue (are_settings header.now.settings) }
     requires next { IsTrue (has_next header.now) }
-    ensures done { IfOk result (λ done. ended_of done ≡ called header.now (G.map ground.now) ext.now function.now) }
+    ensures done { IfOk result (λ done. ended_of done
+        ≡ called header.now (authority_in authority.now) (G.map ground.now) ext.now function.now) }
     ensures can { IfOk result (λ done. CanEnd (ended_of done)) }
 {
     match ext {
         // The checks reject a transaction without Soroban data.
         TransactionExt::None => Ok(without_effect(alloc, TransactionOutcome::Malformed)),
-        TransactionExt::Soroban(resources) => call(alloc, ground, header, resources, function),
+        TransactionExt::Soroban(resources) => {
+            call(alloc, ground, header, resources, authority, function)
+        }
     }
 }
 
@@ -89,24 +97,30 @@ fn perform<G: Ground>(
     alloc: Global,
     ground: &G,
     header: &Header,
+    verdicts: &Verdicts,
     tx: &Transaction,
-    body: &OperationBody,
+    operation: &Operation,
 ) -> Result<TransactionDone, NoMemory>
-    requires body { body_format.fits body.now }
+    requires body { body_format.fits operation.now.body }
     requires read_only { All (λ key. key_format.fits key) (footprint_of tx.now).read_only }
     requires read_write { All (λ key. key_format.fits key) (footprint_of tx.now).read_write }
     requires settings { IsTrue (are_settings header.now.settings) }
     requires next { IsTrue (has_next header.now) }
-    ensures done { IfOk result (λ done. ended_of done ≡ performed header.now (G.map ground.now) tx.now body.now) }
+    ensures done { IfOk result (λ done. ended_of done
+        ≡ performed header.now verdicts.now (G.map ground.now) tx.now operation.now.source operation.now.body) }
     ensures can { IfOk result (λ done. CanEnd (ended_of done)) }
 {
-    match body {
+    match &operation.body {
         OperationBody::ExtendFootprintTtl { extend_to } => {
             extend(alloc, ground, header, tx, *extend_to)
         }
         OperationBody::RestoreFootprint => failed(alloc, OperationResult::NotSupported),
-        OperationBody::InvokeHostFunction { host_function, .. } => {
-            call_with(alloc, ground, header, &tx.ext, host_function)
+        OperationBody::InvokeHostFunction {
+            host_function,
+            auth,
+        } => {
+            let authority = authority_of(verdicts, tx, operation.source, auth.as_slice());
+            call_with(alloc, ground, header, &authority, &tx.ext, host_function)
         }
     }
 }
@@ -116,12 +130,13 @@ pub fn run_transaction<G: Ground>(
     alloc: Global,
     ground: &G,
     header: &Header,
+    verdicts: &Verdicts,
     tx: &Transaction,
 ) -> Result<TransactionDone, NoMemory>
     requires fits { transaction_format.fits tx.now }
     requires settings { IsTrue (are_settings header.now.settings) }
     requires next { IsTrue (has_next header.now) }
-    ensures done { IfOk result (λ done. ended_of done ≡ ended header.now (G.map ground.now) tx.now) }
+    ensures done { IfOk result (λ done. ended_of done ≡ ended header.now verdicts.now (G.map ground.now) tx.now) }
     ensures can { IfOk result (λ done. CanEnd (ended_of done)) }
 {
     if let Some(outcome) = refusal_of(alloc, header, tx)? {
@@ -129,6 +144,6 @@ pub fn run_transaction<G: Ground>(
     }
     match tx.operations.as_slice() {
         [] => Ok(without_effect(alloc, TransactionOutcome::MissingOperation)),
-        [operation, ..] => perform(alloc, ground, header, tx, &operation.body),
+        [operation, ..] => perform(alloc, ground, header, verdicts, tx, operation),
     }
 }

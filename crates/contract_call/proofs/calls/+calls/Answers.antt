@@ -5,15 +5,18 @@ use Rattle.host_spec.specs.declared.error.HostErr.{HostErr}
 use Rattle.wasm_run.specs.Suspended.{Suspended, Does, IsFresh}
 use Rattle.wasm_run.specs.declared.instance.Event.TheVariants as event
 use Rattle.wasm_spec.specs.declared.module.Module.{Module}
-use Rattle.contract_call.specs.Worlds.{DoesIn}
+use Rattle.contract_call.specs.Worlds.{DoesIn, DoesAround}
 use Rattle.call_parts.specs.Started.{IsStarted}
-use Rattle.contract_call.proofs.Looping.{Told, follows_first, run_answered, run_done, run_trapped, run_spent, run_refused, stays_same, stays_twice, may_pay, env_in, refilled}
+use Rattle.contract_call.proofs.Looping.{Told, follows_first, run_answered, run_done, run_trapped, run_spent, run_refused, stays_same, stays_twice, may_pay, env_in, refilled, still_room}
 use Rattle.value_types.specs.Views.{datum, datums}
 use Rattle.call_spec.specs.Frames.{framed}
 use Rattle.call_spec.specs.HostFunctions.{host_of, opener_of}
 use Rattle.wasm_spec.specs.Instances.{Ready, start_of}
 use Rattle.contract_call.specs.Running.{entered}
-use Rattle.contract_call.proofs.Calling.{call_enters, target_enters, call_refused, start_ready, start_refused}
+use Rattle.contract_call.proofs.Calling.{env_later, around_begins, numbered_stays, stays_then, call_enters, target_enters, call_refused, start_ready, start_refused}
+use Rattle.contract_call.specs.Targets.{may_name, call_of, call_at}
+use Rattle.contract_call.specs.Made.{authorising}
+use Rattle.value_types.specs.declared.value.ScVal.{ScVal}
 use Rattle.std.specs.Prelude.{Vec}
 use Rattle.std.specs.declared.alloc.Global.{Global}
 use Rattle.wasm_run.specs.declared.instance.CallPhase.TheVariants as phase
@@ -22,8 +25,8 @@ use Rattle.host_ledger.specs.Worlds.{copied}
 use Rattle.contract_call.specs.Framed.{argument_words}
 use Rattle.contract_call.proofs.Beginning.{words_of}
 use Rattle.contract_call.proofs.Framing.{not_begun, not_run, all_run}
-use Rattle.contract_call.proofs.Opening.{started_does, framed_does, stays_equal}
-use Rattle.std.specs.Prelude.{[], ◌∷◌, ◌++◌}
+use Rattle.contract_call.proofs.Opening.{started_does, closes, framed_does, frame_stays, stays_equal}
+use Rattle.std.specs.Prelude.{List, [], ◌∷◌, ◌++◌}
 use Rattle.host_ledger.specs.declared.state.InstanceCopy.{InstanceCopy}
 use Rattle.host_interface.specs.declared.kinds.ArgKind.TheVariants as kinds
 use Rattle.call_spec.specs.Rules.{answered}
@@ -34,48 +37,70 @@ use Rattle.value_types.specs.Datum.{address}
 use Rattle.value_types.specs.declared.address.ScAddress.TheVariants.{Contract}
 use Rattle.host_interface.specs.declared.import.HostImport.TheVariants as imports
 use Rattle.call_spec.specs.World.{Env}
-use Rattle.call_spec.specs.Calling.{try_call, catching, calls}
-use Rattle.call_spec.specs.Creating.{creates, create_contract, create_contract_with_constructor, upload_wasm}
-use Rattle.call_spec.specs.Demands.{require_auth, require_auth_for_args}
+use Rattle.call_spec.specs.Asking.{check_of}
+use Rattle.call_spec.specs.Calling.{try_call, catching, calls, calls_for_host}
+use Rattle.call_spec.specs.Creating.{creates, creates_at, create_contract, create_contract_with_constructor, upload_wasm, CONSTRUCTOR}
+use Rattle.call_spec.specs.Demands.{demanded, require_auth, require_auth_for_args}
 use Rattle.call_spec.specs.HostFunctions.{host_function}
 use Rattle.host_ledger.specs.Worlds.{address_of}
 use Rattle.contract_call.specs.Creations.{creation_of}
 use Rattle.contract_call.specs.Parts.{IsPart}
 use Rattle.contract_call.specs.Taken.{creates_here}
-use Rattle.contract_call.specs.Undone.{Marks}
-use Rattle.contract_call.proofs.Construction.{creates_does, creates_refused, constructs_does}
+use Rattle.auth_parts.specs.Asked.{asks_then}
+use Rattle.auth_parts.specs.Views.{asked}
+use Rattle.contract_call.specs.Placed.{IsNewPlace}
+use Rattle.contract_call.proofs.Construction.{creates_does, creates_refused, authorises_does, authorises_not, builds_does, builds_refused, constructs_does}
+use Rattle.contract_call.proofs.Demanding.{demanded_does, marked_stays, proves_does, proves_not, nothing_left, checks_does, grants_does, own_does, given_does, here_does}
 use Rattle.contract_call.proofs.Arity.{event_arity}
 use Rattle.contract_call.proofs.Rowing.{taken_does, called_by, over_same, row_answers, stays_on, valued_does, in_around}
 use Rattle.contract_call.proofs.calls.+calls.Goals as goal
 
-pub call-returns-in-Err-clause-does : goal.call-returns-in-Err-clause-does
-call-returns-in-Err-clause-does g t c = call_refused c.args.room c.if-room-eq0.false c.args.call c.in-Err.error c.args.host.now c.find_target.new.host c.in-Err.ensures.does
-
 pub call-returns-in-Ok-clause-does : goal.call-returns-in-Ok-clause-does
 call-returns-in-Ok-clause-does g t c =
-    call_enters c.args.room c.if-room-eq0.false c.args.call c.in-Ok.target c.call_target.result c.args.host.now c.find_target.new.host c.call_target.new.host c.in-Ok.ensures.stays c.in-Ok.ensures.does c.call_target.ensures.does
+    around_begins c.call_below.result datum (λ env path. call_at (may_name c.args.call) env (opener_of env c.args.room) (call_of c.args.call) path) c.in-Ok.path.items c.args.host.now c.begin.new.self c.call_below.new.host c.in-Ok.ensures.path
+    c.in-Ok.ensures.count c.call_below.ensures.does
 
-pub call_target-returns-clause-does : goal.call_target-returns-clause-does
-call_target-returns-clause-does g t c path =
-    target_enters c.args.room c.args.call c.args.found c.running-frame.result c.enter.result c.args.host.now c.enter.new.host path c.running-frame.ensures.contract c.running-frame.ensures.caller c.running-frame.ensures.copy
-    (λ env is rest trace. c.enter.ensures.does path env is rest trace)
+pub call-returns-in-Ok-clause-stays : goal.call-returns-in-Ok-clause-stays
+call-returns-in-Ok-clause-stays g t c =
+    stays_then c.args.host.now c.begin.new.self c.call_below.new.host (numbered_stays c.args.host.now c.begin.new.self c.in-Ok.ensures.count) c.call_below.ensures.stays
+
+pub call_below-returns-in-Err-clause-does : goal.call_below-returns-in-Err-clause-does
+call_below-returns-in-Err-clause-does g t c =
+    subst (λ named. let none : Result ScVal HostErr = Err c.in-Err.error in DoesAround none datum (λ env. call_at named env (opener_of env c.args.room) (call_of c.args.call) c.args.path.items) c.args.host.now c.find_target.new.host) c.may_name-named.ensures
+    (call_refused c.args.room c.if-room-eq0.false c.may_name-named.result c.args.call c.args.path.items c.in-Err.error c.args.host.now c.find_target.new.host c.in-Err.ensures.does)
+
+pub call_below-returns-in-Ok-clause-does : goal.call_below-returns-in-Ok-clause-does
+call_below-returns-in-Ok-clause-does g t c =
+    subst (λ named. DoesAround c.call_target.result datum (λ env. call_at named env (opener_of env c.args.room) (call_of c.args.call) c.args.path.items) c.args.host.now c.call_target.new.host) c.may_name-named.ensures
+    (call_enters c.args.room c.if-room-eq0.false c.may_name-named.result c.args.call c.args.path.items c.in-Ok.target c.call_target.result c.args.host.now c.find_target.new.host c.call_target.new.host c.in-Ok.ensures.stays c.in-Ok.ensures.does
+    c.call_target.ensures.does)
+
+pub call_target-returns-in-Ok-clause-does : goal.call_target-returns-in-Ok-clause-does
+call_target-returns-in-Ok-clause-does g t c =
+    target_enters c.args.room c.args.call c.args.found c.running-frame.result c.in-Ok.place c.enter.result c.args.host.now c.enter.new.host c.args.path.items
+    (subst (λ (vs : List ScVal). IsNewPlace c.in-Ok.place c.args.call.function.now vs c.args.path.items) c.as_slice.ensures.value c.in-Ok.ensures.ok) c.running-frame.ensures.contract c.running-frame.ensures.caller
+    c.running-frame.ensures.copy c.enter.ensures.does
 
 pub enter-returns-in-Ok-clause-does : goal.enter-returns-in-Ok-clause-does
-enter-returns-in-Ok-clause-does g t c path =
+enter-returns-in-Ok-clause-does g t c =
     let m = c.args.module.now in
     let index = c.in-Ok.ensures.0 in
     let store = c.in-Ok.ensures.1 in
-    start_ready (start_of m c.args.function.now (length (datums c.args.args.items))) index store c.open.result datum
-    (λ env index store. framed env (host_of env (opener_of env c.args.room)) (entered c.args.frame c.args.function.now (datums c.args.args.items) path m index store)) c.args.host.now c.open.new.host
-    (subst (λ n. start_of m c.args.function.now n ≡ Ready index store) (c.len.ensures ∙ c.args.args.ok.0 ∙ sym (length-map c.args.args.items datum)) c.in-Ok.ensures.2)
-    (c.open.ensures.does c.args.function.now path index store (subst (λ n. IsFresh c.in-Ok.instance m index n store) (c.len.ensures ∙ c.args.args.ok.0 ∙ sym (length-map c.args.args.items datum)) c.in-Ok.ensures.3))
+    let function = c.args.place.function.items in
+    let count = c.len.ensures ∙ c.args.args.ok.0 ∙ sym (length-map c.args.args.items datum) in
+    start_ready (start_of m function (length (datums c.args.args.items))) index store c.open.result datum
+    (λ env index store. framed env (host_of env (opener_of env c.args.room)) (entered c.args.frame function (datums c.args.args.items) c.args.place.path.items m index store)) c.args.host.now c.open.new.host
+    (subst (λ f. start_of m f (length (datums c.args.args.items)) ≡ Ready index store) c.as_slice.ensures.value (subst (λ n. start_of m c.as_slice.result.now n ≡ Ready index store) count c.in-Ok.ensures.2))
+    (c.open.ensures.does index store (subst (λ n. IsFresh c.in-Ok.instance m index n store) count c.in-Ok.ensures.3))
 
 pub enter-returns-in-Err-clause-does : goal.enter-returns-in-Err-clause-does
-enter-returns-in-Err-clause-does g t c path =
+enter-returns-in-Err-clause-does g t c =
     let none : Result Suspended HostErr = Err c.in-Err.error in
-    start_refused c.args.module.now c.args.function.now (length (datums c.args.args.items)) c.in-Err.error
-    (λ env index store. framed env (host_of env (opener_of env c.args.room)) (entered c.args.frame c.args.function.now (datums c.args.args.items) path c.args.module.now index store)) c.args.host.now
-    (subst (λ n. IsStarted c.args.module.now c.args.function.now n none) (c.len.ensures ∙ c.args.args.ok.0 ∙ sym (length-map c.args.args.items datum)) c.in-Err.ensures)
+    let function = c.args.place.function.items in
+    let count = c.len.ensures ∙ c.args.args.ok.0 ∙ sym (length-map c.args.args.items datum) in
+    start_refused c.args.module.now function (length (datums c.args.args.items)) c.in-Err.error
+    (λ env index store. framed env (host_of env (opener_of env c.args.room)) (entered c.args.frame function (datums c.args.args.items) c.args.place.path.items c.args.module.now index store)) c.args.host.now
+    (subst (λ f. IsStarted c.args.module.now f (length (datums c.args.args.items)) none) c.as_slice.ensures.value (subst (λ n. IsStarted c.args.module.now c.as_slice.result.now n none) count c.in-Err.ensures))
 
 pub run-loop-instance-init : goal.run-loop-instance-init
 run-loop-instance-init g t c = (stays_same c.args.host.now c.requires.ready, c.requires.phase, c.requires.source, follows_first c.args.module.now c.args.room c.args.instance c.args.host.now)
@@ -171,14 +196,30 @@ inside-returns-in-Ok-run-clause-stays g t c =
     stays_twice c.args.host.now h2 c.end.new.host h2.ledger.budget (stays_twice c.args.host.now h1 h2 h1.ledger.budget c.in-Ok.ensures.stays c.in-Ok-run.ensures.stays) c.end.ensures.stays
 
 pub open-returns-in-Ok-open_frame-clause-does : goal.open-returns-in-Ok-open_frame-clause-does
-open-returns-in-Ok-open_frame-clause-does g t c function path index store fresh =
-    let e = entered c.args.frame function (datums c.args.args.items) path c.args.module.now index store in
-    framed_does c.args.frame c.requires.frame function (datums c.args.args.items) path c.args.module.now index store c.args.room c.in-Ok.first c.inside-result.result c.args.host.now c.open_frame.new.self c.inside-result.new.host
-    c.close_frame.new.self c.in-Ok-open_frame.waiting.objects c.in-Ok-open_frame.waiting.frame c.in-Ok.ensures.ok c.in-Ok-open_frame.ensures.frame c.in-Ok-open_frame.ensures.contracts c.inside-result.ensures.stays
-    (c.inside-result.ensures.does e refl refl fresh) c.close_frame.ensures.frame c.close_frame.ensures.contracts
+open-returns-in-Ok-open_frame-clause-does g t c index store fresh =
+    let h = c.args.host.now in
+    let h1 = c.open_frame.new.self in
+    let h2 = c.inside-result.new.host in
+    let place = c.args.place in
+    let args = c.requires.place.args in
+    let w = c.in-Ok-open_frame.waiting in
+    let closed = closes h h2 c.close_frame.new.self w.objects w.frame w.place c.in-Ok-open_frame.ensures.objects c.in-Ok-open_frame.ensures.waiting c.in-Ok-open_frame.ensures.place c.close_frame.ensures.frame in
+    let e = entered c.args.frame place.function.items (datums place.args.items) place.path.items c.args.module.now index store in
+    subst (λ (vs : List ScVal). DoesAround c.inside-result.result datum (λ env. framed env (host_of env (opener_of env c.args.room)) (entered c.args.frame place.function.items (datums vs) place.path.items c.args.module.now index store)) h c.close_frame.new.self) args
+    (framed_does c.args.frame c.requires.frame place c.requires.place.begun c.args.module.now index store c.args.room c.in-Ok.first c.inside-result.result h h1 h2 c.close_frame.new.self c.in-Ok.ensures.ok c.in-Ok-open_frame.ensures.frame
+    c.in-Ok-open_frame.ensures.contracts c.inside-result.ensures.stays (c.inside-result.ensures.does e refl (ap datums args) (subst (λ (vs : List ScVal). IsFresh c.args.instance c.args.module.now index (length (datums vs)) store) (sym args) fresh)) closed
+    c.close_frame.ensures.contracts)
+
+pub open-returns-in-Ok-open_frame-clause-stays : goal.open-returns-in-Ok-open_frame-clause-stays
+open-returns-in-Ok-open_frame-clause-stays g t c =
+    let h = c.args.host.now in
+    let h2 = c.inside-result.new.host in
+    let w = c.in-Ok-open_frame.waiting in
+    frame_stays c.args.frame c.args.place h c.open_frame.new.self h2 c.close_frame.new.self c.in-Ok-open_frame.ensures.frame c.in-Ok-open_frame.ensures.contracts c.inside-result.ensures.stays
+    (closes h h2 c.close_frame.new.self w.objects w.frame w.place c.in-Ok-open_frame.ensures.objects c.in-Ok-open_frame.ensures.waiting c.in-Ok-open_frame.ensures.place c.close_frame.ensures.frame) c.close_frame.ensures.contracts
 
 pub open-returns-in-Err-open_frame-clause-stays : goal.open-returns-in-Err-open_frame-clause-stays
-open-returns-in-Err-open_frame-clause-stays g t c = stays_equal c.args.host.now c.open_frame.new.self c.in-Err-open_frame.ensures.err.0 c.in-Err-open_frame.ensures.err.1
+open-returns-in-Err-open_frame-clause-stays g t c = stays_equal c.args.host.now c.open_frame.new.self c.in-Err-open_frame.ensures.err c.in-Err-open_frame.ensures.same
 
 pub call_row-returns-in-Ok-clause-does : goal.call_row-returns-in-Ok-clause-does
 call_row-returns-in-Ok-clause-does g t c =
@@ -201,7 +242,7 @@ try_row-returns-in-Ok-clause-does g t c =
     let old = c.args.host.now in
     let mid = c.call_words.new.host in
     let x = c.in-Ok.field-0 in
-    let marks : Marks c.mark-mark.result mid = record { storage = c.mark-mark.ensures.storage; events = c.mark-mark.ensures.events } in
+    let marks = c.mark-mark.ensures in
     taken_does x c.valued.result (λ env. answered (kinds.Address ∷ kinds.Symbol ∷ kinds.Vec ∷ []) (try_call env (opener_of env c.args.room)) c.args.words.now)
     (λ env x. try_call env (opener_of env c.args.room) x.contract x.function.items (datums x.args.items)) old mid c.caught-made.new.host c.in-Ok.ensures.stays (c.in-Ok.ensures.takes (λ env. try_call env (opener_of env c.args.room)))
     (called_by catching c.args.room x.contract c.as_slice.result.now x.function.items (datums x.args.items) c.caught-made.result c.valued.result mid c.caught-made.new.host c.as_slice.ensures.value
@@ -210,7 +251,7 @@ try_row-returns-in-Ok-clause-does g t c =
 pub try_row-returns-in-Ok-clause-stays : goal.try_row-returns-in-Ok-clause-stays
 try_row-returns-in-Ok-clause-stays g t c =
     let mid = c.call_words.new.host in
-    let marks : Marks c.mark-mark.result mid = record { storage = c.mark-mark.ensures.storage; events = c.mark-mark.ensures.events } in
+    let marks = c.mark-mark.ensures in
     stays_on c.args.host.now mid c.caught-made.new.host c.in-Ok.ensures.stays (c.caught-made.ensures.stays mid marks c.call-made.ensures.stays)
 
 pub try_row-returns-in-Err-clause-does : goal.try_row-returns-in-Err-clause-does
@@ -243,20 +284,26 @@ create_here-returns-clause-does g t c =
 
 pub create-returns-in-Ok-clause-does : goal.create-returns-in-Ok-clause-does
 create-returns-in-Ok-clause-does g t c =
-    creates_does c.args.room (option_map address_of c.args.creator) (creation_of c.args.contract) c.in-Ok.field-0 c.construct.result c.args.host.now c.made.new.host c.construct.new.host c.in-Ok.ensures.stays c.in-Ok.ensures.id c.in-Ok.ensures.does
-    (λ path env is rest trace. c.construct.ensures.does path env is rest trace)
+    around_begins c.create_below.result (λ id. id) (λ env path. creates_at env (opener_of env c.args.room) (option_map address_of c.args.creator) (creation_of c.args.contract) path) c.in-Ok.path.items c.args.host.now c.begin.new.self
+    c.create_below.new.host c.in-Ok.ensures.path c.in-Ok.ensures.count c.create_below.ensures.does
 
-pub create-returns-in-Err-clause-does : goal.create-returns-in-Err-clause-does
-create-returns-in-Err-clause-does g t c =
-    creates_refused c.args.room (option_map address_of c.args.creator) (creation_of c.args.contract) c.in-Err.error c.args.host.now c.made.new.host c.in-Err.ensures.does
+pub create-returns-in-Ok-clause-stays : goal.create-returns-in-Ok-clause-stays
+create-returns-in-Ok-clause-stays g t c =
+    stays_then c.args.host.now c.begin.new.self c.create_below.new.host (numbered_stays c.args.host.now c.begin.new.self c.in-Ok.ensures.count) c.create_below.ensures.stays
 
-pub construct-returns-clause-does : goal.construct-returns-clause-does
-construct-returns-clause-does g t c path =
-    let copy : InstanceCopy = record { code = c.args.contract.code; storage = None } in
-    let args = datums c.given_args-args.result.items in
-    constructs_does c.args.room c.if-room-eq0.false c.args.creator c.args.id (creation_of c.args.contract) copy c.running-frame.result args path c.args.module.now c.enter-returned.result c.constructed.result c.args.host.now c.enter-returned.new.host
-    c.given_args-args.ensures.args (sym c.if-not-has_constructor.ensures) c.running-frame.ensures.contract c.running-frame.ensures.caller c.running-frame.ensures.copy refl c.enter-returned.ensures.stays c.constructed.ensures
-    (c.enter-returned.ensures.does (path ++ 1 ∷ []))
+pub create_below-returns-in-Ok-clause-does : goal.create_below-returns-in-Ok-clause-does
+create_below-returns-in-Ok-clause-does g t c =
+    let creator = option_map address_of c.args.creator in
+    let made = creation_of c.args.contract in
+    creates_does c.args.room creator made c.args.path.items c.in-Ok.id c.build.result c.args.host.now c.authorise.new.host c.build.new.host c.in-Ok.ensures.stays
+    (subst (λ p. let given : Result _ HostErr = Ok c.in-Ok.id in DoesAround given (λ id. id) (λ env. authorising env (opener_of env c.args.room) creator made p) c.args.host.now c.authorise.new.host) c.as_slice.ensures.value c.in-Ok.ensures.does) c.build.ensures.does
+
+pub create_below-returns-in-Err-clause-does : goal.create_below-returns-in-Err-clause-does
+create_below-returns-in-Err-clause-does g t c =
+    let creator = option_map address_of c.args.creator in
+    let made = creation_of c.args.contract in
+    creates_refused c.args.room creator made c.args.path.items c.in-Err.error c.args.host.now c.authorise.new.host
+    (subst (λ p. let none : Result _ HostErr = Err c.in-Err.error in DoesAround none (λ id. id) (λ env. authorising env (opener_of env c.args.room) creator made p) c.args.host.now c.authorise.new.host) c.as_slice.ensures.value c.in-Err.ensures.does)
 
 pub answer-returns-in-Values-clause-does : goal.answer-returns-in-Values-clause-does
 answer-returns-in-Values-clause-does g t c env is rest trace same = c.value_answer.ensures.does (opener_of env c.args.room) env is rest trace same
@@ -298,13 +345,13 @@ answer-returns-in-Upload-clause-does g t c =
 
 pub answer-returns-in-Auth-clause-does : goal.answer-returns-in-Auth-clause-does
 answer-returns-in-Auth-clause-does g t c =
-    let act = λ (env : Env). answered (kinds.Address ∷ []) require_auth c.args.words.now in
+    let act = λ (env : Env). answered (kinds.Address ∷ []) (require_auth env (opener_of env c.args.room)) c.args.words.now in
     row_answers c.args.import imports.RequireAuth c.args.room c.args.words.now c.args.memory.now act c.shown-in-Auth.result c.args.host.now c.shown-in-Auth.new.host (subst (λ p. IsPart p c.args.import) c.in-Auth.is c.part_of.ensures) (λ env w. refl)
     (c.shown-in-Auth.ensures.does c.args.host.now act c.auth_row-made.ensures.stays c.auth_row-made.ensures.does)
 
 pub answer-returns-in-AuthForArgs-clause-does : goal.answer-returns-in-AuthForArgs-clause-does
 answer-returns-in-AuthForArgs-clause-does g t c =
-    let act = λ (env : Env). answered (kinds.Address ∷ kinds.Vec ∷ []) require_auth_for_args c.args.words.now in
+    let act = λ (env : Env). answered (kinds.Address ∷ kinds.Vec ∷ []) (require_auth_for_args env (opener_of env c.args.room)) c.args.words.now in
     row_answers c.args.import imports.RequireAuthForArgs c.args.room c.args.words.now c.args.memory.now act c.shown-in-AuthForArgs.result c.args.host.now c.shown-in-AuthForArgs.new.host (subst (λ p. IsPart p c.args.import) c.in-AuthForArgs.is c.part_of.ensures)
     (λ env w. refl) (c.shown-in-AuthForArgs.ensures.does c.args.host.now act c.auth_for_args_row-made.ensures.stays c.auth_for_args_row-made.ensures.does)
 
@@ -316,10 +363,135 @@ run-answer-requires g t c κs lives = (
     (
       may_pay c.loop-instance.host c.step_to.new.budget c.loop-instance.invariant.0.ready,
       (
-        event_arity c.args.module.now c.loop-instance.instance.source c.in-Ok-HostCall.field-0 c.in-Ok-HostCall.import c.as_slice.result.now (row_of c.row-row.result)
-            (c.in-Ok-HostCall.field-0-is ∙ ap (event.HostCall c.in-Ok-HostCall.import) (sym c.as_slice.ensures)) c.in-Ok-HostCall.ensures.names c.loop-instance.invariant.2 c.row-row.ensures,
-        c.memory_mut-memory.ensures.small,
+        still_room c.args.room c.args.host.now c.loop-instance.host c.loop-instance.invariant.0.place c.requires.path,
+        (
+          event_arity c.args.module.now c.loop-instance.instance.source c.in-Ok-HostCall.field-0 c.in-Ok-HostCall.import c.as_slice.result.now (row_of c.row-row.result)
+              (c.in-Ok-HostCall.field-0-is ∙ ap (event.HostCall c.in-Ok-HostCall.import) (sym c.as_slice.ensures)) c.in-Ok-HostCall.ensures.names c.loop-instance.invariant.2 c.row-row.ensures,
+          c.memory_mut-memory.ensures.small,
+        ),
       ),
     ),
   ),
 )
+
+pub construct-returns-in-Ok-clause-does : goal.construct-returns-in-Ok-clause-does
+construct-returns-in-Ok-clause-does g t c =
+    let copy : InstanceCopy = record { code = c.args.contract.code; storage = None } in
+    let args = c.given_args-args.result.items in
+    constructs_does c.args.room c.if-room-eq0.false c.args.creator c.args.id (creation_of c.args.contract) copy c.running-frame.result c.in-Ok.place args c.args.path.items c.args.module.now c.enter-returned.result c.constructed.result
+    c.args.host.now c.enter-returned.new.host c.given_args-args.ensures.args (sym c.if-not-has_constructor.ensures) c.running-frame.ensures.contract c.running-frame.ensures.caller c.running-frame.ensures.copy refl
+    (subst (λ (vs : List ScVal). IsNewPlace c.in-Ok.place CONSTRUCTOR vs (c.args.path.items ++ 1 ∷ [])) c.as_slice.ensures.value c.in-Ok.ensures.ok) c.enter-returned.ensures.stays c.constructed.ensures c.enter-returned.ensures.does
+
+pub build-returns-in-Ok-clause-does : goal.build-returns-in-Ok-clause-does
+build-returns-in-Ok-clause-does g t c =
+    builds_does c.args.room (option_map address_of c.args.creator) (creation_of c.args.contract) c.args.path.items c.args.id c.in-Ok.module c.construct.result c.args.host.now c.made.new.host c.construct.new.host c.in-Ok.ensures.stays
+    c.in-Ok.ensures.does c.construct.ensures.does
+
+pub build-returns-in-Err-clause-does : goal.build-returns-in-Err-clause-does
+build-returns-in-Err-clause-does g t c =
+    builds_refused c.args.room (option_map address_of c.args.creator) (creation_of c.args.contract) c.args.path.items c.args.id c.in-Err.error c.args.host.now c.made.new.host c.in-Err.ensures.does
+
+pub authorise-returns-in-Ok-create_function-clause-does : goal.authorise-returns-in-Ok-create_function-clause-does
+authorise-returns-in-Ok-create_function-clause-does g t c =
+    let room = c.args.room in
+    let mid = c.paid_id.new.host in
+    let new = c.settle-settled.new.host in
+    let path = c.args.path.now in
+    let caller = c.contract_address-caller.result in
+    let creator = option_map address_of c.args.creator in
+    let made = creation_of c.args.contract.now in
+    let function = c.in-Ok-create_function.function in
+    let used = record mid { marks = c.demand-met.new.self } in
+    let used_is = ap (λ marks. record mid { marks = marks }) c.demand-met.ensures.pairs in
+    let met = c.settle-settled.result in
+    let stays = stays_then mid used new (marked_stays mid used path caller made.deployer function used_is) c.settle-settled.ensures.stays in
+    authorises_does room creator made path c.in-Ok.id c.granted.result c.args.host.now mid new c.in-Ok.ensures.stays c.in-Ok.ensures.does
+    (grants_does room creator made path c.in-Ok.id met c.granted.result mid new (env_later mid new stays) c.granted.ensures
+    (subst (λ f. DoesAround met (λ u. u) (λ env. demanded env (opener_of env room) path creator made.deployer f) mid new) c.in-Ok-create_function.ensures.ok
+    (subst (λ a. DoesAround met (λ u. u) (λ env. demanded env (opener_of env room) path a made.deployer function) mid new) c.contract_address-caller.ensures
+    (demanded_does room path caller made.deployer function c.demand-met.result met mid used new c.demand-met.ensures.answer used_is c.settle-settled.ensures.does))))
+
+pub authorise-returns-in-Ok-create_function-clause-stays : goal.authorise-returns-in-Ok-create_function-clause-stays
+authorise-returns-in-Ok-create_function-clause-stays g t c =
+    let mid = c.paid_id.new.host in
+    let new = c.settle-settled.new.host in
+    let used = record mid { marks = c.demand-met.new.self } in
+    stays_then c.args.host.now mid new c.in-Ok.ensures.stays
+    (stays_then mid used new
+    (marked_stays mid used c.args.path.now c.contract_address-caller.result c.args.contract.now.deployer c.in-Ok-create_function.function (ap (λ marks. record mid { marks = marks }) c.demand-met.ensures.pairs)) c.settle-settled.ensures.stays)
+
+pub authorise-returns-in-Err-clause-does : goal.authorise-returns-in-Err-clause-does
+authorise-returns-in-Err-clause-does g t c =
+    authorises_not c.args.room (option_map address_of c.args.creator) (creation_of c.args.contract.now) c.args.path.now c.in-Err.error c.args.host.now c.paid_id.new.host c.in-Err.ensures.does
+
+pub auth_row-returns-in-Ok-own_call-clause-does : goal.auth_row-returns-in-Ok-own_call-clause-does
+auth_row-returns-in-Ok-own_call-clause-does g t c =
+    let room = c.args.room in
+    let mid = c.auth_words.new.host in
+    taken_does c.in-Ok.address c.demand_here.result (λ env. answered (kinds.Address ∷ []) (require_auth env (opener_of env room)) c.args.words.now) (λ env x. require_auth env (opener_of env room) x) c.args.host.now mid c.demand_here.new.host
+    c.in-Ok.ensures.stays (c.in-Ok.ensures.takes (λ env. require_auth env (opener_of env room)))
+    (own_does room c.in-Ok.address c.in-Ok-own_call.function c.demand_here.result mid c.demand_here.new.host c.in-Ok-own_call.ensures.ok c.demand_here.ensures.does)
+
+pub auth_row-returns-in-Err-clause-does : goal.auth_row-returns-in-Err-clause-does
+auth_row-returns-in-Err-clause-does g t c = c.in-Err.ensures.takes (λ env. require_auth env (opener_of env c.args.room))
+
+pub auth_for_args_row-returns-in-Ok-call_with-clause-does : goal.auth_for_args_row-returns-in-Ok-call_with-clause-does
+auth_for_args_row-returns-in-Ok-call_with-clause-does g t c =
+    let room = c.args.room in
+    let mid = c.auth_for_args_words.new.host in
+    let x = c.in-Ok.field-0 in
+    taken_does x c.demand_here.result (λ env. answered (kinds.Address ∷ kinds.Vec ∷ []) (require_auth_for_args env (opener_of env room)) c.args.words.now) (λ env x. require_auth_for_args env (opener_of env room) x.address (datums x.args.items))
+    c.args.host.now mid c.demand_here.new.host c.in-Ok.ensures.stays (c.in-Ok.ensures.takes (λ env. require_auth_for_args env (opener_of env room)))
+    (given_does room x.address (datums x.args.items) c.in-Ok-call_with.function c.demand_here.result mid c.demand_here.new.host c.in-Ok-call_with.ensures.ok c.demand_here.ensures.does)
+
+pub auth_for_args_row-returns-in-Err-clause-does : goal.auth_for_args_row-returns-in-Err-clause-does
+auth_for_args_row-returns-in-Err-clause-does g t c = c.in-Err.ensures.takes (λ env. require_auth_for_args env (opener_of env c.args.room))
+
+pub demand_here-returns-clause-does : goal.demand_here-returns-clause-does
+demand_here-returns-clause-does g t c =
+    let room = c.args.room in
+    let h = c.args.host.now in
+    let new = c.settle-settled.new.host in
+    let path = c.as_slice-path.result.now in
+    let caller = c.contract_address-caller.result in
+    let used = record h { marks = c.demand-met.new.self } in
+    let used_is = ap (λ marks. record h { marks = marks }) c.demand-met.ensures.pairs in
+    let met = c.settle-settled.result in
+    let stays = stays_then h used new (marked_stays h used path caller c.args.address c.args.function used_is) c.settle-settled.ensures.stays in
+    here_does room c.args.address c.args.function met c.authorised.result h new stays c.authorised.ensures
+    (subst (λ a. DoesAround met (λ u. u) (λ env. demanded env (opener_of env room) h.place.path.items a c.args.address c.args.function) h new) c.contract_address-caller.ensures
+    (subst (λ p. DoesAround met (λ u. u) (λ env. demanded env (opener_of env room) p caller c.args.address c.args.function) h new) c.as_slice-path.ensures.value
+    (demanded_does room path caller c.args.address c.args.function c.demand-met.result met h used new c.demand-met.ensures.answer used_is c.settle-settled.ensures.does)))
+
+pub demand_here-returns-clause-stays : goal.demand_here-returns-clause-stays
+demand_here-returns-clause-stays g t c =
+    let h = c.args.host.now in
+    let new = c.settle-settled.new.host in
+    let used = record h { marks = c.demand-met.new.self } in
+    stays_on h h new (stays_same h c.requires.ready)
+    (stays_then h used new (marked_stays h used c.as_slice-path.result.now c.contract_address-caller.result c.args.address c.args.function (ap (λ marks. record h { marks = marks }) c.demand-met.ensures.pairs)) c.settle-settled.ensures.stays)
+
+pub prove-returns-in-Ok-Proved-clause-does : goal.prove-returns-in-Ok-Proved-clause-does
+prove-returns-in-Ok-Proved-clause-does g t c =
+    let room = c.args.room in
+    let mid = c.ask_entry.new.host in
+    let r : Result _ HostErr = Ok tt in
+    proves_does room c.args.entry c.in-Ok-Proved.field-0 asked r c.args.host.now mid mid (env_later c.args.host.now mid c.in-Ok-Proved.ensures.stays) c.in-Ok-Proved.ensures.does
+    (subst (λ a. DoesAround r (λ u. u) (λ env. asks_then env (opener_of env room) (asked a)) mid mid) (sym c.in-Ok-Proved.field-0-is) (nothing_left room mid))
+
+pub prove-returns-in-Ok-ByContract-clause-does : goal.prove-returns-in-Ok-ByContract-clause-does
+prove-returns-in-Ok-ByContract-clause-does g t c =
+    let room = c.args.room in
+    let mid = c.ask_entry.new.host in
+    proves_does room c.args.entry c.in-Ok-ByContract.field-0 asked c.check.result c.args.host.now mid c.check.new.host (env_later c.args.host.now mid c.in-Ok-ByContract.ensures.stays) c.in-Ok-ByContract.ensures.does
+    (subst (λ a. DoesAround c.check.result (λ u. u) (λ env. asks_then env (opener_of env room) (asked a)) mid c.check.new.host) (sym c.in-Ok-ByContract.field-0-is) c.check.ensures.does)
+
+pub prove-returns-in-Err-clause-does : goal.prove-returns-in-Err-clause-does
+prove-returns-in-Err-clause-does g t c = proves_not c.args.room c.args.entry c.in-Err.error asked c.args.host.now c.ask_entry.new.host c.in-Err.ensures.does
+
+pub check-returns-clause-does : goal.check-returns-clause-does
+check-returns-clause-does g t c =
+    let h = c.args.host.now in
+    let new = c.call-returned.new.host in
+    checks_does c.call-returned.result c.checked.result (λ env. calls_for_host env (opener_of env c.args.room) (check_of c.args.contract (datums c.args.args.items))) h new (env_later h new c.call-returned.ensures.stays) c.checked.ensures
+    c.call-returned.ensures.does

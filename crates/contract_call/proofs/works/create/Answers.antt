@@ -10,7 +10,7 @@ use Rattle.call_spec.specs.WholeRuns.{creating}
 use Rattle.contract_call.specs.Creations.{creation_of}
 use Rattle.contract_call.proofs.Calling.{around_stop}
 use Rattle.contract_call.proofs.Undoing.{may_undo}
-use Rattle.contract_call.proofs.Working.{viewed, work_good, work_end, same_base, undone_base}
+use Rattle.contract_call.proofs.Working.{has_room, viewed, work_good, work_end, same_base, undone_base}
 use Rattle.contract_call.proofs.Ending.{ends_so}
 use Rattle.contract_call.proofs.works.create.Goals as goal
 
@@ -25,12 +25,12 @@ returns-in-Ok-clause-ends g c =
     ends_so (creating (creation_of c.args.contract)) r (λ id. address (Contract id)) c.args.host.now c.create.new.host c.requires.ready (returns-in-Ok-clause-does g c)
 
 pub undo-requires : goal.undo-requires
-undo-requires g c = may_undo c.mark-mark.result c.args.host.now c.create.new.host (record { storage = c.mark-mark.ensures.storage; events = c.mark-mark.ensures.events }) c.in-Err.ensures.stays
+undo-requires g c = may_undo c.mark-mark.result c.args.host.now c.create.new.host c.mark-mark.ensures c.in-Err.ensures.stays
 
 pub returns-in-Err-clause-does : goal.returns-in-Err-clause-does
 returns-in-Err-clause-does g c =
     work_end c.most_frames.result c.mark-mark.result c.in-Err.error c.undo.result (λ id. address (Contract id)) (creating (creation_of c.args.contract)) c.args.host.now c.create.new.host c.undo.new.host
-    c.most_frames.ensures (record { storage = c.mark-mark.ensures.storage; events = c.mark-mark.ensures.events }) c.in-Err.ensures.stays c.undo.ensures.undoes c.undo.ensures.same
+    c.most_frames.ensures c.mark-mark.ensures c.in-Err.ensures.stays c.undo.ensures.undoes c.undo.ensures.same
     (around_stop c.in-Err.error (λ id. id) (λ id. address (Contract id)) (λ env. creates env (opener_of env c.most_frames.result) None (creation_of c.args.contract)) (λ env id. gives (address (Contract id)))
     c.args.host.now c.create.new.host c.in-Err.ensures.does)
 
@@ -44,3 +44,6 @@ returns-in-Ok-clause-base g c = same_base c.args.host.now c.create.new.host c.in
 
 pub returns-in-Err-clause-base : goal.returns-in-Err-clause-base
 returns-in-Err-clause-base g c = undone_base c.mark-mark.result c.in-Err.error c.args.host.now c.create.new.host c.undo.new.host c.in-Err.ensures.stays c.undo.ensures.undoes
+
+pub create-requires-clause-path : goal.create-requires-clause-path
+create-requires-clause-path g c = has_room c.most_frames.result c.args.host.now c.most_frames.ensures c.requires.path

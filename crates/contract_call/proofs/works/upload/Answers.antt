@@ -31,7 +31,7 @@ pub undo-requires : goal.undo-requires
 undo-requires g c =
     let old = c.args.host.now in
     let ledger = c.upload_in.new.ledger in
-    may_undo c.mark-mark.result old (record old { ledger = ledger }) (record { storage = c.mark-mark.ensures.storage; events = c.mark-mark.ensures.events }) (steps_stay old ledger c.in-Err.ensures.stays c.in-Err.ensures.later)
+    may_undo c.mark-mark.result old (record old { ledger = ledger }) c.mark-mark.ensures (steps_stay old ledger c.in-Err.ensures.stays c.in-Err.ensures.later)
 
 pub returns-in-Err-clause-does : goal.returns-in-Err-clause-does
 returns-in-Err-clause-does g c =
@@ -39,7 +39,7 @@ returns-in-Err-clause-does g c =
     let old = c.args.host.now in
     let ledger = c.upload_in.new.ledger in
     work_end MOST_FRAMES c.mark-mark.result c.in-Err.error c.undo.result (λ hash. bytes hash.0) (uploading c.args.code.now) old (record old { ledger = ledger }) c.undo.new.host refl
-    (record { storage = c.mark-mark.ensures.storage; events = c.mark-mark.ensures.events }) (steps_stay old ledger c.in-Err.ensures.stays c.in-Err.ensures.later) c.undo.ensures.undoes c.undo.ensures.same
+    c.mark-mark.ensures (steps_stay old ledger c.in-Err.ensures.stays c.in-Err.ensures.later) c.undo.ensures.undoes c.undo.ensures.same
     (around_stop c.in-Err.error (λ hash. hash) (λ hash. bytes hash.0) (λ env. uploads env c.args.code.now) (λ env hash. gives (bytes hash.0)) old (record old { ledger = ledger })
     (steps_around r (λ hash. hash) (λ env. uploads env c.args.code.now) old ledger c.in-Err.ensures.stays c.in-Err.ensures.does))
 

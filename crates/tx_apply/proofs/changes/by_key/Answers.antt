@@ -2,7 +2,7 @@ use Rattle.std.proofs.Common.{◌≡◌, take, sym, subst, arith}
 use Rattle.std.proofs.lemmas.Grind.{common_steps}
 use Rattle.contract_storage.specs.declared.changes.Change.{Change}
 use Rattle.tx_apply.specs.Changed.{CanStand}
-use Rattle.tx_apply.proofs.ByKey.{leads_none, leads_next, lie_next, leads_all}
+use Rattle.tx_apply.proofs.ByKey.{leads_next, lie_next, leads_all}
 use Rattle.tx_apply.proofs.changes.by_key.Goals as goal
 
 pub loop-change-preserved : goal.loop-change-preserved

@@ -1,5 +1,4 @@
 use Rattle.std.proofs.Common.{sym, ap, subst, ◌∙◌}
-use Rattle.tx_xdr.specs.Envelope.{transaction_in}
 use Rattle.tx_xdr.specs.Transaction.{transaction_format}
 use Rattle.tx_xdr.specs.declared.transaction.Transaction.{Transaction}
 use Rattle.tx_xdr.proofs.Fits.{transaction_in_fits}
@@ -23,7 +22,7 @@ returns-clause-done g c =
     let header = c.args.header.now in
     let entries = g.G.Ground.map c.args.ground.now in
     told_done header c.args.verdicts.now entries c.args.envelope.now (ended_of c.in_ok-done.done) c.in_ok-result.result
-    (c.in_ok-done.ensures.done ∙ ap (ended header entries) c.transaction.ensures) c.in_ok-result.ensures.value
+    (c.in_ok-done.ensures.done ∙ ap (ended header c.args.verdicts.now entries) c.transaction.ensures) c.in_ok-result.ensures.value
 
 pub returns-clause-within : goal.returns-clause-within
 returns-clause-within g c =

@@ -1,4 +1,4 @@
-use Rattle.std.proofs.Common.{◌≡◌, ◌<◌, ◌^◌, ℕ, List, All, length, sym, subst, lit<}
+use Rattle.std.proofs.Common.{◌<◌, ◌^◌, ℕ, List, All, length, sym, subst, lit<}
 use Rattle.std.proofs.lemmas.List.Elements.{All-nil}
 use Rattle.value_types.specs.Formats.{scval_format}
 use Rattle.value_types.specs.declared.value.ScVal.{ScVal}

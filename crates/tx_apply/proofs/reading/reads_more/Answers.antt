@@ -1,4 +1,4 @@
-use Rattle.std.proofs.Common.{◌≡◌, ◌+◌, ℕ, List, nat_lt, ap, ap₂, ◌∙◌, arith}
+use Rattle.std.proofs.Common.{◌+◌, List, nat_lt, ap, ap₂, ◌∙◌, arith}
 use Rattle.std.specs.List.{sum_by}
 use Rattle.ledger_types.specs.declared.key.LedgerKey.{LedgerKey}
 use Rattle.ledger_spec.specs.Seen.{seen}

@@ -1,5 +1,4 @@
-use Rattle.std.proofs.Common.{Result, Err}
-use Rattle.budget_meter.specs.declared.kind.Kind.TheVariants.{ValSer}
+use Rattle.std.proofs.Common.{Result}
 use Rattle.value_types.specs.declared.value.ScVal.{ScVal}
 use Rattle.host_spec.specs.Ends.{host_end}
 use Rattle.host_spec.specs.declared.error.ValueErr.{ValueErr}

@@ -1,4 +1,4 @@
-use Rattle.std.proofs.Common.{[], ◌∷◌, ◌+◌, sym, ap, subst, ◌∙◌, List}
+use Rattle.std.proofs.Common.{[], ◌∷◌, sym, subst, ◌∙◌, List}
 use Rattle.ledger_types.specs.declared.key.LedgerKey.{LedgerKey}
 use Rattle.tx_results.specs.declared.results.TransactionOutcome.TheVariants.{Failed}
 use Rattle.tx_apply.specs.Outcomes.{without_effect}

@@ -1,6 +1,6 @@
-use Rattle.std.proofs.Common.{◌≡◌, ◌≤◌, Bool, false, Option, sym, ap, ◌∙◌, arith}
+use Rattle.std.proofs.Common.{◌≤◌, Option, sym, ap, ◌∙◌, arith}
 use Rattle.ledger_spec.specs.declared.Kept.{Kept}
-use Rattle.ledger_spec.specs.LedgerMap.{find, key_bytes}
+use Rattle.ledger_spec.specs.LedgerMap.{key_bytes}
 use Rattle.ledger_spec.specs.Seen.{seen, seen_of}
 use Rattle.tx_apply.specs.Changed.{is_unaltered_by}
 use Rattle.tx_apply.proofs.Adding.{altered_is, fits_in, size_is}

@@ -1,4 +1,4 @@
-use Rattle.std.proofs.Common.{◌≡◌, nat_lt, ap, ap₂, ◌∙◌, arith}
+use Rattle.std.proofs.Common.{nat_lt, ap, ap₂, ◌∙◌, arith}
 use Rattle.xdr_core.specs.Sizes.{capped}
 use Rattle.call_spec.specs.Invoked.{written_bytes}
 use Rattle.tx_apply.proofs.Adding.{capped_test}

@@ -1,0 +1,10 @@
+pub mod Splitting
+pub mod Passing
+pub mod NonceEntries
+pub mod Making
+pub mod SignedBytes
+pub mod Rows
+pub mod ContextBounds
+pub mod ArgumentBounds
+pub mod Verdicts
+pub mod Steps

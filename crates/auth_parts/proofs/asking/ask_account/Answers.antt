@@ -1,0 +1,12 @@
+use Rattle.std.proofs.Common.{sym, ◌∙◌}
+use Rattle.call_spec.specs.Asking.{is_good}
+use Rattle.auth_parts.proofs.Verdicts.{holds_is, good_account, bad_account}
+use Rattle.auth_parts.proofs.asking.ask_account.Goals as goal
+
+pub returns-then-holds-clause-does : goal.returns-then-holds-clause-does
+returns-then-holds-clause-does c w =
+    (tt, good_account (is_good c.args.verdicts.now c.args.account c.args.payload) (sym (holds_is c.args.account c.args.payload c.args.verdicts.now c.holds.result c.holds.ensures) ∙ c.if-holds.true) w)
+
+pub returns-else-holds-clause-does : goal.returns-else-holds-clause-does
+returns-else-holds-clause-does c w =
+    (tt, bad_account (is_good c.args.verdicts.now c.args.account c.args.payload) (sym (holds_is c.args.account c.args.payload c.args.verdicts.now c.holds.result c.holds.ensures) ∙ c.if-holds.false) w)

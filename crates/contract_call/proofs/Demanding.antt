@@ -1,0 +1,208 @@
+-- Demands of authorisation: the node that is used, and what its entry owes.
+use Rattle.std.proofs.Common.{◌≡◌, ℕ, List, [], ◌∷◌, Bool, true, false, Option, Some, None, slice_get, Result, Ok, Err, refl, sym, ap, ◌∙◌, subst, append-nil}
+use Rattle.std.specs.Option.{option_map}
+use Rattle.value_types.specs.Datum.{Datum, void}
+use Rattle.value_types.specs.Views.{datum, datums}
+use Rattle.value_types.specs.declared.hash.Hash.{Hash}
+use Rattle.value_types.specs.declared.value.ScVal.{ScVal}
+use Rattle.value_types.specs.declared.address.ScAddress.{ScAddress}
+use Rattle.invoke_types.specs.declared.function.Function.{Function}
+use Rattle.auth_types.specs.declared.auth_entry.AuthEntry.{AuthEntry}
+use Rattle.auth_trees.specs.declared.demand.Demand.{Demand}
+use Rattle.auth_trees.specs.Demands.{Choice, ByNode, ByCaller, ByNothing, choice, answer, paired, Marked, after_demand, demand as demand_of}
+use Rattle.auth_trees.proofs.Later.{later_demand}
+use Rattle.host_spec.specs.declared.error.HostErr.{HostErr}
+use Rattle.host_spec.specs.declared.error.HostErr.TheVariants as ends
+use Rattle.host_frame.specs.Answered.{answer_of}
+use Rattle.host_frame.specs.declared.answer.Answer.{Answer as Answer'}
+use Rattle.host_ledger.proofs.Rows.{later_same}
+use Rattle.host_ledger.specs.Answered.{any}
+use Rattle.call_spec.specs.Errors.{DENIED}
+use Rattle.call_spec.specs.World.{Access, World, Authority, Env}
+use Rattle.call_spec.specs.Acts.{Failed, Spent, Archived, Out, Good, Bad, Undeclared, Act, world_of, after, gives, only_where}
+use Rattle.call_spec.specs.Asking.{denied, denying}
+use Rattle.call_spec.specs.Demands.{met, demanded, proves_entry, require_auth, require_auth_for_args}
+use Rattle.call_spec.specs.Creating.{Creation, function_of}
+use Rattle.call_spec.specs.Frames.{Opener, is_void}
+use Rattle.call_spec.specs.HostFunctions.{opener_of}
+use Rattle.call_spec.specs.Outcomes.{Says, trace_of, stopped_kind}
+use Rattle.auth_parts.specs.Asked.{Asked, proved, asks_first, asks_then}
+use Rattle.auth_parts.specs.Views.{asked}
+use Rattle.auth_parts.specs.declared.asking.Asked.{Asked as Asked'}
+use Rattle.host_ledger.specs.Worlds.{address_of, IsEnv}
+use Rattle.host_ledger.specs.declared.state.HostLedger.{HostLedger}
+use Rattle.contract_call.proofs.Constructing.{does_around}
+use Rattle.contract_call.proofs.Lending.{around}
+use Rattle.auth_parts.proofs.Splitting.{entry_asked}
+use Rattle.contract_call.specs.Demanded.{called, requires_here, settled, asks_at, granted, denied_end, if_good, checked}
+use Rattle.contract_call.specs.Made.{granting, IsValued}
+use Rattle.contract_call.specs.Worlds.{world_around, IsEnvOf, DoesAround, DoesIn, Stays}
+use Rattle.contract_call.specs.declared.host.Host.{Host}
+use Rattle.contract_call.proofs.Calling.{around_on, around_stop, around_same}
+use Rattle.contract_call.proofs.Rowing.{in_around, valued_does}
+
+-- ---- the node that is used
+
+-- what a demand does is to use a node and to settle
+met_settled : (env : Env) (opener : Opener) (path : List ℕ) (c : Choice) (w : World) → met env opener path c w ≡ settled env opener (answer c) (record w { pairs = paired w.pairs path c })
+met_settled env opener path (ByNode entry []) w = refl
+met_settled env opener path (ByNode entry (i ∷ more)) w = refl
+met_settled env opener path ByCaller w = refl
+met_settled env opener path ByNothing w = refl
+
+-- the host after a demand used a node
+abbrev pub marked : {G : Type 0} → Host G → List ℕ → Option ScAddress → ScAddress → Function → Host G
+marked h path caller address function = record h { marks = after_demand h.marks path caller address function }
+
+pub demanded_does : {G : Type 0} (room : ℕ) (path : List ℕ) (caller : Option ScAddress) (address : ScAddress) (function : Function) (answered : Demand) (r : Result (Unit {0}) HostErr) (old mid new : Host G)
+    → answered ≡ demand_of old.marks path caller address function → mid ≡ marked old path caller address function → DoesAround r (λ u. u) (λ env. settled env (opener_of env room) answered) mid new
+    → DoesAround r (λ u. u) (λ env. demanded env (opener_of env room) path caller address function) old new
+demanded_does {G} room path caller address function answered r old mid new answer_is mid_is does env is rest trace =
+    let c = choice old.marks path caller address function in
+    let settles : Host G → Type 0 = λ h. DoesAround r (λ u. u) (λ env. settled env (opener_of env room) (answer c)) h new in
+    let settle : settles (marked old path caller address function) = subst settles mid_is (subst (λ d. DoesAround r (λ u. u) (λ env. settled env (opener_of env room) d) mid new) answer_is does) in
+    let w = world_around rest old trace in
+    let asks = λ (s : Marked). met env (opener_of env room) path (choice s path caller address function) w in
+    let same : demanded env (opener_of env room) path caller address function w ≡ settled env (opener_of env room) (answer c) (record w { pairs = paired old.marks.pairs path c }) =
+    ap (λ a. asks (record { entries = a.entries; source = a.source; pairs = old.marks.pairs })) is.authority ∙ met_settled env (opener_of env room) path c w in
+    subst (λ (o : Out (Unit {0})). Says any r (λ u. u) o (world_around rest new)) (sym same)
+    (settle env (record { ledger = record { header = is.ledger.header; serves = is.ledger.serves }; authority = is.authority }) rest trace)
+
+pub marked_stays : {G : Type 0} (old mid : Host G) (path : List ℕ) (caller : Option ScAddress) (address : ScAddress) (function : Function) → mid ≡ marked old path caller address function → Stays old mid
+marked_stays {G} old mid path caller address function is = subst (λ (h : Host G). Stays old h) (sym is) (record {
+  header = refl;
+  storage = later_same old.ledger.storage old.ledger.storage refl;
+  events = ([], sym (append-nil old.ledger.events));
+  objects = refl;
+  frame = refl;
+  contracts = refl;
+  marks = later_demand old.marks path caller address function;
+  verdicts = refl;
+  place = refl;
+})
+
+-- ---- the entry
+
+proves_at : (env : Env) (opener : Opener) (o : Option AuthEntry) (w : World) → proves_entry env opener o w ≡ after (asks_at env o) (asks_then env opener) w
+proves_at env opener None w = refl
+proves_at env opener (Some entry) w = entry_asked env opener entry w
+
+module _ (room entry : ℕ) where
+  abbrev proves_all : Env → Act (Unit {0})
+  proves_all env = proves_entry env (opener_of env room) (slice_get env.authority.entries entry)
+
+  abbrev asks_all : Env → Act Asked
+  asks_all env = asks_at env (slice_get env.authority.entries entry)
+
+  pub proves_does : {A G : Type 0} (a : A) (view : A → Asked) (r : Result (Unit {0}) HostErr) (old mid new : Host G) → ((env : Env) → IsEnvOf env old → IsEnvOf env mid)
+      → (let given : Result A HostErr = Ok a in DoesAround given view asks_all old mid) → DoesAround r (λ u. u) (λ env. asks_then env (opener_of env room) (view a)) mid new → DoesAround r (λ u. u) proves_all old new
+  proves_does a view r old mid new later one two =
+      around_same r (λ u. u) proves_all (λ env. after (asks_all env) (asks_then env (opener_of env room))) old new (λ env w. proves_at env (opener_of env room) (slice_get env.authority.entries entry) w)
+      (around_on a r view (λ u. u) asks_all (λ env. asks_then env (opener_of env room)) old mid new later one two)
+
+  pub proves_not : {A G : Type 0} (e : HostErr) (view : A → Asked) (old new : Host G) → (let none : Result A HostErr = Err e in DoesAround none view asks_all old new)
+      → (let none : Result (Unit {0}) HostErr = Err e in DoesAround none (λ u. u) proves_all old new)
+  proves_not e view old new one =
+      let none : Result (Unit {0}) HostErr = Err e in
+      around_same none (λ u. u) proves_all (λ env. after (asks_all env) (asks_then env (opener_of env room))) old new (λ env w. proves_at env (opener_of env room) (slice_get env.authority.entries entry) w)
+      (around_stop e view (λ u. u) asks_all (λ env. asks_then env (opener_of env room)) old new one)
+
+-- the entry at an index, as the program asks its address
+pub asks_does : {G : Type 0} (r : Result Asked' HostErr) (index : ℕ) (entry : AuthEntry) (old : Host G) (new : HostLedger G) → new ≡ record old.ledger { storage = new.storage; budget = new.budget }
+    → slice_get old.marks.entries index ≡ Some entry
+    → ((env : Env) → IsEnv env old.ledger → env.authority.verdicts ≡ old.verdicts.now → (w : World) → w.entries ≡ old.ledger.storage.map → w.meter ≡ old.ledger.budget
+    → Says any r asked (asks_first env entry w) (λ trace. record w { entries = new.storage.map; trace = trace; meter = new.budget }))
+    → DoesAround r asked (λ env. asks_at env (slice_get env.authority.entries index)) old (around old new)
+asks_does r index entry old new kept found does =
+    does_around r asked (λ env. asks_at env (slice_get env.authority.entries index)) old new kept
+    (λ env is w i j. subst (λ o. Says any r asked (asks_at env o w) (λ trace. record w { entries = new.storage.map; trace = trace; meter = new.budget })) (sym (ap (λ (a : Authority). slice_get a.entries index) is.authority ∙ found))
+    (does env is.ledger (ap (λ (a : Authority). a.verdicts) is.authority) w i j))
+
+pub nothing_left : {G : Type 0} (room : ℕ) (h : Host G) → (let r : Result (Unit {0}) HostErr = Ok tt in DoesAround r (λ u. u) (λ env. asks_then env (opener_of env room) proved) h h)
+nothing_left room h env is rest trace = (tt, refl)
+
+-- ---- the contract's own function
+
+abbrev deny : {A : Type 0} → Result A HostErr → Result A HostErr
+deny (Ok a) = Ok a
+deny (Err e) = Err (denied_end e)
+
+denied_says : {A B : Type 0} (r : Result A HostErr) (view : A → B) (out : Out B) (left : List Access → World) → ((t : List Access) → (left t).trace ≡ t) → Says any r view out left → Says any (deny r) view (denied out) left
+denied_says (Ok a) view out left tr p =
+    let e : denied out ≡ Good (view a) (left (trace_of out)) = ap denied p.1 in (tt, e ∙ ap (λ t. Good (view a) (left t)) (sym (ap trace_of e ∙ tr (trace_of out))))
+denied_says (Err (ends.Failed d)) view out left tr p =
+    let e : denied out ≡ Bad (Failed DENIED) (left (trace_of out)) = ap denied p.1 in (tt, e ∙ ap (λ t. Bad (Failed DENIED) (left t)) (sym (ap trace_of e ∙ tr (trace_of out))))
+denied_says (Err ends.Spent) view out left tr p =
+    let e : denied out ≡ Bad Spent (world_of out) = ap denied p.1 in (tt, e ∙ ap (Bad Spent) (sym (ap world_of e)), ap (λ o. (world_of o).meter) e ∙ p.2)
+denied_says (Err (ends.Archived key)) view out left tr p =
+    let e : denied out ≡ Bad (Archived key) (world_of out) = ap denied p.1 in (tt, e ∙ ap (Bad (Archived key)) (sym (ap world_of e)), ap (λ o. (world_of o).meter) e ∙ p.2)
+denied_says {B = B} (Err (ends.Undeclared key)) view out left tr p =
+    let at : _ → World → Out B = λ kind w. Undeclared (record { kind = kind; key = key; used = (left []).meter.used }) w in
+    let e : denied out ≡ at (stopped_kind out) (world_of out) = ap denied p.1 in
+    (tt, e ∙ ap (λ k. at k (world_of out)) (sym (ap stopped_kind e)) ∙ ap (at (stopped_kind (denied out))) (sym (ap world_of e)), ap (λ o. (world_of o).meter) e ∙ p.2)
+denied_says (Err ends.NoMemory) view out left tr p = tt
+
+-- Void is good
+abbrev judged : Result ScVal HostErr → Result (Unit {0}) HostErr
+judged (Ok v) = if_good (is_void (datum v))
+judged (Err e) = Err e
+
+good_says : {G : Type 0} (good : Bool) (rest : World) (h : Host G) (trace : List Access)
+    → Says any (if_good good) (λ u. u) (only_where good DENIED (gives tt) (world_around rest h trace)) (world_around rest h)
+good_says true rest h trace = (tt, refl)
+good_says false rest h trace = (tt, refl)
+
+good_is : (good : Bool) → if_good good ≡ deny (if_good good)
+good_is true = refl
+good_is false = refl
+
+judged_does : {G : Type 0} (returned : Result ScVal HostErr) (act : Env → Act Datum) (old new : Host G) → ((env : Env) → IsEnvOf env old → IsEnvOf env new) → DoesAround returned datum act old new
+    → DoesAround (judged returned) (λ u. u) (λ env. after (act env) (λ d. only_where (is_void d) DENIED (gives tt))) old new
+judged_does (Ok v) act old new later does =
+    around_on v (if_good (is_void (datum v))) datum (λ u. u) act (λ env d. only_where (is_void d) DENIED (gives tt)) old new new later does
+    (λ env is rest trace. good_says (is_void (datum v)) rest new trace)
+judged_does (Err e) act old new later does = around_stop e datum (λ u. u) act (λ env d. only_where (is_void d) DENIED (gives tt)) old new does
+
+checked_is : (returned : Result ScVal HostErr) → checked returned ≡ deny (judged returned)
+checked_is (Ok v) = good_is (is_void (datum v))
+checked_is (Err e) = refl
+
+pub checks_does : {G : Type 0} (returned : Result ScVal HostErr) (r : Result (Unit {0}) HostErr) (act : Env → Act Datum) (old new : Host G) → ((env : Env) → IsEnvOf env old → IsEnvOf env new) → r ≡ checked returned
+    → DoesAround returned datum act old new → DoesAround r (λ u. u) (λ env. denying (after (act env) (λ d. only_where (is_void d) DENIED (gives tt)))) old new
+checks_does returned r act old new later is does =
+    subst (λ x. DoesAround x (λ u. u) (λ env. denying (after (act env) (λ d. only_where (is_void d) DENIED (gives tt)))) old new) (sym (is ∙ checked_is returned))
+    (λ env env_is rest trace. denied_says (judged returned) (λ u. u) (after (act env) (λ d. only_where (is_void d) DENIED (gives tt)) (world_around rest old trace)) (world_around rest new) (λ _. refl)
+    (judged_does returned act old new later does env env_is rest trace))
+
+-- ---- the end of a demand
+
+pub grants_does : {G : Type 0} (room : ℕ) (creator : Option ScAddress) (c : Creation) (path : List ℕ) (id : Hash) (met : Result (Unit {0}) HostErr) (r : Result Hash HostErr) (old new : Host G) → ((env : Env) → IsEnvOf env old → IsEnvOf env new)
+    → r ≡ granted met id → DoesAround met (λ u. u) (λ env. demanded env (opener_of env room) path creator c.deployer (function_of c)) old new
+    → DoesAround r (λ x. x) (λ env. granting env (opener_of env room) creator c path id) old new
+grants_does room creator c path id (Ok u) r old new later is does =
+    subst (λ x. DoesAround x (λ x. x) (λ env. granting env (opener_of env room) creator c path id) old new) (sym is)
+    (around_on u (Ok id) (λ u. u) (λ x. x) (λ env. demanded env (opener_of env room) path creator c.deployer (function_of c)) (λ env _. gives id) old new new later does (λ env is rest trace. (tt, refl)))
+grants_does room creator c path id (Err e) r old new later is does =
+    subst (λ x. DoesAround x (λ x. x) (λ env. granting env (opener_of env room) creator c path id) old new) (sym is)
+    (around_stop e (λ u. u) (λ x. x) (λ env. demanded env (opener_of env room) path creator c.deployer (function_of c)) (λ env _. gives id) old new does)
+
+-- what the program says of the running frame's function
+pub own_does : {G : Type 0} (room : ℕ) (address : ScAddress) (function : Function) (r : Result Answer' HostErr) (old new : Host G)
+    → function ≡ called old.ledger.frame.contract old.place.function.items (datums old.place.args.items) → DoesIn r answer_of (λ env. requires_here env (opener_of env room) address function) old new
+    → DoesIn r answer_of (λ env. require_auth env (opener_of env room) address) old new
+own_does room address function r old new is does =
+    subst (λ f. DoesIn r answer_of (λ env. requires_here env (opener_of env room) address f) old new) is does
+
+pub given_does : {G : Type 0} (room : ℕ) (address : ScAddress) (args : List Datum) (function : Function) (r : Result Answer' HostErr) (old new : Host G)
+    → function ≡ called old.ledger.frame.contract old.place.function.items args → DoesIn r answer_of (λ env. requires_here env (opener_of env room) address function) old new
+    → DoesIn r answer_of (λ env. require_auth_for_args env (opener_of env room) address args) old new
+given_does room address args function r old new is does =
+    subst (λ f. DoesIn r answer_of (λ env. requires_here env (opener_of env room) address f) old new) is does
+
+-- a demand of the running frame
+pub here_does : {G : Type 0} (room : ℕ) (address : ScAddress) (function : Function) (met : Result (Unit {0}) HostErr) (r : Result Answer' HostErr) (old new : Host G) → Stays old new → IsValued met (λ _. void) r
+    → DoesAround met (λ u. u) (λ env. demanded env (opener_of env room) old.place.path.items (option_map address_of old.ledger.frame.caller) address function) old new
+    → DoesIn r answer_of (λ env. requires_here env (opener_of env room) address function) old new
+here_does room address function met r old new stays valued does =
+    let act = λ (env : Env). demanded env (opener_of env room) old.place.path.items (option_map address_of old.ledger.frame.caller) address function in
+    valued_does met (λ u. u) (λ _. void) r act old new valued (in_around met (λ u. u) act old new stays does)
