@@ -1,14 +1,15 @@
 #!/bin/sh
 # Proves and builds the program, and shows what it does: vets a module, shows a transaction, a ledger and a set, and applies
-# the set to a ledger.
+# the set to a ledger. Then token.sh uploads a token, creates it, mints and transfers.
 #
-# The inputs are those of the crate command_cases, whose table data/readme.txt has the same commands and what they do. So the
-# gate checks what this prints.
+# The inputs are those of the crate command_cases, whose table data/readme.txt has the same commands and what they do. Its
+# table data/token.txt has those of token.sh. So the gate checks what both print.
 set -eu
 for tool in rt python3 xxd; do
     command -v "$tool" >/dev/null || { echo "$0 needs the command $tool" >&2; exit 1; }
 done
 cd "$(dirname "$0")/.."
+examples=$PWD/examples
 python3 tools/prove.py soroban_cmd
 
 program=$PWD/crates/soroban_cmd/out/soroban_cmd
@@ -37,3 +38,6 @@ soroban apply --set set.bin --ledger ledger.bin --verdicts verdicts.bin --close-
 echo '$ xxd -p -c 36 report.bin'
 xxd -p -c 36 report.bin
 soroban show --kind ledger --file next.bin
+
+echo
+sh "$examples/token.sh"

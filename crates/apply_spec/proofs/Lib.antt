@@ -2,3 +2,10 @@ pub mod Lengthened
 pub mod Exact
 pub mod Framed
 pub mod Called
+pub mod Rising
+pub mod Touching
+pub mod Recording
+pub mod Growing
+pub mod Fewer
+pub mod Trapping
+pub mod Halves

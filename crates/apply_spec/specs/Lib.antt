@@ -4,3 +4,7 @@ pub mod Extending
 pub mod Laws
 pub mod Runs
 pub mod Outputs
+pub mod Recorded
+pub mod Simulated
+pub mod SimulationFile
+pub mod SimulatedLaws

@@ -2,6 +2,8 @@
 #![tactic(auto)]
 
 ghost use Rattle.apply_spec.specs.Laws.{FramedLaw, ExtensionLaw, InvokeLaw};
+ghost use Rattle.apply_spec.specs.Recorded.{RecordedLaw, OnlyLaw, AllowedLaw, OnceLaw, SmallerLaw};
+ghost use Rattle.apply_spec.specs.SimulatedLaws.{SimulatedLaw, SmallerTrapsLaw};
 
 /// The effect of a transaction depends on its declared keys alone, and is at those keys alone.
 pub fn step_is_framed()
@@ -16,4 +18,21 @@ pub fn extension_is_exact()
 /// INVOKE_HOST_FUNCTION has the effect of what becomes of the call, which is none unless the call ends in SUCCESS.
 pub fn call_is_exact()
     ensures { InvokeLaw }
+{}
+
+/// The recorded footprint of a run has the keys with a write as read-write, and the other touched keys as read-only. It allows the
+/// run, and no smaller footprint does.
+pub fn footprints_are_recorded()
+    ensures recorded { RecordedLaw }
+    ensures only { OnlyLaw }
+    ensures allowed { AllowedLaw }
+    ensures once { OnceLaw }
+    ensures smaller { SmallerLaw }
+{}
+
+/// What is simulated on one ledger is enforced on every ledger that agrees on the recorded keys. A call that succeeded traps with
+/// every smaller footprint.
+pub fn simulated_is_enforced()
+    ensures same { SimulatedLaw }
+    ensures smaller { SmallerTrapsLaw }
 {}

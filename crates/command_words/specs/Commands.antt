@@ -22,6 +22,10 @@ with_flag name a = with_rule a (flag_rule name)
 unfoldable pub apply_app : App
 apply_app = with_flag (codes "base64") (with_option (codes "ledger-out") (with_option (codes "report") (with_option (codes "workers") (with_option (codes "close-time") (with_option (codes "verdicts") (with_option (codes "ledger") (with_option (codes "set") (new_app (codes "apply")))))))))
 
+-- simulate --tx FILE --ledger FILE --verdicts FILE --close-time SECONDS --out FILE [--base64]
+unfoldable pub simulate_app : App
+simulate_app = with_flag (codes "base64") (with_option (codes "out") (with_option (codes "close-time") (with_option (codes "verdicts") (with_option (codes "ledger") (with_option (codes "tx") (new_app (codes "simulate")))))))
+
 -- show --kind KIND --file FILE [--base64]
 unfoldable pub show_app : App
 show_app = with_flag (codes "base64") (with_option (codes "file") (with_option (codes "kind") (new_app (codes "show"))))
@@ -44,4 +48,4 @@ bare_app = on_top (λ s. record s { no_binary_name = true; disable_help_flag = t
 
 -- the program with its commands
 unfoldable pub soroban_app : App
-soroban_app = with_subcommand (with_subcommand (with_subcommand (with_subcommand (with_subcommand bare_app apply_app.top) show_app.top) vet_app.top) migrate_app.top) gen_app.top
+soroban_app = with_subcommand (with_subcommand (with_subcommand (with_subcommand (with_subcommand (with_subcommand bare_app apply_app.top) simulate_app.top) show_app.top) vet_app.top) migrate_app.top) gen_app.top

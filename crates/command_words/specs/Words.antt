@@ -8,7 +8,7 @@ use Rattle.clap.specs.Walk.{Row, Text, first_of}
 use Rattle.command_words.specs.Commands.{soroban_app}
 use Rattle.command_words.specs.Values.{are_names, count_in, is_set, kind_in, number64_in, workers_in}
 use Rattle.command_words.specs.declared.request.Request.{Request}
-use Rattle.command_words.specs.declared.request.Request.TheVariants.{Apply, Show, Vet, Migrate, Gen}
+use Rattle.command_words.specs.declared.request.Request.TheVariants.{Apply, Simulate, Show, Vet, Migrate, Gen}
 
 infixl 10 ◌>>=◌
 abbrev ◌>>=◌ : {A B : Type 0} → Option A → (A → Option B) → Option B
@@ -42,6 +42,24 @@ apply_from rows = do
     workers = workers;
     report = report;
     ledger_out = ledger_out;
+    base64 = has_base64 rows;
+  }))
+
+-- simulate, with the values of its options
+abbrev pub simulate_from : List Row → Option Request
+simulate_from rows = do
+  tx ← first_of (codes "tx") rows
+  ledger ← first_of (codes "ledger") rows
+  verdicts ← first_of (codes "verdicts") rows
+  close_time ← option_and_then number64_in (first_of (codes "close-time") rows)
+  out ← first_of (codes "out") rows
+  _ ← guard (are_names (tx ∷ ledger ∷ verdicts ∷ out ∷ []))
+  Some (Simulate (record {
+    tx = tx;
+    ledger = ledger;
+    verdicts = verdicts;
+    close_time = close_time;
+    out = out;
     base64 = has_base64 rows;
   }))
 
@@ -89,10 +107,11 @@ IsInRange _ = ⊤
 abbrev pub asked_from : Option (Text × List Row) → Option Request
 asked_from None = None
 asked_from (Some found) = if bytes_eq found.0 (codes "apply") then apply_from found.1
+    else (if bytes_eq found.0 (codes "simulate") then simulate_from found.1
     else (if bytes_eq found.0 (codes "show") then show_from found.1
     else (if bytes_eq found.0 (codes "vet") then vet_from found.1
     else (if bytes_eq found.0 (codes "migrate") then migrate_from found.1
-    else (if bytes_eq found.0 (codes "gen") then gen_from found.1 else None))))
+    else (if bytes_eq found.0 (codes "gen") then gen_from found.1 else None)))))
 
 -- clap finds no fault
 abbrev pub are_right : Kinds → Bool

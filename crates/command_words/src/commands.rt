@@ -4,7 +4,7 @@ ghost use Rattle.std.specs.Prelude.{◌≡◌, false, IfOk};
 ghost use Rattle.clap.specs.Simple.{app_of, new_app, with_rule, with_subcommand};
 ghost use Rattle.clap.specs.Walk.{rule_of};
 ghost use Rattle.clap.specs.declared.builder.command.Command.TheViews.{out-Command as fields_of};
-ghost use Rattle.command_words.specs.Commands.{apply_app, bare_app, flag_rule, gen_app, migrate_app, option_rule, show_app, soroban_app, vet_app, with_flag, with_option};
+ghost use Rattle.command_words.specs.Commands.{apply_app, bare_app, flag_rule, gen_app, migrate_app, option_rule, show_app, simulate_app, soroban_app, vet_app, with_flag, with_option};
 
 use clap::{Arg, ArgAction, Command};
 use std::alloc::{AllocError, Global};
@@ -14,6 +14,7 @@ pub fn soroban_command<'a>(alloc: Global) -> Result<Command<'a>, AllocError>
     ensures { IfOk result (λ c. app_of c ≡ soroban_app) }
 {
     let command = with_command(bare_command(alloc), apply_command(alloc)?)?;
+    let command = with_command(command, simulate_command(alloc)?)?;
     let command = with_command(command, show_command(alloc)?)?;
     let command = with_command(command, vet_command(alloc)?)?;
     let command = with_command(command, migrate_command(alloc)?)?;
@@ -41,6 +42,18 @@ fn apply_command<'a>(alloc: Global) -> Result<Command<'a>, AllocError>
     let command = with_options(command, alloc, "set", "ledger", "verdicts")?;
     let command = with_options(command, alloc, "close-time", "workers", "report")?;
     let command = with_option(command, alloc, "ledger-out")?;
+    with_flag(command, alloc, "base64")
+}
+
+#[tactic(auto, unfolding(crate::specs::Commands::simulate_app))]
+fn simulate_command<'a>(alloc: Global) -> Result<Command<'a>, AllocError>
+    ensures app { IfOk result (λ c. app_of c ≡ simulate_app) }
+    ensures local { IfOk result (λ c. (fields_of c).has_globals ≡ false) }
+{
+    let command = Command::new(alloc, "simulate");
+    let command = with_options(command, alloc, "tx", "ledger", "verdicts")?;
+    let command = with_option(command, alloc, "close-time")?;
+    let command = with_option(command, alloc, "out")?;
     with_flag(command, alloc, "base64")
 }
 

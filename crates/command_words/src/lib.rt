@@ -10,6 +10,7 @@ mod words;
 
 pub use error::WordsErr;
 pub use request::{
-    ApplyRequest, GenRequest, MigrateRequest, Request, ShowKind, ShowRequest, VetRequest,
+    ApplyRequest, GenRequest, MigrateRequest, Request, ShowKind, ShowRequest, SimulateRequest,
+    VetRequest,
 };
 pub use words::request_of;

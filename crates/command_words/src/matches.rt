@@ -6,11 +6,12 @@ ghost use Rattle.clap.specs.Simple.{subcommand_rows_of};
 ghost use Rattle.clap.specs.Walk.{first_of, rows_of};
 ghost use Rattle.command_words.specs.Answers.{ReadsWords};
 ghost use Rattle.command_words.specs.Values.{is_set, kind_in, number_in};
-ghost use Rattle.command_words.specs.Words.{IsInRange, apply_from, asked_from, gen_from, migrate_from, show_from, vet_from};
+ghost use Rattle.command_words.specs.Words.{IsInRange, apply_from, asked_from, gen_from, migrate_from, show_from, simulate_from, vet_from};
 
 use crate::values::{are_names, kind_in, number_in};
 use crate::{
-    ApplyRequest, GenRequest, MigrateRequest, Request, ShowKind, ShowRequest, VetRequest, WordsErr,
+    ApplyRequest, GenRequest, MigrateRequest, Request, ShowKind, ShowRequest, SimulateRequest,
+    VetRequest, WordsErr,
 };
 use clap::ArgMatches;
 use edge_io::Word;
@@ -31,6 +32,7 @@ pub fn request_from(alloc: Global, matches: &ArgMatches<'_>) -> Result<Request, 
     };
     match name {
         "apply" => apply_request(alloc, found),
+        "simulate" => simulate_request(alloc, found),
         "show" => show_request(alloc, found),
         "vet" => vet_request(alloc, found),
         "migrate" => migrate_request(alloc, found),
@@ -68,6 +70,28 @@ fn apply_request(alloc: Global, found: &ArgMatches<'_>) -> Result<Request, Words
         workers,
         report,
         ledger_out,
+        base64: is_set(found, "base64"),
+    }))
+}
+
+fn simulate_request(alloc: Global, found: &ArgMatches<'_>) -> Result<Request, WordsErr>
+    ensures request { ReadsWords result (simulate_from (rows_of (found_of found.now))) }
+    ensures range { IfOk result IsInRange }
+{
+    let tx = value_of(alloc, found, "tx")?;
+    let ledger = value_of(alloc, found, "ledger")?;
+    let verdicts = value_of(alloc, found, "verdicts")?;
+    let close_time = number_of(found, "close-time", 0, u64::MAX)?;
+    let out = value_of(alloc, found, "out")?;
+    if !are_names(&[&tx, &ledger, &verdicts, &out]) {
+        return Err(WordsErr::Usage);
+    }
+    Ok(Request::Simulate(SimulateRequest {
+        tx,
+        ledger,
+        verdicts,
+        close_time,
+        out,
         base64: is_set(found, "base64"),
     }))
 }

@@ -22,6 +22,22 @@ pub struct ApplyRequest {
     pub base64: bool,
 }
 
+/// The options of `simulate`.
+#[derive(Debug, Drop)]
+pub struct SimulateRequest {
+    /// The file of the transaction's envelope.
+    pub tx: Word,
+    /// The file of the ledger before the transaction.
+    pub ledger: Word,
+    pub verdicts: Word,
+    /// The close time of the ledger that is made, in seconds since 1970.
+    pub close_time: u64,
+    /// The file that gets the footprint and the result.
+    pub out: Word,
+    /// Whether the envelope's file is base64 text.
+    pub base64: bool,
+}
+
 /// The kinds of files that `show` reads.
 #[derive(Clone, Copy, Debug, PartialEq, Eq)]
 pub enum ShowKind {
@@ -75,6 +91,7 @@ pub struct GenRequest {
 #[derive(Debug, Drop)]
 pub enum Request {
     Apply(ApplyRequest),
+    Simulate(SimulateRequest),
     Show(ShowRequest),
     Vet(VetRequest),
     Migrate(MigrateRequest),

@@ -4,7 +4,9 @@ use Rattle.std.specs.FinMap.{get}
 use Rattle.ledger_types.specs.Verdicts.{verdicts_format, verdicts_lawful}
 use Rattle.ledger_types.specs.declared.verdicts.Verdicts.{Verdicts}
 use Rattle.stage_runs.specs.Conflicts.{IsFirstConflict}
+use Rattle.tx_xdr.specs.Envelope.{envelope_format, envelope_lawful}
 use Rattle.tx_xdr.specs.Set.{set_format, set_lawful}
+use Rattle.tx_xdr.specs.declared.envelope.Envelope.{Envelope}
 use Rattle.tx_xdr.specs.declared.set.TxSet.{TxSet}
 use Rattle.xdr_spec.specs.Decoded.{decoded}
 use Rattle.xdr_spec.specs.Format.{IsBytes}
@@ -13,17 +15,17 @@ use Rattle.xdr_spec.specs.declared.Why.{Why}
 use Rattle.xdr_spec.specs.declared.XdrErr.{XdrErr}
 use Rattle.xdr_spec.proofs.Decoding.{decoded_refuses, spells_decoded}
 use Rattle.soroban_top.specs.FirstConflict.{FoundConflict, first_conflict, free_of_conflict, stages_in, unless_found}
-use Rattle.soroban_top.specs.Judged.{as_verdicts, set_in, verdicts_in}
-use Rattle.soroban_top.specs.Laws.{ConflictLaw, DoneLaw, IsFree, MalformedLaw, VerdictsLaw}
-use Rattle.soroban_top.specs.Outcome.{applied, outputs_of}
+use Rattle.soroban_top.specs.Judged.{as_verdicts, envelope_in, set_in, verdicts_in}
+use Rattle.soroban_top.specs.Laws.{ConflictLaw, DoneLaw, IsFree, MalformedLaw, SimulateDoneLaw, SimulateMalformedLaw, SimulateVerdictsLaw, VerdictsLaw}
+use Rattle.soroban_top.specs.Outcome.{applied, outputs_of, simulated, simulation_of}
 use Rattle.soroban_top.specs.Product.{file}
 use Rattle.soroban_top.specs.Steps.{◌>>=◌, status_of}
 use Rattle.soroban_top.specs.declared.status.Status.{Status}
 use Rattle.soroban_top.specs.declared.status.Status.TheVariants as status
 use Rattle.soroban_top.proofs.Decoding.{refuses_decoded}
 use Rattle.soroban_top.proofs.FirstConflicts.{first_conflict_is, no_conflict_is}
-use Rattle.soroban_top.proofs.Later.{Later, of_conflict, run_or_not, set_file}
-use Rattle.soroban_top.proofs.Statuses.{malformed_before, status_after}
+use Rattle.soroban_top.proofs.Later.{envelope_file, never_verdicts, of_conflict, run_or_not, set_file}
+use Rattle.soroban_top.proofs.Statuses.{done_due, malformed_before, malformed_due, status_after}
 
 -- ---- what comes after a set was read
 
@@ -66,7 +68,7 @@ malformed_law a m bytes inputs at why =
     let given = inputs.before in
     let verdicts = spells_decoded verdicts_format verdicts_lawful inputs.verdicts inputs.bytes inputs.spells in
     let made = λ (set : TxSet). applied (file 3 a.report) (file 4 a.ledger_out) (outputs_of given.ledger inputs.verdicts set a.close_time) in
-    rw (given.is_ledger, given.has_verdicts, verdicts, inputs.has_set, inputs.opens) (malformed_before set_format set_lawful bytes (run_or_not made) at why inputs.are_bytes (not_malformed made at why))
+    rw (given.is_ledger, given.has_verdicts, verdicts, inputs.has_text, inputs.opens) (malformed_before set_format set_lawful bytes (run_or_not made) at why inputs.are_bytes (not_malformed made at why))
 
 pub done_law : DoneLaw
 unfolding verdicts_in set_in
@@ -74,7 +76,7 @@ done_law a m bytes inputs =
     let given = inputs.before in
     let verdicts = spells_decoded verdicts_format verdicts_lawful inputs.verdicts inputs.bytes inputs.spells in
     let made = λ (set : TxSet). applied (file 3 a.report) (file 4 a.ledger_out) (outputs_of given.ledger inputs.verdicts set a.close_time) in
-    rw (given.is_ledger, given.has_verdicts, verdicts, inputs.has_set, inputs.opens) (status_after set_format set_lawful bytes (run_or_not made) IsFree status.Done inputs.are_bytes (λ e h. cc) (done_after made))
+    rw (given.is_ledger, given.has_verdicts, verdicts, inputs.has_text, inputs.opens) (status_after set_format set_lawful bytes (run_or_not made) IsFree status.Done inputs.are_bytes (λ e h. cc) (done_after made))
 
 pub conflict_law : ConflictLaw
 unfolding verdicts_in set_in
@@ -82,7 +84,7 @@ conflict_law a m bytes inputs stage x y key =
     let given = inputs.before in
     let verdicts = spells_decoded verdicts_format verdicts_lawful inputs.verdicts inputs.bytes inputs.spells in
     let made = λ (set : TxSet). applied (file 3 a.report) (file 4 a.ledger_out) (outputs_of given.ledger inputs.verdicts set a.close_time) in
-    rw (given.is_ledger, given.has_verdicts, verdicts, inputs.has_set, inputs.opens)
+    rw (given.is_ledger, given.has_verdicts, verdicts, inputs.has_text, inputs.opens)
     (status_after set_format set_lawful bytes (run_or_not made) (λ set. IsFirstConflict (stages_in set) stage x y key) (status.Conflict stage x y key) inputs.are_bytes (λ e h. cc) (conflict_after made stage x y key))
 
 -- ---- the verdicts' file
@@ -102,12 +104,27 @@ verdicts_due bytes rest at fit none = (
 pub verdicts_law : VerdictsLaw
 unfolding verdicts_in
 verdicts_law a m bytes given at =
-    let later : Later (λ s. s ≡ status.Verdicts at → ⊥) = record {
-      fault = λ name h. cc;
-      long = λ name h. cc;
-      text = λ name h. cc;
-      malformed = λ place why h. cc;
-      conflict = λ stage x y key h. cc;
-      done = λ h. cc;
-    } in
-    rw (given.is_ledger, given.has_verdicts) (verdicts_due bytes _ at given.are_bytes (λ v. set_file _ later (get m a.set) a.base64 a.set (λ s. applied (file 3 a.report) (file 4 a.ledger_out) (outputs_of given.ledger v s a.close_time))))
+    rw (given.is_ledger, given.has_verdicts) (verdicts_due bytes _ at given.are_bytes (λ v. set_file _ (never_verdicts at) (get m a.set) a.base64 a.set (λ s. applied (file 3 a.report) (file 4 a.ledger_out) (outputs_of given.ledger v s a.close_time))))
+
+-- ---- simulate
+
+pub simulate_verdicts : SimulateVerdictsLaw
+unfolding verdicts_in
+simulate_verdicts s m bytes given at =
+    rw (given.is_ledger, given.has_verdicts) (verdicts_due bytes _ at given.are_bytes (λ v. envelope_file _ (never_verdicts at) (get m s.tx) s.base64 s.tx (λ e. simulated (file 3 s.out) (simulation_of given.ledger v e s.close_time))))
+
+pub simulate_malformed : SimulateMalformedLaw
+unfolding verdicts_in envelope_in
+simulate_malformed s m bytes inputs at why =
+    let given = inputs.before in
+    let verdicts = spells_decoded verdicts_format verdicts_lawful inputs.verdicts inputs.bytes inputs.spells in
+    let made = λ (envelope : Envelope). simulated (file 3 s.out) (simulation_of given.ledger inputs.verdicts envelope s.close_time) in
+    rw (given.is_ledger, given.has_verdicts, verdicts, inputs.has_text, inputs.opens) (malformed_due envelope_format envelope_lawful bytes made at why inputs.are_bytes)
+
+pub simulate_done : SimulateDoneLaw
+unfolding verdicts_in envelope_in
+simulate_done s m bytes inputs =
+    let given = inputs.before in
+    let verdicts = spells_decoded verdicts_format verdicts_lawful inputs.verdicts inputs.bytes inputs.spells in
+    let made = λ (envelope : Envelope). simulated (file 3 s.out) (simulation_of given.ledger inputs.verdicts envelope s.close_time) in
+    rw (given.is_ledger, given.has_verdicts, verdicts, inputs.has_text, inputs.opens) (done_due envelope_format envelope_lawful bytes made inputs.are_bytes)

@@ -1,21 +1,24 @@
 -- What may come of files that are read after others.
-use Rattle.std.proofs.Common.{ℕ, ◌^◌, List, length, Bool, true, false, Option, Some, None, Result, Ok, Err}
+use Rattle.std.proofs.Common.{◌≡◌, ℕ, ◌^◌, List, length, Bool, true, false, Option, Some, None, Result, Ok, Err}
 use Rattle.std.specs.Prelude.{nat_lt, if◌then◌else◌}
 use Rattle.base64_text.specs.Text.{bytes_in}
+use Rattle.ledger_spec.specs.declared.LedgerWhy.{LedgerWhy}
 use Rattle.ledger_types.specs.Verdicts.{verdicts_format}
 use Rattle.ledger_types.specs.declared.verdicts.Verdicts.{Verdicts}
+use Rattle.tx_xdr.specs.Envelope.{envelope_format}
 use Rattle.tx_xdr.specs.Set.{set_format}
+use Rattle.tx_xdr.specs.declared.envelope.Envelope.{Envelope}
 use Rattle.tx_xdr.specs.declared.set.TxSet.{TxSet}
 use Rattle.xdr_spec.specs.Decoded.{decoded}
 use Rattle.xdr_spec.specs.declared.Why.{Why}
 use Rattle.xdr_spec.specs.declared.XdrErr.{XdrErr}
 use Rattle.soroban_top.specs.FirstConflict.{FoundConflict, first_conflict, free_of_conflict, stages_in, unless_found}
-use Rattle.soroban_top.specs.Judged.{as_bytes, as_spelled, as_verdicts, bytes_of, set_in, set_opened, verdicts_in}
+use Rattle.soroban_top.specs.Judged.{as_bytes, as_spelled, as_verdicts, bytes_of, envelope_in, envelope_opened, opened, set_in, set_opened, verdicts_in}
 use Rattle.soroban_top.specs.Steps.{◌>>=◌, status_of}
 use Rattle.soroban_top.specs.declared.status.Status.{Status}
 use Rattle.soroban_top.specs.declared.status.Status.TheVariants as status
 
--- what holds of each status that a set's file can end with
+-- what holds of each status that the file of a set or an envelope can end with
 pub record Later (P : Status → Type 0) : Type 0 where
   pub fault : (name : List ℕ) → P (status.Fault name)
   pub long : (name : List ℕ) → P (status.TooLong name)
@@ -40,23 +43,39 @@ of_set : {B : Type 0} (P : Status → Type 0) → Later P → (r : Result TxSet 
 of_set P later (Ok s) f = of_run P later s f
 of_set P later (Err e) f = later.malformed e.at e.why
 
-of_text : {B : Type 0} (P : Status → Type 0) → Later P → (bytes : Option (List ℕ)) (name : List ℕ) (f : TxSet → B) → P (status_of (as_bytes name bytes >>= set_in >>= run_or_not f))
-unfolding set_in
-of_text P later None name f = later.text name
-of_text P later (Some bytes) name f = of_set P later (decoded set_format bytes) f
+-- ---- a file that may be base64 text
 
-by_flag : {B : Type 0} (P : Status → Type 0) → Later P → (base64 : Bool) (name text : List ℕ) (f : TxSet → B) → P (status_of (set_opened base64 name text >>= run_or_not f))
-unfolding set_in
-by_flag P later false name text f = of_set P later (decoded set_format text) f
-by_flag P later true name text f = of_text P later (bytes_in text) name f
+of_text : {A B : Type 0} (P : Status → Type 0) → Later P → (found : Option (List ℕ)) (name : List ℕ) (judge : List ℕ → Result A Status) (rest : A → Result B Status) → ((bytes : List ℕ) → P (status_of (judge bytes >>= rest)))
+    → P (status_of (as_bytes name found >>= judge >>= rest))
+of_text P later None name judge rest after = later.text name
+of_text P later (Some bytes) name judge rest after = after bytes
 
-by_length : {B : Type 0} (P : Status → Type 0) → Later P → (long base64 : Bool) (name bytes : List ℕ) (f : TxSet → B) → P (status_of ((if long then Err (status.TooLong name) else Ok bytes) >>= set_opened base64 name >>= run_or_not f))
-by_length P later true base64 name bytes f = later.long name
-by_length P later false base64 name bytes f = by_flag P later base64 name bytes f
+by_flag : {A B : Type 0} (P : Status → Type 0) → Later P → (base64 : Bool) (name text : List ℕ) (judge : List ℕ → Result A Status) (rest : A → Result B Status) → ((bytes : List ℕ) → P (status_of (judge bytes >>= rest)))
+    → P (status_of (opened base64 name text >>= judge >>= rest))
+by_flag P later false name text judge rest after = after text
+by_flag P later true name text judge rest after = of_text P later (bytes_in text) name judge rest after
+
+by_length : {A B : Type 0} (P : Status → Type 0) → Later P → (long base64 : Bool) (name bytes : List ℕ) (judge : List ℕ → Result A Status) (rest : A → Result B Status) → ((bytes : List ℕ) → P (status_of (judge bytes >>= rest)))
+    → P (status_of ((if long then Err (status.TooLong name) else Ok bytes) >>= (λ text. opened base64 name text >>= judge) >>= rest))
+by_length P later true base64 name bytes judge rest after = later.long name
+by_length P later false base64 name bytes judge rest after = by_flag P later base64 name bytes judge rest after
+
+text_file : {A B : Type 0} (P : Status → Type 0) → Later P → (found : Option (List ℕ)) (base64 : Bool) (name : List ℕ) (judge : List ℕ → Result A Status) (rest : A → Result B Status) → ((bytes : List ℕ) → P (status_of (judge bytes >>= rest)))
+    → P (status_of (bytes_of found name >>= (λ text. opened base64 name text >>= judge) >>= rest))
+text_file P later None base64 name judge rest after = later.fault name
+text_file P later (Some bytes) base64 name judge rest after = by_length P later (nat_lt (2 ^ 30) (length bytes)) base64 name bytes judge rest after
 
 pub set_file : {B : Type 0} (P : Status → Type 0) → Later P → (found : Option (List ℕ)) (base64 : Bool) (name : List ℕ) (f : TxSet → B) → P (status_of (bytes_of found name >>= set_opened base64 name >>= run_or_not f))
-set_file P later None base64 name f = later.fault name
-set_file P later (Some bytes) base64 name f = by_length P later (nat_lt (2 ^ 30) (length bytes)) base64 name bytes f
+unfolding set_in
+set_file P later found base64 name f = text_file P later found base64 name set_in (run_or_not f) (λ bytes. of_set P later (decoded set_format bytes) f)
+
+of_envelope : {B : Type 0} (P : Status → Type 0) → Later P → (r : Result Envelope XdrErr) (f : Envelope → B) → P (status_of (as_spelled r >>= (λ e. Ok (f e))))
+of_envelope P later (Ok e) f = later.done
+of_envelope P later (Err e) f = later.malformed e.at e.why
+
+pub envelope_file : {B : Type 0} (P : Status → Type 0) → Later P → (found : Option (List ℕ)) (base64 : Bool) (name : List ℕ) (f : Envelope → B) → P (status_of (bytes_of found name >>= envelope_opened base64 name >>= (λ e. Ok (f e))))
+unfolding envelope_in
+envelope_file P later found base64 name f = text_file P later found base64 name envelope_in (λ e. Ok (f e)) (λ bytes. of_envelope P later (decoded envelope_format bytes) f)
 
 -- ---- the verdicts' file, and what is read after it
 
@@ -74,3 +93,25 @@ pub verdicts_file : {B : Type 0} (P : Status → Type 0) → Later P → ((at : 
     → P (status_of (bytes_of found name >>= verdicts_in >>= rest))
 verdicts_file P later refused None name rest after = later.fault name
 verdicts_file P later refused (Some bytes) name rest after = verdicts_by_length P later refused (nat_lt (2 ^ 30) (length bytes)) name bytes rest after
+
+-- ---- these files are no cause of a refused ledger, and the last one none of refused verdicts
+
+pub never_ledger : (why : LedgerWhy) (at : ℕ) → Later (λ s. s ≡ status.Ledger why at → ⊥)
+never_ledger why at = record {
+  fault = λ name h. cc;
+  long = λ name h. cc;
+  text = λ name h. cc;
+  malformed = λ place why h. cc;
+  conflict = λ stage x y key h. cc;
+  done = λ h. cc;
+}
+
+pub never_verdicts : (at : ℕ) → Later (λ s. s ≡ status.Verdicts at → ⊥)
+never_verdicts at = record {
+  fault = λ name h. cc;
+  long = λ name h. cc;
+  text = λ name h. cc;
+  malformed = λ place why h. cc;
+  conflict = λ stage x y key h. cc;
+  done = λ h. cc;
+}

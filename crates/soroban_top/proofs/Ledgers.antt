@@ -1,6 +1,9 @@
 -- The status that is due where the bytes of the ledger's file are no ledger's.
-use Rattle.std.proofs.Common.{◌≡◌, ◌↔◌, ℕ, Bool, true, false, List, Result, Ok, Err, refl, ap, ap₂}
+use Rattle.std.proofs.Common.{◌≡◌, ◌↔◌, ℕ, Bool, true, false, List, Result, Ok, Err, refl, ap, ap₂, ◌∙◌}
 use Rattle.std.specs.FinMap.{get}
+use Rattle.apply_spec.specs.Runs.{running_header}
+use Rattle.apply_spec.specs.Simulated.{simulated as simulated_in}
+use Rattle.apply_spec.proofs.Framed.{step_framed}
 use Rattle.ledger_file.specs.FileOf.{IsFileOf}
 use Rattle.ledger_file.proofs.FromFile.{file_read}
 use Rattle.ledger_file.proofs.Refused.{xdr_refused}
@@ -14,23 +17,25 @@ use Rattle.ledger_types.specs.File.{file_format}
 use Rattle.ledger_types.specs.Verdicts.{verdicts_format, verdicts_lawful}
 use Rattle.ledger_types.specs.declared.header.Header.{Header}
 use Rattle.show_lines.specs.LedgerLines.{ledger_lines}
+use Rattle.stage_runs.specs.Transactions.{Effect}
+use Rattle.tx_xdr.specs.Envelope.{envelope_format, envelope_lawful}
 use Rattle.tx_xdr.specs.Set.{set_format, set_lawful}
 use Rattle.xdr_spec.specs.Format.{IsBytes}
 use Rattle.xdr_spec.specs.Refusal.{Refuses}
 use Rattle.xdr_spec.specs.declared.Why.{Why}
 use Rattle.xdr_spec.proofs.Decoding.{spells_decoded}
 use Rattle.soroban_top.specs.FirstConflict.{free_of_conflict, stages_in}
-use Rattle.soroban_top.specs.Judged.{as_ledger, ledger_in, set_in, verdicts_in}
-use Rattle.soroban_top.specs.Laws.{AppliedLaw, LedgerDoneLaw, LedgerLaw, LedgerShownLaw, MigrateDoneLaw, MigrateLaw, MigrateRefusedLaw, NoLedgerLaw}
+use Rattle.soroban_top.specs.Judged.{as_ledger, envelope_in, ledger_in, set_in, verdicts_in}
+use Rattle.soroban_top.specs.Laws.{AppliedLaw, found, LedgerDoneLaw, LedgerLaw, LedgerShownLaw, MigrateDoneLaw, MigrateLaw, MigrateRefusedLaw, NoLedgerLaw, SimulateEnforcedLaw, SimulateLaw, SimulateLedgerLaw, SimulateNoLedgerLaw}
 use Rattle.soroban_top.specs.Migrated.{migrated}
-use Rattle.soroban_top.specs.Outcome.{applied, only_said, outputs_of}
+use Rattle.soroban_top.specs.Outcome.{applied, only_said, outputs_of, simulated, simulation_of}
 use Rattle.soroban_top.specs.Product.{file}
 use Rattle.soroban_top.specs.Shown.{any_ledger_in}
 use Rattle.soroban_top.specs.Steps.{◌>>=◌, status_of}
 use Rattle.soroban_top.specs.declared.status.Status.{Status}
 use Rattle.soroban_top.specs.declared.status.Status.TheVariants as status
 use Rattle.soroban_top.proofs.FirstConflicts.{no_conflict_is}
-use Rattle.soroban_top.proofs.Later.{Later, set_file, verdicts_file}
+use Rattle.soroban_top.proofs.Later.{envelope_file, never_ledger, set_file, verdicts_file}
 
 is_refusal : {B : Type 0} (r : Result (Header × LedgerMap) LedgerRefusal) (rest : Header × LedgerMap → Result B Status) (reason : LedgerWhy) (at : ℕ) → ((l : Header × LedgerMap) → status_of (rest l) ≡ status.Ledger reason at → ⊥)
     → status_of (as_ledger r >>= rest) ≡ status.Ledger reason at → r ≡ Err (refusal reason at)
@@ -51,16 +56,16 @@ ledger_due follows bytes rest at fit none = (
 pub ledger_law : LedgerLaw
 unfolding ledger_in
 ledger_law a m bytes given at =
-    let later : Later (λ s. s ≡ status.Ledger ledger_why.Xdr at → ⊥) = record {
-      fault = λ name h. cc;
-      long = λ name h. cc;
-      text = λ name h. cc;
-      malformed = λ place why h. cc;
-      conflict = λ stage x y key h. cc;
-      done = λ h. cc;
-    } in
+    let later = never_ledger ledger_why.Xdr at in
     rw given.has_ledger (ledger_due true bytes _ at given.are_bytes (λ l. verdicts_file _ later (λ place h. cc) (get m a.verdicts) a.verdicts _
     (λ v. set_file _ later (get m a.set) a.base64 a.set (λ s. applied (file 3 a.report) (file 4 a.ledger_out) (outputs_of l v s a.close_time)))))
+
+pub simulate_ledger : SimulateLedgerLaw
+unfolding ledger_in
+simulate_ledger s m bytes given at =
+    let later = never_ledger ledger_why.Xdr at in
+    rw given.has_ledger (ledger_due true bytes _ at given.are_bytes (λ l. verdicts_file _ later (λ place h. cc) (get m s.verdicts) s.verdicts _
+    (λ v. envelope_file _ later (get m s.tx) s.base64 s.tx (λ e. simulated (file 3 s.out) (simulation_of l v e s.close_time)))))
 
 is_ledger_status : {B : Type 0} (r : Result (Header × LedgerMap) LedgerRefusal) (rest : Header × LedgerMap → Result B Status) → ((l : Header × LedgerMap) → r ≡ Ok l → ⊥) → (why : LedgerWhy) × (at : ℕ) × (status_of (as_ledger r >>= rest) ≡ status.Ledger why at)
 is_ledger_status (Ok l) rest none = absurd (none l refl)
@@ -81,25 +86,38 @@ no_ledger bytes rest fit none = (
 pub no_ledger_law : NoLedgerLaw
 unfolding ledger_in
 no_ledger_law a m bytes given =
-    let later : (reason : LedgerWhy) (at : ℕ) → Later (λ s. s ≡ status.Ledger reason at → ⊥) = λ reason at. record {
-      fault = λ name h. cc;
-      long = λ name h. cc;
-      text = λ name h. cc;
-      malformed = λ place why h. cc;
-      conflict = λ stage x y key h. cc;
-      done = λ h. cc;
-    } in
-    rw given.has_ledger (no_ledger bytes _ given.are_bytes (λ reason at l. verdicts_file _ (later reason at) (λ place h. cc) (get m a.verdicts) a.verdicts _
-    (λ v. set_file _ (later reason at) (get m a.set) a.base64 a.set (λ s. applied (file 3 a.report) (file 4 a.ledger_out) (outputs_of l v s a.close_time)))))
+    rw given.has_ledger (no_ledger bytes _ given.are_bytes (λ reason at l. verdicts_file _ (never_ledger reason at) (λ place h. cc) (get m a.verdicts) a.verdicts _
+    (λ v. set_file _ (never_ledger reason at) (get m a.set) a.base64 a.set (λ s. applied (file 3 a.report) (file 4 a.ledger_out) (outputs_of l v s a.close_time)))))
+
+pub simulate_no_ledger : SimulateNoLedgerLaw
+unfolding ledger_in
+simulate_no_ledger s m bytes given =
+    rw given.has_ledger (no_ledger bytes _ given.are_bytes (λ reason at l. verdicts_file _ (never_ledger reason at) (λ place h. cc) (get m s.verdicts) s.verdicts _
+    (λ v. envelope_file _ (never_ledger reason at) (get m s.tx) s.base64 s.tx (λ e. simulated (file 3 s.out) (simulation_of l v e s.close_time)))))
 
 pub applied_law : AppliedLaw
 unfolding ledger_in verdicts_in set_in free_of_conflict outputs_of
-applied_law a m header entries verdicts set given free =
+applied_law a m header entries verdicts set given third free =
     let ledger = file_is_read true given.ledger header entries given.is_ledger in
     let read = spells_decoded verdicts_format verdicts_lawful verdicts given.bytes given.spells in
-    let spelled = spells_decoded set_format set_lawful set given.opened_set given.spells_set in
+    let spelled = spells_decoded set_format set_lawful set third.bytes third.spells in
     let none = (no_conflict_is (stages_in set)).1 free in
-    rw (given.has_ledger, ledger, given.has_verdicts, read, given.has_set, given.opens, spelled, none) refl
+    rw (given.has_ledger, ledger, given.has_verdicts, read, third.has_text, third.opens, spelled, none) refl
+
+pub simulate_stores : SimulateLaw
+unfolding ledger_in verdicts_in envelope_in simulation_of
+simulate_stores s m header entries verdicts envelope given third =
+    let ledger = file_is_read true given.ledger header entries given.is_ledger in
+    let read = spells_decoded verdicts_format verdicts_lawful verdicts given.bytes given.spells in
+    let spelled = spells_decoded envelope_format envelope_lawful envelope third.bytes third.spells in
+    rw (given.has_ledger, ledger, given.has_verdicts, read, third.has_text, third.opens, spelled) refl
+
+pub simulate_enforced : SimulateEnforcedLaw
+simulate_enforced s m header entries other verdicts envelope given third agree =
+    let running = running_header header s.close_time in
+    let simulation = simulated_in running verdicts entries envelope in
+    let same = (step_framed running verdicts).framed entries other simulation.envelope agree in
+    simulate_stores s m header entries verdicts envelope given third ∙ ap (λ (e : Effect). Ok (found s (record simulation { effect = e }))) same
 
 -- ---- show
 

@@ -11,6 +11,7 @@ mod PutTogether
 mod Present
 mod Saying
 mod Shows
+mod Simulations
 mod Statuses
 mod Storing
 mod Vets

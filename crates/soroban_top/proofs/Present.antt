@@ -4,7 +4,7 @@ use Rattle.std.specs.Prelude.{⊤, nat_lt, if◌then◌else◌}
 use Rattle.std.specs.FinMap.{get}
 use Rattle.base64_text.specs.Text.{bytes_in}
 use Rattle.command_words.specs.declared.request.Request.{Request}
-use Rattle.command_words.specs.declared.request.Request.TheVariants.{Apply, Show, Vet, Migrate, Gen}
+use Rattle.command_words.specs.declared.request.Request.TheVariants.{Apply, Simulate, Show, Vet, Migrate, Gen}
 use Rattle.command_words.specs.declared.request.ShowKind.{ShowKind}
 use Rattle.command_words.specs.declared.request.ShowKind.TheVariants as kinds
 use Rattle.edge_io.specs.Contents.{Contents, FileMap}
@@ -23,10 +23,10 @@ use Rattle.xdr_spec.specs.Decoded.{decoded}
 use Rattle.xdr_spec.specs.declared.XdrErr.{XdrErr}
 use Rattle.soroban_top.specs.Asked.{reads_named}
 use Rattle.soroban_top.specs.FirstConflict.{FoundConflict, first_conflict, free_of_conflict, stages_in, unless_found}
-use Rattle.soroban_top.specs.Judged.{AreThere, as_bytes, as_ledger, as_spelled, as_verdicts, bytes_of, content_of, ledger_at, ledger_in, opened, set_at, set_in, set_opened, verdicts_at, verdicts_in}
+use Rattle.soroban_top.specs.Judged.{AreThere, as_bytes, as_ledger, as_spelled, as_verdicts, bytes_of, content_of, envelope_at, envelope_in, envelope_opened, ledger_at, ledger_in, opened, set_at, set_in, set_opened, verdicts_at, verdicts_in}
 use Rattle.soroban_top.specs.Migrated.{any_ledger_at}
 use Rattle.soroban_top.specs.Outcome.{due}
-use Rattle.soroban_top.specs.Shown.{any_ledger_in, envelope_in, shown, shown_at, shown_opened, value_in}
+use Rattle.soroban_top.specs.Shown.{any_ledger_in, shown, shown_at, shown_opened, value_in}
 use Rattle.soroban_top.specs.Steps.{◌>>=◌, UnlessFault, status_of}
 use Rattle.soroban_top.specs.Vetted.{as_vetted, vetted, vetted_at}
 use Rattle.soroban_top.specs.declared.status.Status.{Status}
@@ -107,6 +107,13 @@ vetted_judged : (bytes : List ℕ) → IsNoFault (status_of (vetted bytes))
 unfolding vetted
 vetted_judged bytes = as_vetted_judged (verdict_of bytes)
 
+envelope_judged : (bytes : List ℕ) → IsNoFault (status_of (envelope_in bytes))
+unfolding envelope_in
+envelope_judged bytes = as_spelled_judged (decoded envelope_format bytes)
+
+envelope_opened_judged : (base64 : Bool) (name text : List ℕ) → IsNoFault (status_of (envelope_opened base64 name text))
+envelope_opened_judged base64 name text = both (opened base64 name text) envelope_in (opened_judged base64 name text) envelope_judged
+
 shown_judged : (kind : ShowKind) (bytes : List ℕ) → IsNoFault (status_of (shown kind bytes))
 unfolding set_in envelope_in any_ledger_in value_in
 shown_judged kinds.Set bytes = both (set_in bytes) _ (as_spelled_judged (decoded set_format bytes)) (λ set. tt)
@@ -127,6 +134,10 @@ no_fault (Some (Apply a)) m there =
     both (ledger_at m a.ledger) _ (judged m a.ledger ledger_in there.0 ledger_judged)
     (λ ledger. both (verdicts_at m a.verdicts) _ (judged m a.verdicts verdicts_in there.1.0 verdicts_judged)
     (λ verdicts. both (set_at m a.base64 a.set) _ (judged m a.set (set_opened a.base64 a.set) there.1.1.0 (set_opened_judged a.base64 a.set)) (λ set. both (free_of_conflict set) _ (conflict_judged set) (λ free. tt))))
+no_fault (Some (Simulate s)) m there =
+    both (ledger_at m s.ledger) _ (judged m s.ledger ledger_in there.0 ledger_judged)
+    (λ ledger. both (verdicts_at m s.verdicts) _ (judged m s.verdicts verdicts_in there.1.0 verdicts_judged)
+    (λ verdicts. both (envelope_at m s.base64 s.tx) _ (judged m s.tx (envelope_opened s.base64 s.tx) there.1.1.0 (envelope_opened_judged s.base64 s.tx)) (λ envelope. tt)))
 no_fault (Some (Show s)) m there =
     both (shown_at m s) _ (judged m s.file (shown_opened s.base64 s.kind s.file) there.0 (shown_opened_judged s.base64 s.kind s.file)) (λ lines. tt)
 no_fault (Some (Vet v)) m there =

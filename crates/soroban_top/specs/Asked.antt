@@ -2,11 +2,12 @@
 use Rattle.std.specs.Prelude.{List, [], ◌∷◌, ◌++◌, Option, Some, None}
 use Rattle.soroban_top.specs.Product.{File, file}
 use Rattle.command_words.specs.declared.request.Request.{Request}
-use Rattle.command_words.specs.declared.request.Request.TheVariants.{Apply, Show, Vet, Migrate, Gen}
+use Rattle.command_words.specs.declared.request.Request.TheVariants.{Apply, Simulate, Show, Vet, Migrate, Gen}
 
 -- the files that it reads, in order
 abbrev pub reads_of : Request → List File
 reads_of (Apply a) = file 1 a.ledger ∷ file 2 a.verdicts ∷ file 0 a.set ∷ []
+reads_of (Simulate s) = file 1 s.ledger ∷ file 2 s.verdicts ∷ file 0 s.tx ∷ []
 reads_of (Show s) = file 0 s.file ∷ []
 reads_of (Vet v) = file 0 v.module_file ∷ []
 reads_of (Migrate g) = file 0 g.ledger ∷ []
@@ -15,6 +16,7 @@ reads_of (Gen g) = []
 -- the files that it stores, in order
 abbrev pub writes_of : Request → List File
 writes_of (Apply a) = file 3 a.report ∷ file 4 a.ledger_out ∷ []
+writes_of (Simulate s) = file 3 s.out ∷ []
 writes_of (Show s) = []
 writes_of (Vet v) = []
 writes_of (Migrate g) = file 1 g.ledger_out ∷ []

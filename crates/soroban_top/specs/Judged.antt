@@ -10,6 +10,8 @@ use Rattle.ledger_types.specs.Verdicts.{verdicts_format}
 use Rattle.ledger_types.specs.declared.header.Header.{Header}
 use Rattle.ledger_types.specs.declared.verdicts.Verdicts.{Verdicts}
 use Rattle.tx_xdr.specs.Set.{set_format}
+use Rattle.tx_xdr.specs.Envelope.{envelope_format}
+use Rattle.tx_xdr.specs.declared.envelope.Envelope.{Envelope}
 use Rattle.tx_xdr.specs.declared.set.TxSet.{TxSet}
 use Rattle.xdr_spec.specs.Decoded.{decoded}
 use Rattle.xdr_spec.specs.declared.XdrErr.{XdrErr}
@@ -87,6 +89,15 @@ set_opened base64 name text = do
   bytes ← opened base64 name text
   set_in bytes
 
+-- an envelope
+unfoldable pub envelope_in : List ℕ → Result Envelope Status
+envelope_in bytes = as_spelled (decoded envelope_format bytes)
+
+abbrev pub envelope_opened : Bool → List ℕ → List ℕ → Result Envelope Status
+envelope_opened base64 name text = do
+  bytes ← opened base64 name text
+  envelope_in bytes
+
 -- ---- the files of these names
 
 abbrev pub ledger_at : FileMap → List ℕ → Result (Header × LedgerMap) Status
@@ -103,3 +114,8 @@ abbrev pub set_at : FileMap → Bool → List ℕ → Result TxSet Status
 set_at m base64 name = do
   text ← content_of m name
   set_opened base64 name text
+
+abbrev pub envelope_at : FileMap → Bool → List ℕ → Result Envelope Status
+envelope_at m base64 name = do
+  text ← content_of m name
+  envelope_opened base64 name text

@@ -1,14 +1,19 @@
 -- The outcomes of the commands, in terms of the spellings (RFC 4506) of their files' bytes alone.
-use Rattle.std.specs.Prelude.{◌≡◌, ◌↔◌, ◌≤◌, ℕ, true, false, List, [], ◌∷◌, Result, Ok, Some, length}
+use Rattle.std.specs.Prelude.{◌≡◌, ◌↔◌, ◌≤◌, ℕ, Bool, true, false, List, [], ◌∷◌, Result, Ok, Some, length}
 use Rattle.std.specs.List.{AllByRecursion}
+use Rattle.apply_spec.specs.Enforced.{enforced}
 use Rattle.apply_spec.specs.Outputs.{outputs}
+use Rattle.apply_spec.specs.Runs.{running_header}
+use Rattle.apply_spec.specs.Simulated.{Simulated, simulated}
+use Rattle.apply_spec.specs.SimulationFile.{simulation_bytes, simulation_lines}
 use Rattle.command_words.specs.declared.request.ApplyRequest.{ApplyRequest}
 use Rattle.command_words.specs.declared.request.GenRequest.{GenRequest}
 use Rattle.command_words.specs.declared.request.MigrateRequest.{MigrateRequest}
-use Rattle.command_words.specs.declared.request.Request.TheVariants.{Apply, Show, Vet, Migrate, Gen}
+use Rattle.command_words.specs.declared.request.Request.TheVariants.{Apply, Simulate, Show, Vet, Migrate, Gen}
 use Rattle.command_words.specs.declared.request.ShowKind.{ShowKind}
 use Rattle.command_words.specs.declared.request.ShowKind.TheVariants as kinds
 use Rattle.command_words.specs.declared.request.ShowRequest.{ShowRequest}
+use Rattle.command_words.specs.declared.request.SimulateRequest.{SimulateRequest}
 use Rattle.command_words.specs.declared.request.VetRequest.{VetRequest}
 use Rattle.edge_io.specs.Contents.{FileMap}
 use Rattle.ledger_file.specs.FileOf.{IsFileOf}
@@ -25,10 +30,13 @@ use Rattle.module_vet.specs.declared.Sizes.{Sizes}
 use Rattle.set_generator.specs.GeneratedLedger.{generated_entries, generated_header}
 use Rattle.set_generator.specs.GeneratedSet.{generated_set}
 use Rattle.stage_runs.specs.Conflicts.{IsFirstConflict}
+use Rattle.stage_runs.specs.Maps.{AgreeOn}
 use Rattle.stage_runs.specs.Runs.{HasNoConflict}
+use Rattle.stage_runs.specs.Transactions.{declares}
 use Rattle.tx_xdr.specs.Set.{set_format}
 use Rattle.tx_xdr.specs.Envelope.{envelope_format}
 use Rattle.tx_xdr.specs.Stages.{stages_of}
+use Rattle.tx_xdr.specs.declared.envelope.Envelope.{Envelope}
 use Rattle.tx_xdr.specs.declared.set.TxSet.{TxSet}
 use Rattle.value_types.specs.Formats.{scval_format}
 use Rattle.xdr_spec.specs.Format.{Format, IsBytes}
@@ -45,28 +53,49 @@ use Rattle.soroban_top.specs.Vetted.{as_vetted}
 use Rattle.soroban_top.specs.declared.status.Status.{Status}
 use Rattle.soroban_top.specs.declared.status.Status.TheVariants as status
 
+-- ---- apply and simulate: first the ledger, then the verdicts, then a set or an envelope, whose file may be base64 text
+
 -- the ledger's file has these bytes
-pub record HasLedgerFile (a : ApplyRequest) (m : FileMap) (bytes : List ℕ) : Type 0 where
-  pub has_ledger : content_of m a.ledger ≡ Ok bytes
+pub record HasLedgerFile (ledger_name : List ℕ) (m : FileMap) (bytes : List ℕ) : Type 0 where
+  pub has_ledger : content_of m ledger_name ≡ Ok bytes
   pub are_bytes : IsBytes bytes
 
 -- the ledger's file is accepted, and the verdicts' file has these bytes
-pub record HasLedger (a : ApplyRequest) (m : FileMap) (verdicts : List ℕ) : Type 0 where
+pub record HasLedger (ledger_name verdicts_name : List ℕ) (m : FileMap) (verdicts : List ℕ) : Type 0 where
   pub ledger : Header × LedgerMap
-  pub is_ledger : ledger_at m a.ledger ≡ Ok ledger
-  pub has_verdicts : content_of m a.verdicts ≡ Ok verdicts
+  pub is_ledger : ledger_at m ledger_name ≡ Ok ledger
+  pub has_verdicts : content_of m verdicts_name ≡ Ok verdicts
   pub are_bytes : IsBytes verdicts
 
--- the verdicts' file is accepted, too, and the set's file, which may be base64 text, has these bytes
-pub record HasInputs (a : ApplyRequest) (m : FileMap) (set : List ℕ) : Type 0 where
+-- the verdicts' file is accepted, too, and the third file has these bytes
+pub record HasInputs (ledger_name verdicts_name name : List ℕ) (base64 : Bool) (m : FileMap) (last : List ℕ) : Type 0 where
   pub bytes : List ℕ
-  pub before : HasLedger a m bytes
+  pub before : HasLedger ledger_name verdicts_name m bytes
   pub verdicts : Verdicts
   pub spells : Spells verdicts_format verdicts bytes
   pub text : List ℕ
-  pub has_set : content_of m a.set ≡ Ok text
-  pub opens : opened a.base64 a.set text ≡ Ok set
-  pub are_bytes : IsBytes set
+  pub has_text : content_of m name ≡ Ok text
+  pub opens : opened base64 name text ≡ Ok last
+  pub are_bytes : IsBytes last
+
+-- the two files are those of this ledger and of these verdicts
+pub record AreFilesOf (ledger_name verdicts_name : List ℕ) (m : FileMap) (header : Header) (entries : LedgerMap) (verdicts : Verdicts) : Type 0 where
+  pub ledger : List ℕ
+  pub has_ledger : content_of m ledger_name ≡ Ok ledger
+  pub is_ledger : IsFileOf true ledger header entries
+  pub bytes : List ℕ
+  pub has_verdicts : content_of m verdicts_name ≡ Ok bytes
+  pub spells : Spells verdicts_format verdicts bytes
+
+-- the third file spells this set or envelope
+pub record IsSpelledIn {A : Type 0} (F : Format A) (x : A) (name : List ℕ) (base64 : Bool) (m : FileMap) : Type 0 where
+  pub text : List ℕ
+  pub has_text : content_of m name ≡ Ok text
+  pub bytes : List ℕ
+  pub opens : opened base64 name text ≡ Ok bytes
+  pub spells : Spells F x bytes
+
+-- ---- apply
 
 -- the status that is due for this `apply`
 abbrev pub due_of : ApplyRequest → FileMap → Status
@@ -74,27 +103,27 @@ due_of a m = due (Some (Apply a)) m
 
 -- Ledger with reason Xdr is due exactly if the bytes are refused, at that offset, whatever else is wrong.
 abbrev pub LedgerLaw : Type 0
-LedgerLaw = (a : ApplyRequest) (m : FileMap) (bytes : List ℕ) → HasLedgerFile a m bytes → (at : ℕ)
+LedgerLaw = (a : ApplyRequest) (m : FileMap) (bytes : List ℕ) → HasLedgerFile a.ledger m bytes → (at : ℕ)
     → (due_of a m ≡ status.Ledger ledger_why.Xdr at) ↔ ((why : Why) × Refuses file_format bytes at why)
 
 -- Ledger is due, with any reason, exactly if the bytes are not the file of a ledger that another ledger may follow.
 abbrev pub NoLedgerLaw : Type 0
-NoLedgerLaw = (a : ApplyRequest) (m : FileMap) (bytes : List ℕ) → HasLedgerFile a m bytes
+NoLedgerLaw = (a : ApplyRequest) (m : FileMap) (bytes : List ℕ) → HasLedgerFile a.ledger m bytes
     → ((why : LedgerWhy) × (at : ℕ) × (due_of a m ≡ status.Ledger why at)) ↔ (¬ ((header : Header) × (entries : LedgerMap) × IsFileOf true bytes header entries))
 
 -- Verdicts is due exactly if the bytes are refused, at that offset.
 abbrev pub VerdictsLaw : Type 0
-VerdictsLaw = (a : ApplyRequest) (m : FileMap) (bytes : List ℕ) → HasLedger a m bytes → (at : ℕ)
+VerdictsLaw = (a : ApplyRequest) (m : FileMap) (bytes : List ℕ) → HasLedger a.ledger a.verdicts m bytes → (at : ℕ)
     → (due_of a m ≡ status.Verdicts at) ↔ ((why : Why) × Refuses verdicts_format bytes at why)
 
 -- Malformed is due exactly if the bytes spell no set, with the offset and the reason of their refusal.
 abbrev pub MalformedLaw : Type 0
-MalformedLaw = (a : ApplyRequest) (m : FileMap) (bytes : List ℕ) → HasInputs a m bytes → (at : ℕ) (why : Why)
+MalformedLaw = (a : ApplyRequest) (m : FileMap) (bytes : List ℕ) → HasInputs a.ledger a.verdicts a.set a.base64 m bytes → (at : ℕ) (why : Why)
     → (due_of a m ≡ status.Malformed at why) ↔ Refuses set_format bytes at why
 
 -- Conflict is due exactly if they spell a set, and this is its first conflict.
 abbrev pub ConflictLaw : Type 0
-ConflictLaw = (a : ApplyRequest) (m : FileMap) (bytes : List ℕ) → HasInputs a m bytes → (stage x y : ℕ) (key : List ℕ)
+ConflictLaw = (a : ApplyRequest) (m : FileMap) (bytes : List ℕ) → HasInputs a.ledger a.verdicts a.set a.base64 m bytes → (stage x y : ℕ) (key : List ℕ)
     → (due_of a m ≡ status.Conflict stage x y key) ↔ ((set : TxSet) × Spells set_format set bytes × IsFirstConflict (stages_in set) stage x y key)
 
 -- no stage of the set has a conflict
@@ -103,27 +132,65 @@ IsFree set = AllByRecursion HasNoConflict (stages_in set)
 
 -- Done is due exactly if they spell a set without a conflict.
 abbrev pub DoneLaw : Type 0
-DoneLaw = (a : ApplyRequest) (m : FileMap) (bytes : List ℕ) → HasInputs a m bytes
+DoneLaw = (a : ApplyRequest) (m : FileMap) (bytes : List ℕ) → HasInputs a.ledger a.verdicts a.set a.base64 m bytes
     → (due_of a m ≡ status.Done) ↔ ((set : TxSet) × Spells set_format set bytes × IsFree set)
-
--- the three files are those of this ledger, of these verdicts and of this set
-pub record AreFilesOf (a : ApplyRequest) (m : FileMap) (header : Header) (entries : LedgerMap) (verdicts : Verdicts) (set : TxSet) : Type 0 where
-  pub ledger : List ℕ
-  pub has_ledger : content_of m a.ledger ≡ Ok ledger
-  pub is_ledger : IsFileOf true ledger header entries
-  pub bytes : List ℕ
-  pub has_verdicts : content_of m a.verdicts ≡ Ok bytes
-  pub spells : Spells verdicts_format verdicts bytes
-  pub text : List ℕ
-  pub has_set : content_of m a.set ≡ Ok text
-  pub opened_set : List ℕ
-  pub opens : opened a.base64 a.set text ≡ Ok opened_set
-  pub spells_set : Spells set_format set opened_set
 
 -- Of a set without a conflict, the outputs over the ledger are stored and printed.
 abbrev pub AppliedLaw : Type 0
-AppliedLaw = (a : ApplyRequest) (m : FileMap) (header : Header) (entries : LedgerMap) (verdicts : Verdicts) (set : TxSet) → AreFilesOf a m header entries verdicts set → IsFree set
+AppliedLaw = (a : ApplyRequest) (m : FileMap) (header : Header) (entries : LedgerMap) (verdicts : Verdicts) (set : TxSet)
+    → AreFilesOf a.ledger a.verdicts m header entries verdicts → IsSpelledIn set_format set a.set a.base64 m → IsFree set
     → outcome_of (Apply a) m ≡ Ok (applied (file 3 a.report) (file 4 a.ledger_out) (outputs header verdicts entries set a.close_time))
+
+-- ---- simulate
+
+-- the status that is due for this `simulate`
+abbrev pub due_of_simulate : SimulateRequest → FileMap → Status
+due_of_simulate s m = due (Some (Simulate s)) m
+
+-- Ledger with reason Xdr is due exactly if the bytes are refused, at that offset, whatever else is wrong.
+abbrev pub SimulateLedgerLaw : Type 0
+SimulateLedgerLaw = (s : SimulateRequest) (m : FileMap) (bytes : List ℕ) → HasLedgerFile s.ledger m bytes → (at : ℕ)
+    → (due_of_simulate s m ≡ status.Ledger ledger_why.Xdr at) ↔ ((why : Why) × Refuses file_format bytes at why)
+
+-- Ledger is due, with any reason, exactly if the bytes are not the file of a ledger that another ledger may follow.
+abbrev pub SimulateNoLedgerLaw : Type 0
+SimulateNoLedgerLaw = (s : SimulateRequest) (m : FileMap) (bytes : List ℕ) → HasLedgerFile s.ledger m bytes
+    → ((why : LedgerWhy) × (at : ℕ) × (due_of_simulate s m ≡ status.Ledger why at)) ↔ (¬ ((header : Header) × (entries : LedgerMap) × IsFileOf true bytes header entries))
+
+-- Verdicts is due exactly if the bytes are refused, at that offset.
+abbrev pub SimulateVerdictsLaw : Type 0
+SimulateVerdictsLaw = (s : SimulateRequest) (m : FileMap) (bytes : List ℕ) → HasLedger s.ledger s.verdicts m bytes → (at : ℕ)
+    → (due_of_simulate s m ≡ status.Verdicts at) ↔ ((why : Why) × Refuses verdicts_format bytes at why)
+
+-- Malformed is due exactly if the bytes spell no envelope, with the offset and the reason of their refusal.
+abbrev pub SimulateMalformedLaw : Type 0
+SimulateMalformedLaw = (s : SimulateRequest) (m : FileMap) (bytes : List ℕ) → HasInputs s.ledger s.verdicts s.tx s.base64 m bytes → (at : ℕ) (why : Why)
+    → (due_of_simulate s m ≡ status.Malformed at why) ↔ Refuses envelope_format bytes at why
+
+-- Done is due exactly if they spell an envelope, whatever the result of its transaction.
+abbrev pub SimulateDoneLaw : Type 0
+SimulateDoneLaw = (s : SimulateRequest) (m : FileMap) (bytes : List ℕ) → HasInputs s.ledger s.verdicts s.tx s.base64 m bytes
+    → (due_of_simulate s m ≡ status.Done) ↔ ((envelope : Envelope) × Spells envelope_format envelope bytes)
+
+-- the file of a simulated envelope is stored, and then its three lines are printed
+abbrev pub found : SimulateRequest → Simulated → Made
+found s simulation = record { stores = job (file 3 s.out) (simulation_bytes simulation) ∷ []; says = simulation_lines simulation }
+
+-- These are stored and printed for the envelope over the ledger.
+abbrev pub SimulateLaw : Type 0
+SimulateLaw = (s : SimulateRequest) (m : FileMap) (header : Header) (entries : LedgerMap) (verdicts : Verdicts) (envelope : Envelope)
+    → AreFilesOf s.ledger s.verdicts m header entries verdicts → IsSpelledIn envelope_format envelope s.tx s.base64 m
+    → outcome_of (Simulate s) m ≡ Ok (found s (simulated (running_header header s.close_time) verdicts entries envelope))
+
+-- What is stored is what is enforced. Take any map that agrees with the ledger on the footprint. The stored result and success preimage are those that
+-- the envelope with this footprint has there.
+abbrev pub SimulateEnforcedLaw : Type 0
+SimulateEnforcedLaw = (s : SimulateRequest) (m : FileMap) (header : Header) (entries other : LedgerMap) (verdicts : Verdicts) (envelope : Envelope)
+    → AreFilesOf s.ledger s.verdicts m header entries verdicts → IsSpelledIn envelope_format envelope s.tx s.base64 m
+    → (let running = running_header header s.close_time in
+    let simulation = simulated running verdicts entries envelope in
+    AgreeOn (declares simulation.envelope) entries other
+    → outcome_of (Simulate s) m ≡ Ok (found s (record simulation { effect = enforced running verdicts other simulation.envelope })))
 
 -- ---- show and vet
 

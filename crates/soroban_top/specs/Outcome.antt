@@ -1,16 +1,19 @@
 -- The outcome of a command, if the content of its files is known (own).
 use Rattle.std.specs.Prelude.{◌≡◌, ℕ, List, [], ◌∷◌, Option, Some, None, Result, Ok, Err, ⊤}
 use Rattle.apply_spec.specs.Outputs.{Outputs, outputs}
+use Rattle.apply_spec.specs.Runs.{running_header}
+use Rattle.apply_spec.specs.SimulationFile.{SimulationOutputs, simulation_outputs}
 use Rattle.command_words.specs.declared.request.Request.{Request}
-use Rattle.command_words.specs.declared.request.Request.TheVariants.{Apply, Show, Vet, Migrate, Gen}
+use Rattle.command_words.specs.declared.request.Request.TheVariants.{Apply, Simulate, Show, Vet, Migrate, Gen}
 use Rattle.edge_io.specs.Contents.{FileMap}
 use Rattle.ledger_spec.specs.LedgerMap.{LedgerMap}
 use Rattle.ledger_types.specs.declared.header.Header.{Header}
 use Rattle.ledger_types.specs.declared.verdicts.Verdicts.{Verdicts}
+use Rattle.tx_xdr.specs.declared.envelope.Envelope.{Envelope}
 use Rattle.tx_xdr.specs.declared.set.TxSet.{TxSet}
 use Rattle.soroban_top.specs.FirstConflict.{free_of_conflict}
 use Rattle.soroban_top.specs.Generating.{generated}
-use Rattle.soroban_top.specs.Judged.{ledger_at, verdicts_at, set_at}
+use Rattle.soroban_top.specs.Judged.{ledger_at, verdicts_at, set_at, envelope_at}
 use Rattle.soroban_top.specs.Migrated.{any_ledger_at, migrated}
 use Rattle.soroban_top.specs.Product.{Made, File, file}
 use Rattle.soroban_top.specs.Shown.{shown_at}
@@ -26,6 +29,10 @@ applied report ledger_out made = record {
   says = made.lines;
 }
 
+-- the footprint and the result are stored; then the lines are printed
+abbrev pub simulated : File → SimulationOutputs → Made
+simulated out made = record { stores = record { file = out; bytes = made.file } ∷ []; says = made.lines }
+
 -- nothing is stored, and these lines are printed
 abbrev pub only_said : List ℕ → Made
 only_said lines = record { stores = []; says = lines }
@@ -33,6 +40,10 @@ only_said lines = record { stores = []; says = lines }
 -- the outputs of a set over a ledger, with these verdicts, at a close time
 unfoldable pub outputs_of : Header × LedgerMap → Verdicts → TxSet → ℕ → Outputs
 outputs_of ledger verdicts set close_time = outputs ledger.0 verdicts ledger.1 set close_time
+
+-- the outputs of an envelope over a ledger, with these verdicts, at a close time
+unfoldable pub simulation_of : Header × LedgerMap → Verdicts → Envelope → ℕ → SimulationOutputs
+simulation_of ledger verdicts envelope close_time = simulation_outputs (running_header ledger.0 close_time) verdicts ledger.1 envelope
 
 -- The outcome of a command: each file is checked before the next is read. A set is run only if none of its stages has a conflict.
 abbrev pub outcome_of : Request → FileMap → Result Made Status
@@ -42,6 +53,11 @@ outcome_of (Apply a) m = do
   set ← set_at m a.base64 a.set
   _ ← free_of_conflict set
   Ok (applied (file 3 a.report) (file 4 a.ledger_out) (outputs_of ledger verdicts set a.close_time))
+outcome_of (Simulate s) m = do
+  ledger ← ledger_at m s.ledger
+  verdicts ← verdicts_at m s.verdicts
+  envelope ← envelope_at m s.base64 s.tx
+  Ok (simulated (file 3 s.out) (simulation_of ledger verdicts envelope s.close_time))
 outcome_of (Show s) m = do
   lines ← shown_at m s
   Ok (only_said lines)

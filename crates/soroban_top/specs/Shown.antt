@@ -9,19 +9,14 @@ use Rattle.ledger_spec.specs.LedgerMap.{LedgerMap}
 use Rattle.ledger_types.specs.declared.header.Header.{Header}
 use Rattle.show_lines.specs.SetLines.{envelope_line, set_lines}
 use Rattle.show_lines.specs.LedgerLines.{ledger_lines, value_line}
-use Rattle.tx_xdr.specs.Envelope.{envelope_format}
-use Rattle.tx_xdr.specs.declared.envelope.Envelope.{Envelope}
 use Rattle.value_types.specs.Formats.{scval_format}
 use Rattle.value_types.specs.declared.value.ScVal.{ScVal}
 use Rattle.xdr_spec.specs.Decoded.{decoded}
-use Rattle.soroban_top.specs.Judged.{as_ledger, as_spelled, content_of, opened, set_in}
+use Rattle.soroban_top.specs.Judged.{as_ledger, as_spelled, content_of, envelope_in, opened, set_in}
 use Rattle.soroban_top.specs.Steps.{◌>>=◌}
 use Rattle.soroban_top.specs.declared.status.Status.{Status}
 
 -- ---- what the bytes spell
-
-unfoldable pub envelope_in : List ℕ → Result Envelope Status
-envelope_in bytes = as_spelled (decoded envelope_format bytes)
 
 -- any ledger, also one that no ledger may follow
 unfoldable pub any_ledger_in : List ℕ → Result (Header × LedgerMap) Status

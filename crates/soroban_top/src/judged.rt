@@ -1,24 +1,25 @@
-//! Reads the input files of `apply`: each is read whole and checked.
+//! Reads the input files of `apply` and `simulate`: each is read whole and checked.
 
 ghost use Rattle.std.specs.Prelude.{◌≡◌, ◌<◌, ◌+◌, ◌^◌, [], ◌∷◌, IfOk, IfErr, IfSome, IsTrue};
 ghost use Rattle.ledger_spec.specs.LedgerFile.{are_settings, has_next};
 ghost use Rattle.ledger_types.specs.Header.{header_format};
+ghost use Rattle.tx_xdr.specs.Envelope.{envelope_format};
 ghost use Rattle.tx_xdr.specs.Set.{set_format};
 ghost use Rattle.soroban_top.specs.Counts.{HasCause, IsOfBytes, NoLower, SameCounts};
-ghost use Rattle.soroban_top.specs.Judged.{ledger_at, ledger_in, verdicts_at, verdicts_in, set_at, set_opened};
+ghost use Rattle.soroban_top.specs.Judged.{ledger_at, ledger_in, verdicts_at, verdicts_in, set_at, set_opened, envelope_at, envelope_opened};
 ghost use Rattle.soroban_top.specs.Product.{file};
 ghost use Rattle.soroban_top.specs.Seen.{seen};
 ghost use Rattle.soroban_top.specs.Steps.{Gives, GivesExactly, UnlessFault, status_of};
 
 use crate::drive::read_file;
 use crate::opened::open_text;
-use crate::spelled::set_in;
+use crate::spelled::{envelope_in, set_in};
 use crate::{FileArg, Status};
 use edge_io::{Files, Word};
 use ledger_file::Ledger;
 use ledger_types::Verdicts;
 use std::alloc::Global;
-use tx_xdr::TxSet;
+use tx_xdr::{Envelope, TxSet};
 use xdr_core::ReadXdr;
 
 /// Reads the ledger in a file.
@@ -100,6 +101,48 @@ fn set_opened(alloc: Global, base64: bool, name: &Word, text: &[u8]) -> Result<T
         set_in(alloc, &bytes)
     } else {
         set_in(alloc, text)
+    }
+}
+
+/// Reads the envelope in a file, which may be base64 text.
+pub fn read_envelope<F: Files>(
+    alloc: Global,
+    files: &mut F,
+    option: u8,
+    name: &Word,
+    base64: bool,
+) -> Result<Envelope, Status>
+    requires { option < 8 }
+    ensures given { IfSome (F.contents files.old) (λ m. Gives (λ e. e) result (envelope_at m base64 name.now)) }
+    ensures fits { IfOk result envelope_format.fits }
+    ensures same { F.contents files.new ≡ F.contents files.old }
+    ensures counts { NoLower (F.faults files.old) (F.faults files.new) }
+    ensures cause { IfErr result (HasCause (file option name.now ∷ []) (F.faults files.old) (F.faults files.new)) }
+    ensures steady { F.steady files.old → IfSome (F.contents files.old) (λ m. UnlessFault (status_of (envelope_at m base64 name.now))
+        (F.steady files.new × SameCounts (F.faults files.old) (F.faults files.new))) }
+    ensures steady_exact { F.steady files.old → IfSome (F.contents files.old) (λ m.
+        GivesExactly (λ e. e) result (envelope_at m base64 name.now)) }
+{
+    let text = read_file(alloc, files, &FileArg { option, name })?;
+    envelope_opened(alloc, base64, name, text.as_slice())
+}
+
+/// The envelope that a file's text spells.
+fn envelope_opened(
+    alloc: Global,
+    base64: bool,
+    name: &Word,
+    text: &[u8],
+) -> Result<Envelope, Status>
+    ensures given { Gives (λ e. e) result (envelope_opened base64 name.now text.now) }
+    ensures fits { IfOk result envelope_format.fits }
+    ensures cause { IfErr result IsOfBytes }
+{
+    if base64 {
+        let bytes = open_text(alloc, name, text)?;
+        envelope_in(alloc, &bytes)
+    } else {
+        envelope_in(alloc, text)
     }
 }
 

@@ -1,7 +1,7 @@
 //! The outcomes of the commands, in terms of the spellings of their files' bytes.
 
 ghost use Rattle.soroban_top.specs.ConflictLaws.{FirstConflictLaw, NoConflictLaw};
-ghost use Rattle.soroban_top.specs.Laws.{AppliedLaw, ConflictLaw, DoneLaw, EnvelopeDoneLaw, EnvelopeMalformedLaw, GenLaw, LedgerDoneLaw, LedgerLaw, LedgerShownLaw, MalformedLaw, MigrateDoneLaw, MigrateLaw, MigrateRefusedLaw, NoLedgerLaw, SetDoneLaw, SetMalformedLaw, ValueDoneLaw, ValueMalformedLaw, VerdictsLaw, VetLaw};
+ghost use Rattle.soroban_top.specs.Laws.{AppliedLaw, ConflictLaw, DoneLaw, EnvelopeDoneLaw, EnvelopeMalformedLaw, GenLaw, LedgerDoneLaw, LedgerLaw, LedgerShownLaw, MalformedLaw, MigrateDoneLaw, MigrateLaw, MigrateRefusedLaw, NoLedgerLaw, SetDoneLaw, SetMalformedLaw, SimulateDoneLaw, SimulateEnforcedLaw, SimulateLaw, SimulateLedgerLaw, SimulateMalformedLaw, SimulateNoLedgerLaw, SimulateVerdictsLaw, ValueDoneLaw, ValueMalformedLaw, VerdictsLaw, VetLaw};
 
 /// `apply`: Ledger is due exactly if the bytes are not the file of a ledger, with reason Xdr if they are refused. If that file is
 /// accepted, Verdicts is due exactly if the verdicts' bytes are refused. If these are accepted, too, Malformed is due exactly if the
@@ -21,6 +21,20 @@ pub fn apply_laws()
 pub fn first_conflict_laws()
     ensures found { FirstConflictLaw }
     ensures none { NoConflictLaw }
+{}
+
+/// `simulate`: Ledger and Verdicts are due as for `apply`. If both files are accepted, Malformed is due exactly if the envelope's
+/// bytes are refused, and Done exactly if they spell an envelope. Then the Soroban data with the footprint that its transaction
+/// needs, its result and its success preimage are stored, and the result's codes, the sums and the sizes of the footprint are
+/// printed. Every ledger that agrees on the footprint gives the envelope with that footprint this result and preimage.
+pub fn simulate_laws()
+    ensures ledger { SimulateLedgerLaw }
+    ensures no_ledger { SimulateNoLedgerLaw }
+    ensures verdicts { SimulateVerdictsLaw }
+    ensures malformed { SimulateMalformedLaw }
+    ensures done { SimulateDoneLaw }
+    ensures stored { SimulateLaw }
+    ensures enforced { SimulateEnforcedLaw }
 {}
 
 /// `show`: for a set, an envelope or a value, Malformed is due exactly if the bytes are refused, and Done exactly if they spell one.

@@ -27,6 +27,8 @@ mod outputs;
 mod product;
 mod request;
 mod show;
+mod simulate;
+mod simulation;
 mod spelled;
 mod status;
 mod vetting;
@@ -36,7 +38,9 @@ use drive::store_all;
 use edge_io::{Files, Gate, Say, Word};
 pub use ending::finish;
 pub use key_bytes::KeyBytes;
-pub use laws::{apply_laws, first_conflict_laws, gen_laws, migrate_laws, show_laws, vet_law};
+pub use laws::{
+    apply_laws, first_conflict_laws, gen_laws, migrate_laws, show_laws, simulate_laws, vet_law,
+};
 use product::{FileArg, OutputFile, Product};
 use request::{asked, produce};
 pub use status::Status;

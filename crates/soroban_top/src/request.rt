@@ -12,6 +12,7 @@ use crate::apply::apply;
 use crate::generating::generate;
 use crate::migrate::migrate;
 use crate::show::show;
+use crate::simulate::simulate;
 use crate::vetting::vet;
 use crate::{Product, Status};
 use command_words::{Request, WordsErr, request_of};
@@ -52,6 +53,7 @@ pub fn produce<'a, R: Threads + Sync, F: Files, G: Gate + Sync>(
 {
     match request {
         Request::Apply(options) => apply(rt, alloc, files, options, gate),
+        Request::Simulate(options) => simulate(alloc, files, options),
         Request::Show(options) => show(alloc, files, options),
         Request::Vet(options) => vet(alloc, files, options),
         Request::Migrate(options) => migrate(alloc, files, options),

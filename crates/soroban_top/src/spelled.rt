@@ -2,13 +2,14 @@
 
 ghost use Rattle.std.specs.Prelude.{IfOk, IfErr};
 ghost use Rattle.ledger_types.specs.Header.{header_format};
+ghost use Rattle.tx_xdr.specs.Envelope.{envelope_format};
 ghost use Rattle.tx_xdr.specs.Set.{set_format};
 ghost use Rattle.value_types.specs.Formats.{scval_format};
 ghost use Rattle.xdr_spec.specs.Refusal.{Spells};
 ghost use Rattle.soroban_top.specs.Counts.{IsOfBytes};
-ghost use Rattle.soroban_top.specs.Judged.{set_in};
+ghost use Rattle.soroban_top.specs.Judged.{envelope_in, set_in};
 ghost use Rattle.soroban_top.specs.Seen.{seen};
-ghost use Rattle.soroban_top.specs.Shown.{any_ledger_in, envelope_in, value_in};
+ghost use Rattle.soroban_top.specs.Shown.{any_ledger_in, value_in};
 ghost use Rattle.soroban_top.specs.Steps.{Gives};
 
 use crate::Status;
@@ -30,9 +31,10 @@ pub fn set_in(alloc: Global, bytes: &[u8]) -> Result<TxSet, Status>
 }
 
 /// Reads an envelope; the error is the status of its refusal.
-#[tactic(auto, unfolding(crate::specs::Shown::envelope_in))]
+#[tactic(auto, unfolding(crate::specs::Judged::envelope_in))]
 pub fn envelope_in(alloc: Global, bytes: &[u8]) -> Result<Envelope, Status>
     ensures given { Gives (λ e. e) result (envelope_in bytes.now) }
+    ensures fits { IfOk result envelope_format.fits }
     ensures cause { IfErr result IsOfBytes }
 {
     let envelope = read_envelope(alloc, bytes)?;

@@ -85,6 +85,48 @@ charged_traced (Good d w) = charging_traced d w
 charged_traced (Bad e w) = refl
 charged_traced (Undeclared a w) = refl
 
+-- ---- from a host at its start
+
+module _ {G : Type 0} (old : Host G) where
+  pub record Starts (header : Header) (authority : Authority) (meter : Meter) (entries : LedgerMap) : Type 0 where
+    pub header-is : old.ledger.header.now ≡ header
+    pub authority-is : authority_of old ≡ authority
+    pub map-is : old.ledger.storage.map ≡ entries
+    pub events-is : old.ledger.events ≡ []
+    pub pairs-is : old.marks.pairs ≡ []
+    pub open-is : old.open.items ≡ []
+    pub function-is : old.place.function.items ≡ []
+    pub args-is : old.place.args.items ≡ []
+    pub path-is : old.place.path.items ≡ []
+    pub begun-is : old.place.begun ≡ 0
+    pub meter-is : old.ledger.budget ≡ meter
+
+  abbrev run_from : Header → Authority → World → Work → Out Datum
+  run_from header authority w work = after (done_under all_allowed header authority work) charging w
+
+  abbrev first : Header → LedgerMap → World
+  first header entries = start_of header 0 entries
+
+  start_same : (header : Header) (authority : Authority) (meter : Meter) (entries : LedgerMap) → Starts header authority meter entries
+      → world_around (first header entries) old [] ≡ with_meter meter (first header entries)
+  start_same header authority meter entries is = λ i. record (first header entries) {
+    entries = is.map-is i;
+    events = is.events-is i;
+    pairs = is.pairs-is i;
+    frame = record outside { function = is.function-is i; args = datums (is.args-is i); path = is.path-is i; begun = is.begun-is i };
+    contracts = reverse (is.open-is i);
+    meter = is.meter-is i;
+  }
+
+  -- its run is the whole run after the arguments have entered
+  pub started_same : (header : Header) (authority : Authority) (meter : Meter) (entries : LedgerMap) (work : Work) → Starts header authority meter entries
+      → run_from old.ledger.header.now (authority_of old) (world_around (first header entries) old []) work ≡ entered_run header authority meter work entries
+  started_same header authority meter entries work is =
+      let around = world_around (first header entries) old [] in
+      ap (λ (x : Header). run_from x (authority_of old) around work) is.header-is
+      ∙ ap (λ (a : Authority). run_from header a around work) is.authority-is
+      ∙ ap (λ (w : World). run_from header authority w work) (start_same header authority meter entries is)
+
 -- ---- the outcome
 
 module _ {G : Type 0} (n : ℕ) (resources : SorobanData) (old new : Host G) where
@@ -130,50 +172,15 @@ module _ {G : Type 0} (n : ℕ) (resources : SorobanData) (old new : Host G) whe
       → EndsBy (by_footprint resources.footprint) before (first_rejected (by_footprint resources.footprint) (world_of out).trace) out r datum old new → Comes before r (by_run n resources before out)
   run_comes out r h = trace_comes (by_footprint resources.footprint) (first_rejected (by_footprint resources.footprint) (world_of out).trace) out r h
 
-  -- ---- from a host at its start
-
-  pub record Starts (header : Header) (authority : Authority) (meter : Meter) (entries : LedgerMap) : Type 0 where
-    pub header-is : old.ledger.header.now ≡ header
-    pub authority-is : authority_of old ≡ authority
-    pub map-is : before ≡ entries
-    pub events-is : old.ledger.events ≡ []
-    pub pairs-is : old.marks.pairs ≡ []
-    pub open-is : old.open.items ≡ []
-    pub function-is : old.place.function.items ≡ []
-    pub args-is : old.place.args.items ≡ []
-    pub path-is : old.place.path.items ≡ []
-    pub begun-is : old.place.begun ≡ 0
-    pub meter-is : old.ledger.budget ≡ meter
-
-  abbrev run_from : Header → Authority → World → Work → Out Datum
-  run_from header authority w work = after (done_under all_allowed header authority work) charging w
-
-  abbrev first : Header → LedgerMap → World
-  first header entries = start_of header 0 entries
-
-  start_same : (header : Header) (authority : Authority) (meter : Meter) (entries : LedgerMap) → Starts header authority meter entries
-      → world_around (first header entries) old [] ≡ with_meter meter (first header entries)
-  start_same header authority meter entries is = λ i. record (first header entries) {
-    entries = is.map-is i;
-    events = is.events-is i;
-    pairs = is.pairs-is i;
-    frame = record outside { function = is.function-is i; args = datums (is.args-is i); path = is.path-is i; begun = is.begun-is i };
-    contracts = reverse (is.open-is i);
-    meter = is.meter-is i;
-  }
-
   pub started_comes : (header : Header) (authority : Authority) (meter : Meter) (entries : LedgerMap) (work : Work) (r : Result ScVal HostErr)
-      → Starts header authority meter entries
+      → Starts old header authority meter entries
       → IsFootprint resources.footprint.read_only resources.footprint.read_write old.ledger.storage.declared → EndsCharged work r old new
       → Comes entries r (by_run n resources entries (entered_run header authority meter work entries))
   started_comes header authority meter entries work r is declared h =
-      let around = world_around (first header entries) old [] in
+      let start = start_of header 0 entries in
       subst (λ (m : LedgerMap). Comes m r (by_run n resources m (entered_run header authority meter work entries))) is.map-is
-      (subst (λ (out : Out Datum). Comes before r (by_run n resources before out))
-      (ap (λ (x : Header). run_from x (authority_of old) around work) is.header-is
-      ∙ ap (λ (a : Authority). run_from header a around work) is.authority-is
-      ∙ ap (λ (w : World). run_from header authority w work) (start_same header authority meter entries is))
-      (run_comes (run_from old.ledger.header.now (authority_of old) around work) r (h resources.footprint declared (first header entries))))
+      (subst (λ (out : Out Datum). Comes before r (by_run n resources before out)) (started_same old header authority meter entries work is)
+      (run_comes (after (done_under all_allowed old.ledger.header.now (authority_of old) work) charging (world_around start old [])) r (h resources.footprint declared start)))
 
 -- ---- arguments that do not enter
 

@@ -4,4 +4,7 @@ pub mod Spellings
 pub mod Authorities
 pub mod Jobs
 pub mod Running
+pub mod Recording
+pub mod Needed
+pub mod Simulating
 pub mod Changed

@@ -1,4 +1,4 @@
-//! Checks and runs one transaction over the entries of a ledger.
+//! Checks, runs and simulates one transaction over the entries of a ledger.
 #![tactic(auto)]
 
 mod authority;
@@ -10,12 +10,17 @@ mod envelope;
 mod extend;
 mod footprint;
 mod job;
+mod needs;
 mod reading;
+mod recording;
 mod results;
 mod run;
+mod simulating;
+mod spelled;
 mod success;
 mod transaction;
 mod writing;
 
 pub use envelope::{TxDone, enforce};
 pub use footprint::{read_only_of, read_write_of};
+pub use simulating::{Simulated, simulate};

@@ -2,7 +2,6 @@
 
 ghost use Rattle.std.specs.Prelude.{◌≡◌, ◌<◌, ◌^◌, length, IfOk, IfErr};
 ghost use Rattle.std.specs.Option.{option_map};
-ghost use Rattle.value_types.specs.Hash.{hash_format};
 ghost use Rattle.value_types.specs.Datum.{Datum, bytes, address as address_datum};
 ghost use Rattle.value_types.specs.Views.{datum, datums};
 ghost use Rattle.value_types.specs.declared.address.ScAddress.TheVariants as addresses;
@@ -18,6 +17,7 @@ ghost use Rattle.auth_parts.specs.Entering.{Enters};
 ghost use Rattle.tx_apply.specs.Running.{Charges, EndsCharged};
 
 use crate::job::Job;
+use crate::spelled::hold_hash;
 use budget_meter::{Budget, Kind};
 use contract_call::{Host, NewContract, create, invoke, upload};
 use entry_lookup::Ground;
@@ -26,14 +26,6 @@ use host_ledger::clone_values;
 use host_spec::{HostErr, ValueErr};
 use std::alloc::Global;
 use value_types::{Blob, Hash, ScAddress, ScVal};
-
-/// Says that a hash has a spelling.
-#[tactic(auto, unfolding(value_types::specs::Hash::hash_format))]
-fn hold_hash(hash: Hash)
-    ensures { hash_format.fits hash }
-{
-    let _ = hash;
-}
 
 /// A hash as a value of bytes.
 fn hash_value(alloc: Global, hash: Hash) -> Result<ScVal, ValueErr>

@@ -11,7 +11,8 @@ pub returns : goal.returns
 unfolding soroban_app
 returns c =
     let applies = c.in_ok-command.ensures ∙ ap₂ with c.bare_command.ensures c.in_ok-apply_command.ensures.app in
-    let shows = c.in_ok-command-2.ensures ∙ ap₂ with applies c.in_ok-show_command.ensures.app in
-    let vets = c.in_ok-command-3.ensures ∙ ap₂ with shows c.in_ok-vet_command.ensures.app in
-    let migrates = c.in_ok-command-4.ensures ∙ ap₂ with vets c.in_ok-migrate_command.ensures.app in
-    c.in_ok-command-5.ensures ∙ ap₂ with migrates c.in_ok-gen_command.ensures.app
+    let simulates = c.in_ok-command-2.ensures ∙ ap₂ with applies c.in_ok-simulate_command.ensures.app in
+    let shows = c.in_ok-command-3.ensures ∙ ap₂ with simulates c.in_ok-show_command.ensures.app in
+    let vets = c.in_ok-command-4.ensures ∙ ap₂ with shows c.in_ok-vet_command.ensures.app in
+    let migrates = c.in_ok-command-5.ensures ∙ ap₂ with vets c.in_ok-migrate_command.ensures.app in
+    c.in_ok-command-6.ensures ∙ ap₂ with migrates c.in_ok-gen_command.ensures.app

@@ -1,0 +1,9 @@
+use Rattle.std.specs.Prelude.{codes, decimal}
+use Rattle.soroban_top.proofs.PutTogether.{two_numbers}
+use Rattle.soroban_top.proofs.simulation.push_used.Goals as goal
+
+pub returns : goal.returns
+returns c =
+    let used = c.args.used in
+    two_numbers c.args.lines.now.items (codes "used ") (decimal used.instructions) (codes " instructions, ") (decimal used.memory) (codes " memory\n") _ _ _
+    c.in_ok-extend_from_slice.ensures.items c.in_ok-push_number.ensures c.in_ok-push_number-2.ensures

@@ -1,0 +1,166 @@
+//! Finds the footprint that a transaction needs.
+
+ghost use Rattle.std.specs.Prelude.{◌≡◌, All, false, true, None, IfOk, IfSome, IsTrue};
+ghost use Rattle.auth_types.specs.AuthEntry.{auth_entry_format};
+ghost use Rattle.ledger_spec.specs.LedgerFile.{are_settings, has_next};
+ghost use Rattle.invoke_types.specs.HostFunction.{host_function_format};
+ghost use Rattle.tx_xdr.specs.Operation.{body_format};
+ghost use Rattle.tx_xdr.specs.Soroban.{footprint_format};
+ghost use Rattle.tx_xdr.specs.Transaction.{transaction_format};
+ghost use Rattle.call_spec.specs.WholeRuns.{work_of};
+ghost use Rattle.apply_spec.specs.Checks.{footprint_of};
+ghost use Rattle.apply_spec.specs.Simulated.{needs_nothing, work_needs, body_needs, acts_on_footprint, keeps_footprint, needs};
+ghost use Rattle.tx_apply.specs.Authorities.{authority_in};
+ghost use Rattle.tx_apply.specs.Needed.{needs_in};
+
+use crate::authority::{Authority, authority_of};
+use crate::checks::form_refusal;
+use crate::job::job_of;
+use crate::recording::record;
+use crate::results::nothing_used;
+use budget_meter::Used;
+use entry_lookup::Ground;
+use invoke_types::HostFunction;
+use ledger_types::{Header, Verdicts};
+use std::alloc::Global;
+use tx_xdr::{Footprint, Operation, OperationBody, Transaction, TransactionExt};
+use value_types::Items;
+use xdr_core::NoMemory;
+
+/// The footprint that a transaction needs, and the sums of the run that needs it.
+#[derive(Drop)]
+pub(crate) struct Needs {
+    pub footprint: Footprint,
+    pub used: Used,
+}
+
+/// The needs of a transaction that runs nothing.
+#[tactic(auto, unfolding(tx_xdr::specs::Soroban::footprint_format, xdr_spec::specs::Format::list))]
+fn nothing(alloc: Global) -> Needs
+    ensures needs { needs_in result ≡ needs_nothing }
+    ensures fits { footprint_format.fits result.footprint }
+{
+    Needs {
+        footprint: Footprint {
+            read_only: Items::from_vec(Vec::new(alloc)),
+            read_write: Items::from_vec(Vec::new(alloc)),
+        },
+        used: nothing_used(),
+    }
+}
+
+// ---- the operation
+
+/// The needs of INVOKE_HOST_FUNCTION. A malformed call runs nothing.
+fn call_needs<G: Ground>(
+    alloc: Global,
+    ground: &G,
+    header: &Header,
+    instructions: u32,
+    authority: &Authority<'_>,
+    function: &HostFunction,
+) -> Result<Needs, NoMemory>
+    requires function { host_function_format.fits function.now }
+    requires entries { All auth_entry_format.fits authority.now.entries.now }
+    requires settings { IsTrue (are_settings header.now.settings) }
+    requires next { IsTrue (has_next header.now) }
+    ensures needs { IfOk result (λ n. needs_in n
+        ≡ work_needs header.now (authority_in authority.now) instructions (G.map ground.now) (work_of function.now)) }
+    ensures fits { IfOk result (λ n. footprint_format.fits n.footprint) }
+{
+    match job_of(function) {
+        None => Ok(nothing(alloc)),
+        Some(job) => record(alloc, ground, header, instructions, authority, &job),
+    }
+}
+
+/// The needs of the only operation of a transaction that passed its checks.
+fn operation_needs<G: Ground>(
+    alloc: Global,
+    ground: &G,
+    header: &Header,
+    verdicts: &Verdicts,
+    tx: &Transaction,
+    operation: &Operation,
+) -> Result<Needs, NoMemory>
+    requires body { body_format.fits operation.now.body }
+    requires settings { IsTrue (are_settings header.now.settings) }
+    requires next { IsTrue (has_next header.now) }
+    ensures needs { IfOk result (λ n. needs_in n
+        ≡ body_needs header.now verdicts.now (G.map ground.now) tx.now tx.now.ext operation.now.source operation.now.body) }
+    ensures fits { IfOk result (λ n. footprint_format.fits n.footprint) }
+{
+    let TransactionExt::Soroban(resources) = &tx.ext else {
+        return Ok(nothing(alloc));
+    };
+    let OperationBody::InvokeHostFunction {
+        host_function,
+        auth,
+    } = &operation.body
+    else {
+        return Ok(nothing(alloc));
+    };
+    let authority = authority_of(verdicts, tx, operation.source, auth.as_slice());
+    call_needs(
+        alloc,
+        ground,
+        header,
+        resources.instructions,
+        &authority,
+        host_function,
+    )
+}
+
+// ---- the transaction
+
+fn acts_on_footprint(operation: &Operation) -> bool
+    ensures { result ≡ acts_on_footprint operation.now.body }
+{
+    match operation.body {
+        OperationBody::InvokeHostFunction { .. } => false,
+        OperationBody::ExtendFootprintTtl { .. } | OperationBody::RestoreFootprint => true,
+    }
+}
+
+/// The footprint of a transaction that acts on the footprint that it declares, or `None` if the transaction does not.
+fn kept_footprint(tx: &Transaction) -> Option<&Footprint>
+    ensures kept { IfSome result (λ f. (f.now ≡ footprint_of tx.now) × (keeps_footprint tx.now ≡ true)) }
+    ensures other { result ≡ None → keeps_footprint tx.now ≡ false }
+{
+    let TransactionExt::Soroban(resources) = &tx.ext else {
+        return None;
+    };
+    match tx.operations.as_slice() {
+        [operation] if acts_on_footprint(operation) => Some(&resources.footprint),
+        _ => None,
+    }
+}
+
+/// Finds the footprint that a transaction needs over the entries of a ledger.
+pub(crate) fn needed<G: Ground>(
+    alloc: Global,
+    ground: &G,
+    header: &Header,
+    verdicts: &Verdicts,
+    tx: &Transaction,
+) -> Result<Needs, NoMemory>
+    requires fits { transaction_format.fits tx.now }
+    requires settings { IsTrue (are_settings header.now.settings) }
+    requires next { IsTrue (has_next header.now) }
+    ensures needs { IfOk result (λ n. needs_in n ≡ needs header.now verdicts.now (G.map ground.now) tx.now) }
+    ensures fits { IfOk result (λ n. footprint_format.fits n.footprint) }
+{
+    if let Some(footprint) = kept_footprint(tx) {
+        return Ok(Needs {
+            footprint: footprint.clone()?,
+            used: nothing_used(),
+        });
+    }
+    if form_refusal(header, tx).is_some() {
+        return Ok(nothing(alloc));
+    }
+    match tx.operations.as_slice() {
+        [] => Ok(nothing(alloc)),
+        [operation, ..] => operation_needs(alloc, ground, header, verdicts, tx, operation),
+    }
+}

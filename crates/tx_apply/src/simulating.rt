@@ -1,0 +1,115 @@
+//! Simulates one envelope: finds the footprint that its transaction needs, and runs the envelope with it.
+
+ghost use Rattle.std.specs.Prelude.{◌≡◌, true, IfOk, IsTrue};
+ghost use Rattle.ledger_spec.specs.LedgerMap.{LedgerMap};
+ghost use Rattle.ledger_spec.specs.LedgerFile.{are_settings, has_next};
+ghost use Rattle.tx_xdr.specs.Envelope.{envelope_format};
+ghost use Rattle.tx_xdr.specs.Soroban.{footprint_format};
+ghost use Rattle.tx_xdr.specs.declared.transaction.Footprint.{Footprint as FootprintData};
+ghost use Rattle.tx_results.specs.Report.{has_preimage};
+ghost use Rattle.tx_results.specs.Results.{outcome_in};
+ghost use Rattle.stage_runs.specs.Maps.{AgreeOn};
+ghost use Rattle.stage_runs.specs.Transactions.{declares};
+ghost use Rattle.apply_spec.specs.Recorded.{IsSmaller};
+ghost use Rattle.apply_spec.specs.Enforced.{enforced};
+ghost use Rattle.apply_spec.specs.Simulated.{simulated, tx_with, ext_with, with_footprint as with_footprint_in};
+ghost use Rattle.apply_spec.specs.SimulatedLaws.{IsTrapped};
+ghost use Rattle.tx_apply.specs.Done.{effect_of, IsWithin};
+ghost use Rattle.tx_apply.specs.Simulating.{simulated_in};
+
+use crate::envelope::{TxDone, enforce};
+use crate::needs::{Needs, needed};
+use budget_meter::Used;
+use entry_lookup::Ground;
+use ledger_types::{Header, Verdicts};
+use std::alloc::Global;
+use tx_xdr::{Envelope, Footprint, SorobanData, Transaction, TransactionExt};
+use xdr_core::NoMemory;
+
+/// A simulated envelope.
+#[derive(Drop)]
+pub struct Simulated {
+    /// The effect of the envelope with the footprint.
+    pub done: TxDone,
+    /// The keys that the transaction writes, and the other keys that it touches, sorted by their XDR bytes. An extension or a
+    /// restore keeps the footprint that it declares.
+    pub footprint: Footprint,
+    /// The envelope with the footprint. A transaction without Soroban data stays as it is.
+    pub envelope: Envelope,
+    /// The sums of the whole run, also if a test stops the operation before it runs. They are 0 if nothing runs.
+    pub used: Used,
+}
+
+/// Puts a footprint into a transaction that has Soroban data.
+fn set_footprint(tx: &mut Transaction, footprint: Footprint)
+    ensures { tx.new ≡ tx_with footprint tx.old }
+{
+    if let TransactionExt::Soroban(resources) = &mut tx.ext {
+        resources.footprint = footprint;
+    }
+}
+
+/// Puts a footprint into the transaction of an envelope, of a fee bump into the inner one.
+#[tactic(auto, using(crate::proofs::Simulation::envelope_fits))]
+fn with_footprint(mut envelope: Envelope, footprint: Footprint) -> Envelope
+    requires envelope { envelope_format.fits envelope }
+    requires footprint { footprint_format.fits footprint }
+    ensures with { result ≡ with_footprint_in footprint envelope }
+    ensures fits { envelope_format.fits result }
+{
+    match &mut envelope {
+        Envelope::Transaction(signed) => set_footprint(&mut signed.tx, footprint),
+        Envelope::FeeBump(signed) => set_footprint(&mut signed.fee_bump.inner.tx, footprint),
+    }
+    envelope
+}
+
+/// Simulates an envelope over the entries of a ledger: finds the footprint that its transaction needs, and its effect with that
+/// footprint. The declared footprint of a call is not read.
+///
+/// To find the footprint, a call runs once for each of its keys, once more for each key that it writes, and once with all of them.
+/// Then the envelope runs as in `enforce`.
+///
+/// `header` is that of the previous ledger, with the close time of the ledger that is being made.
+pub fn simulate<G: Ground>(
+    alloc: Global,
+    ground: &G,
+    header: &Header,
+    verdicts: &Verdicts,
+    envelope: &Envelope,
+) -> Result<Simulated, NoMemory>
+    requires fits { envelope_format.fits envelope.now }
+    requires settings { IsTrue (are_settings header.now.settings) }
+    requires next { IsTrue (has_next header.now) }
+    ensures simulated { IfOk result (λ s. simulated_in s
+        ≡ simulated header.now verdicts.now (G.map ground.now) envelope.now) }
+    ensures within { IfOk result (λ s. IsWithin s.done) }
+    ensures footprint { IfOk result (λ s. footprint_format.fits s.footprint) }
+    ensures envelope { IfOk result (λ s. envelope_format.fits s.envelope) }
+    // On every map that agrees on the recorded keys, the same is enforced.
+    ensures enforced { IfOk result (λ s. (other : LedgerMap) → AgreeOn (declares s.envelope) (G.map ground.now) other
+        → enforced header.now verdicts.now other s.envelope ≡ effect_of s.done) }
+    // If a call succeeded, each smaller footprint traps there.
+    ensures smaller { IfOk result (λ s. (other : LedgerMap) (smaller : FootprintData)
+        → AgreeOn (declares s.envelope) (G.map ground.now) other
+        → has_preimage (outcome_in s.done.result.result.outcome) ≡ true → IsSmaller smaller s.footprint
+        → IsTrapped header.now (with_footprint_in smaller envelope.now)
+        (enforced header.now verdicts.now other (with_footprint_in smaller envelope.now))) }
+{
+    let Needs { footprint, used } = needed(
+        alloc,
+        ground,
+        header,
+        verdicts,
+        envelope.transaction(),
+    )?;
+    let again = footprint.clone()?;
+    let envelope = with_footprint(envelope.clone()?, again);
+    let done = enforce(alloc, ground, header, verdicts, &envelope)?;
+    Ok(Simulated {
+        done,
+        footprint,
+        envelope,
+        used,
+    })
+}
