@@ -1,8 +1,8 @@
 #!/usr/bin/env python3
 """Simulates a transaction that calls a contract, whose function writes so many new keys. Prints seconds and peak memory.
 
-The footprint is found by runs over a growing footprint: two for each key that is written. So twice the keys take four times as
-long, and this shows what that costs.
+The footprint is found by one run over a storage that records the touched keys, and a second run has this footprint. This shows
+what both cost.
 
 usage: bench/simulations.py PROGRAM (the built program of crates/soroban_cmd; it needs GNU time at /usr/bin/time)
 """
@@ -15,7 +15,7 @@ from ledgers import words
 from measure import measure, program_argument
 
 RUNS = 3
-SIZES = [1, 10, 50, 100, 200]
+SIZES = [10, 100, 1_000, 10_000]
 
 
 def put_new(_key, _kind, first):

@@ -5,7 +5,6 @@ pub mod Called
 pub mod Rising
 pub mod Touching
 pub mod Recording
-pub mod Growing
 pub mod Fewer
 pub mod Trapping
 pub mod Halves

@@ -33,6 +33,7 @@ stronger Extend Extend = Extend
 stronger Extend Read = Extend
 stronger Read b = b
 
+-- The same rule stands in contract_storage/specs/Touched, in the names of the storage; tx_apply proves that they agree.
 abbrev pub touch : AccessKind → LedgerKey → List Touched → List Touched
 touch kind key [] = record { key = key; kind = kind } ∷ []
 touch kind key (t ∷ ts) =

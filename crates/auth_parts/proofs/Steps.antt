@@ -27,13 +27,14 @@ use Rattle.host_spec.specs.declared.error.ValueErr.TheVariants as errs
 use Rattle.host_spec.specs.declared.error.HostErr.{HostErr}
 use Rattle.contract_storage.specs.Stored.{Stored, IsLater}
 use Rattle.call_spec.specs.Errors.{DENIED}
-use Rattle.call_spec.specs.World.{Access, World, Env}
+use Rattle.call_spec.specs.World.{World, Env}
 use Rattle.call_spec.specs.Acts.{Act, Out, gives, only_where, lift, paying}
-use Rattle.call_spec.specs.Outcomes.{Says}
+use Rattle.call_spec.specs.Outcomes.{Leaves, quiet, Says}
+use Rattle.host_ledger.specs.Traced.{leaving}
+use Rattle.host_ledger.proofs.Tracing.{since}
 use Rattle.call_spec.specs.Entering.{entering}
 use Rattle.call_spec.specs.Asking.{denied, denying, is_good, uses_nonce}
 use Rattle.host_ledger.specs.Worlds.{Serves}
-use Rattle.host_ledger.specs.Answered.{any}
 use Rattle.call_parts.specs.Steps.{Steps, Charges, Returns}
 use Rattle.call_parts.proofs.Joining.{stops, goes, charges_steps, returns_charges, serves_later, charges_stop, charges_then}
 use Rattle.auth_parts.specs.Asked.{Asked, proved, by_contract, asks_address, asks_payload, asks_signer, asks_by, asks_first}
@@ -53,8 +54,8 @@ pub contract_asked : (u : Unit {0}) (contract : Hash) (a : Asked') (ds : List Da
     → (let q : Result Asked' HostErr = Ok a in Charges q asked (enters_for contract ds) before after)
 contract_asked u contract a ds before after is h w e =
     let q : Result Asked' HostErr = Ok a in
-    subst (λ (out : Out Asked). Says any q asked (denied out) (λ trace. record w { meter = after })) (sym (enters_any Asked (Ok u) ds before after h (gives (by_contract contract ds)) w e))
-    (tt, ap (λ (x : Asked). gives x (with_meter after w)) (sym is))
+    subst (λ (out : Out Asked). Says q asked (denied out) (quiet w (λ trace. record w { meter = after }))) (sym (enters_any Asked (Ok u) ds before after h (gives (by_contract contract ds)) w e))
+    (refl, ap (λ (x : Asked). gives x (with_meter after w)) (sym is))
 
 pub contract_refused : (error : ValueErr) (x : HostErr) (contract : Hash) (ds : List Datum) (before after : Meter) → x ≡ denied_end error
     → (let r : Result (Unit {0}) ValueErr = Err error in Enters {A = Datum} r (entering ds) before after)
@@ -66,10 +67,10 @@ contract_refused error x contract ds before after is h =
         → (let q : Result Asked' HostErr = Err (denied_end error) in Charges q asked (enters_for contract ds) before after)
     at (errs.Failed e) h w i =
         let q : Result Asked' HostErr = Err (denied_end (errs.Failed e)) in
-        subst (λ (out : Out Asked). Says any q asked (denied out) (λ trace. record w { meter = after })) (sym (enters_any Asked (Err (errs.Failed e)) ds before after h (gives (by_contract contract ds)) w i)) (tt, refl)
+        subst (λ (out : Out Asked). Says q asked (denied out) (quiet w (λ trace. record w { meter = after }))) (sym (enters_any Asked (Err (errs.Failed e)) ds before after h (gives (by_contract contract ds)) w i)) (refl, refl)
     at errs.Spent h w i =
         let q : Result Asked' HostErr = Err (denied_end errs.Spent) in
-        subst (λ (out : Out Asked). Says any q asked (denied out) (λ trace. record w { meter = after })) (sym (enters_any Asked (Err errs.Spent) ds before after h (gives (by_contract contract ds)) w i)) (tt, refl, refl)
+        subst (λ (out : Out Asked). Says q asked (denied out) (quiet w (λ trace. record w { meter = after }))) (sym (enters_any Asked (Err errs.Spent) ds before after h (gives (by_contract contract ds)) w i)) (refl, refl, refl)
     at errs.NoMemory h w i = tt
 
 pub contract_args : (contract : Hash) (q : Result Asked' HostErr) (ds es : List Datum) (before after : Meter) → ds ≡ es → Charges q asked (enters_for contract ds) before after → Charges q asked (enters_for contract es) before after
@@ -132,20 +133,21 @@ module _ (env : Env) (signer : AddressCredentials) (root : Invocation) where
 
   pub signer_asked : (u : Unit {0}) (q : Result Asked' HostErr) (old new : Stored) (before between after : Meter) → Serves env old → IsLater old new
       → (let r : Result (Unit {0}) HostErr = Ok u in Steps r (λ u. u) (λ env. uses_nonce env signer) old new before between) → Charges q asked pays between after
-      → (w : World) → w.entries ≡ old.map → w.meter ≡ before → Says any q asked (asks_signer env root signer w) (λ trace. record w { entries = new.map; trace = trace; meter = after })
+      → (w : World) → w.entries ≡ old.map → w.meter ≡ before → Says q asked (asks_signer env root signer w) (leaving old new w.trace (λ trace. record w { entries = new.map; trace = trace; meter = after }))
   signer_asked u q old new before between after serves later h k w i j =
-      goes (λ (v : Unit {0}). v) asked u q (uses_nonce env signer w) (λ _. pays) (λ trace. record w { entries = new.map; trace = trace; meter = between }) (λ trace. record w { entries = new.map; trace = trace; meter = after })
-      (h env serves w i j)
-      (λ t. charges_steps q asked pays new between after k env (serves_later env old new later serves) (record w { entries = new.map; trace = t; meter = between }) refl refl)
+      goes (λ (v : Unit {0}). v) asked u q (uses_nonce env signer w) (λ _. pays) (leaving old new w.trace (λ trace. record w { entries = new.map; trace = trace; meter = between }))
+      (leaving old new w.trace (λ trace. record w { entries = new.map; trace = trace; meter = after })) (h env serves w i j)
+      (λ t told. since q asked (pays (record w { entries = new.map; trace = t; meter = between })) old new new w.trace t (λ trace. record w { entries = new.map; trace = trace; meter = after }) told
+      (charges_steps q asked pays new between after k env (serves_later env old new later serves) (record w { entries = new.map; trace = t; meter = between }) refl refl))
 
   pub signer_stops : (e : HostErr) (old new : Stored) (before after : Meter) → Serves env old → (let r : Result (Unit {0}) HostErr = Err e in Steps r (λ u. u) (λ env. uses_nonce env signer) old new before after)
       → (w : World) → w.entries ≡ old.map → w.meter ≡ before
-      → (let q : Result Asked' HostErr = Err e in Says any q asked (asks_signer env root signer w) (λ trace. record w { entries = new.map; trace = trace; meter = after }))
+      → (let q : Result Asked' HostErr = Err e in Says q asked (asks_signer env root signer w) (leaving old new w.trace (λ trace. record w { entries = new.map; trace = trace; meter = after })))
   signer_stops e old new before after serves h w i j =
-      stops (λ (v : Unit {0}). v) asked e (uses_nonce env signer w) (λ _. pays) (λ trace. record w { entries = new.map; trace = trace; meter = after }) (h env serves w i j)
+      stops (λ (v : Unit {0}). v) asked e (uses_nonce env signer w) (λ _. pays) (leaving old new w.trace (λ trace. record w { entries = new.map; trace = trace; meter = after })) (h env serves w i j)
 
 -- ---- entries
 
-pub entry_asked : (q : Result Asked' HostErr) (env : Env) (entry : AuthEntry) (signer : AddressCredentials) (w : World) (left : List Access → World) → entry.credentials ≡ Address signer
-    → Says any q asked (asks_signer env entry.root_invocation signer w) left → Says any q asked (asks_first env entry w) left
-entry_asked q env entry signer w left is h = subst (λ (c : Credentials). Says any q asked (asks_by env entry.root_invocation c w) left) (sym is) h
+pub entry_asked : (q : Result Asked' HostErr) (env : Env) (entry : AuthEntry) (signer : AddressCredentials) (w : World) (left : Leaves) → entry.credentials ≡ Address signer
+    → Says q asked (asks_signer env entry.root_invocation signer w) left → Says q asked (asks_first env entry w) left
+entry_asked q env entry signer w left is h = subst (λ (c : Credentials). Says q asked (asks_by env entry.root_invocation c w) left) (sym is) h

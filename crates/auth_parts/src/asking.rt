@@ -16,7 +16,7 @@ ghost use Rattle.call_spec.specs.Errors.{DENIED as DENIED_ERROR};
 ghost use Rattle.call_spec.specs.Acts.{gives, only_where};
 ghost use Rattle.call_spec.specs.Asking.{is_good, check_args as check_args_of};
 ghost use Rattle.call_spec.specs.Outcomes.{Says};
-ghost use Rattle.host_ledger.specs.Answered.{any};
+ghost use Rattle.host_ledger.specs.Traced.{leaving};
 ghost use Rattle.host_ledger.specs.Worlds.{Serves};
 ghost use Rattle.call_parts.specs.Steps.{Charges, Returns};
 ghost use Rattle.auth_parts.specs.Asked.{proved, asks_address, asks_payload, asks_signer, asks_first};
@@ -215,8 +215,8 @@ fn ask_signer<G: Ground>(
     requires lives { storage.old.lives ≡ header.now.settings }
     ensures does { (env : Env) → env.header ≡ header.now → env.authority.verdicts ≡ verdicts.now
         → Serves env storage.old → (w : World) → w.entries ≡ storage.old.map → w.meter ≡ budget.old
-        → Says any result asked (asks_signer env entry.now.root_invocation signer.now w)
-        (λ trace. record w { entries = storage.new.map; trace = trace; meter = budget.new }) }
+        → Says result asked (asks_signer env entry.now.root_invocation signer.now w) (leaving storage.old storage.new w.trace
+        (λ trace. record w { entries = storage.new.map; trace = trace; meter = budget.new })) }
     ensures hosted { IfOk result IsAskedHosted }
     ensures later { IsLater storage.old storage.new }
 {
@@ -243,8 +243,8 @@ pub fn ask<G: Ground>(
     requires lives { storage.old.lives ≡ header.now.settings }
     ensures does { (env : Env) → env.header ≡ header.now → env.authority.verdicts ≡ verdicts.now
         → Serves env storage.old → (w : World) → w.entries ≡ storage.old.map → w.meter ≡ budget.old
-        → Says any result asked (asks_first env entry.now w)
-        (λ trace. record w { entries = storage.new.map; trace = trace; meter = budget.new }) }
+        → Says result asked (asks_first env entry.now w) (leaving storage.old storage.new w.trace
+        (λ trace. record w { entries = storage.new.map; trace = trace; meter = budget.new })) }
     ensures hosted { IfOk result IsAskedHosted }
     ensures later { IsLater storage.old storage.new }
 {

@@ -10,7 +10,8 @@ ghost use Rattle.auth_trees.specs.Demands.{Marked, authorises, demand, after_dem
 
 /// An entry that meets a demand is there, and is one of the demanded address.
 pub fn matched_is_of_address()
-    ensures { (s : Marked) (path : List ℕ) (caller : Option ScAddress) (address : ScAddress) (function : Function) (index : ℕ) (first : Bool)
+    ensures { (s : Marked) (path : List ℕ) (caller : Option ScAddress) (address : ScAddress) (function : Function) (index : ℕ)
+        (first : Bool)
         → demand s path caller address function ≡ Matched index first
         → (entry : AuthEntry) × (slice_get s.entries index ≡ Some entry) × (authorises s.source address entry ≡ true) }
 {}

@@ -55,7 +55,8 @@ fn mark_nodes(taken: &mut Vec<bool>, records: &[Record])
 fn mark_entries(used: &mut Vec<bool>, records: &[Record])
     requires { All (λ r. r.entry < length used.old.items) records.now }
     ensures len { length used.new.items ≡ length used.old.items }
-    ensures marks { (entry : ℕ) → entry < length used.old.items → slice_index_or used.new.items entry false ≡ has_entry records.now entry }
+    ensures marks { (entry : ℕ) → entry < length used.old.items
+        → slice_index_or used.new.items entry false ≡ has_entry records.now entry }
 {
     used.fill(false);
     for record in records {
@@ -101,7 +102,8 @@ fn note(deepest: &mut Vec<Option<Deepest>>, record: &Record, path: &[u64])
 fn find_deepest(deepest: &mut Vec<Option<Deepest>>, records: &[Record], path: &[u64])
     requires { All (λ r. r.entry < length deepest.old.items) records.now }
     ensures len { length deepest.new.items ≡ length deepest.old.items }
-    ensures each { (entry : ℕ) → entry < length deepest.old.items → slice_index_or deepest.new.items entry None ≡ deepest_record records.now path.now entry }
+    ensures each { (entry : ℕ) → entry < length deepest.old.items
+        → slice_index_or deepest.new.items entry None ≡ deepest_record records.now path.now entry }
 {
     deepest.fill(None);
     for record in records {

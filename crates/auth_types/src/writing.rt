@@ -49,7 +49,8 @@ pub fn size_of_invocation(invocation: &Invocation) -> u64
 #[cycle(size)]
 #[tactic(auto, unfolding(xdr_core::specs::Sizes::capped))]
 fn size_of_row(items: &[Invocation]) -> u64
-    ensures { AllByRecursion IsTreeBounded (forest_of items.now) → result ≡ capped (length (flat_map tree_bytes (forest_of items.now))) }
+    ensures { AllByRecursion IsTreeBounded (forest_of items.now)
+        → result ≡ capped (length (flat_map tree_bytes (forest_of items.now))) }
 {
     let mut size = 0u64;
     for item in items {

@@ -27,7 +27,8 @@ pub fn bytes_put(
     b: u64,
     c: u64,
 ) -> Result<Answer, ValueErr>
-    ensures { Answers result (kinds.Bytes ∷ kinds.U32 ∷ kinds.U32 ∷ []) bytes_put (a ∷ b ∷ c ∷ []) values.now budget.old budget.new }
+    ensures { Answers result (kinds.Bytes ∷ kinds.U32 ∷ kinds.U32 ∷ []) bytes_put
+        (a ∷ b ∷ c ∷ []) values.now budget.old budget.new }
 {
     let bytes = values.bytes(a)?;
     let index = values.number32(b)?;
@@ -140,7 +141,8 @@ pub fn bytes_insert(
     b: u64,
     c: u64,
 ) -> Result<Answer, ValueErr>
-    ensures { Answers result (kinds.Bytes ∷ kinds.U32 ∷ kinds.U32 ∷ []) bytes_insert (a ∷ b ∷ c ∷ []) values.now budget.old budget.new }
+    ensures { Answers result (kinds.Bytes ∷ kinds.U32 ∷ kinds.U32 ∷ []) bytes_insert
+        (a ∷ b ∷ c ∷ []) values.now budget.old budget.new }
 {
     let bytes = values.bytes(a)?;
     let index = values.number32(b)?;
@@ -174,7 +176,8 @@ pub fn bytes_slice(
     b: u64,
     c: u64,
 ) -> Result<Answer, ValueErr>
-    ensures { Answers result (kinds.Bytes ∷ kinds.U32 ∷ kinds.U32 ∷ []) bytes_slice (a ∷ b ∷ c ∷ []) values.now budget.old budget.new }
+    ensures { Answers result (kinds.Bytes ∷ kinds.U32 ∷ kinds.U32 ∷ []) bytes_slice
+        (a ∷ b ∷ c ∷ []) values.now budget.old budget.new }
 {
     let bytes = values.bytes(a)?;
     let from = values.number32(b)?;

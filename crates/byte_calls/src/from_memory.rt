@@ -20,7 +20,8 @@ pub fn bytes_new_from_linear_memory(
     a: u64,
     b: u64,
 ) -> Result<Answer, ValueErr>
-    ensures { AnswersOver result (kinds.U32 ∷ kinds.U32 ∷ []) bytes_new_from_linear_memory (a ∷ b ∷ []) values.now memory.now budget.old budget.new }
+    ensures { AnswersOver result (kinds.U32 ∷ kinds.U32 ∷ []) bytes_new_from_linear_memory
+        (a ∷ b ∷ []) values.now memory.now budget.old budget.new }
 {
     let from = values.number32(a)?;
     let len = values.number32(b)?;
@@ -38,7 +39,8 @@ pub fn string_new_from_linear_memory(
     a: u64,
     b: u64,
 ) -> Result<Answer, ValueErr>
-    ensures { AnswersOver result (kinds.U32 ∷ kinds.U32 ∷ []) string_new_from_linear_memory (a ∷ b ∷ []) values.now memory.now budget.old budget.new }
+    ensures { AnswersOver result (kinds.U32 ∷ kinds.U32 ∷ []) string_new_from_linear_memory
+        (a ∷ b ∷ []) values.now memory.now budget.old budget.new }
 {
     let from = values.number32(a)?;
     let len = values.number32(b)?;
@@ -56,7 +58,8 @@ pub fn symbol_new_from_linear_memory(
     a: u64,
     b: u64,
 ) -> Result<Answer, ValueErr>
-    ensures { AnswersOver result (kinds.U32 ∷ kinds.U32 ∷ []) symbol_new_from_linear_memory (a ∷ b ∷ []) values.now memory.now budget.old budget.new }
+    ensures { AnswersOver result (kinds.U32 ∷ kinds.U32 ∷ []) symbol_new_from_linear_memory
+        (a ∷ b ∷ []) values.now memory.now budget.old budget.new }
 {
     let from = values.number32(a)?;
     let len = values.number32(b)?;
@@ -83,7 +86,8 @@ pub fn bytes_copy_from_linear_memory(
     d: u64,
 ) -> Result<Answer, ValueErr>
     requires { IsMemory memory.now }
-    ensures { AnswersOver result (kinds.Bytes ∷ kinds.U32 ∷ kinds.U32 ∷ kinds.U32 ∷ []) bytes_copy_from_linear_memory (a ∷ b ∷ c ∷ d ∷ []) values.now memory.now budget.old budget.new }
+    ensures { AnswersOver result (kinds.Bytes ∷ kinds.U32 ∷ kinds.U32 ∷ kinds.U32 ∷ []) bytes_copy_from_linear_memory
+        (a ∷ b ∷ c ∷ d ∷ []) values.now memory.now budget.old budget.new }
 {
     let bytes = values.bytes(a)?;
     let to = values.number32(b)?;

@@ -11,7 +11,8 @@ use host_spec::ValueErr;
 
 /// A number as a byte: `INVALID_VALUE` above 255.
 pub fn byte_of(number: u32) -> Result<u8, ValueErr>
-    ensures { MatchResult result (λ b. (nat_le number 255 ≡ true) × (b ≡ number)) (λ e. (nat_le number 255 ≡ false) × (e ≡ errs.Failed invalid)) }
+    ensures { MatchResult result (λ b. (nat_le number 255 ≡ true) × (b ≡ number))
+        (λ e. (nat_le number 255 ≡ false) × (e ≡ errs.Failed invalid)) }
 {
     if number <= 255 {
         Ok(number as u8)
@@ -63,7 +64,8 @@ pub fn last_of(bytes: &[u8]) -> Option<u8>
 #[tactic(auto, using(host_frame::proofs::Making::few_bytes))]
 pub fn part_of(bytes: &[u8], from: u32, to: u32) -> Result<&[u8], ValueErr>
     requires { IsHosted (bytes_datum bytes.now) }
-    ensures means { MatchResult result (λ s. (nat_le from to && nat_le to (length bytes.now) ≡ true) × (s.now ≡ slice_range bytes.now from to))
+    ensures means { MatchResult result (λ s. (nat_le from to && nat_le to (length bytes.now) ≡ true)
+        × (s.now ≡ slice_range bytes.now from to))
         (λ e. (nat_le from to && nat_le to (length bytes.now) ≡ false) × (e ≡ errs.Failed outside)) }
     ensures few { IfOk result (λ s. length s.now < 2 ^ 32) }
 {
@@ -79,7 +81,8 @@ pub fn part_of(bytes: &[u8], from: u32, to: u32) -> Result<&[u8], ValueErr>
 /// A range of an object: `OUTSIDE_OBJECT` if it ends behind the object.
 pub fn range_of(bytes: &[u8], from: u32, len: u32) -> Result<&[u8], ValueErr>
     ensures { MatchResult result
-        (λ s. (nat_le (from + len) (length bytes.now) ≡ true) × (s.now ≡ slice_range bytes.now from (from + len)) × (length s.now ≡ len))
+        (λ s. (nat_le (from + len) (length bytes.now) ≡ true) × (s.now ≡ slice_range bytes.now from (from + len))
+        × (length s.now ≡ len))
         (λ e. (nat_le (from + len) (length bytes.now) ≡ false) × (e ≡ errs.Failed outside)) }
 {
     let start = from as usize;
@@ -95,7 +98,8 @@ pub fn range_of(bytes: &[u8], from: u32, len: u32) -> Result<&[u8], ValueErr>
 #[tactic(auto, using(host_frame::proofs::Making::few_bytes))]
 pub fn front_of(bytes: &[u8]) -> Result<&[u8], ValueErr>
     requires { IsHosted (bytes_datum bytes.now) }
-    ensures means { MatchResult result (λ s. (nat_lt 0 (length bytes.now) ≡ true) × (s.now ≡ take (length bytes.now - 1) bytes.now))
+    ensures means { MatchResult result (λ s. (nat_lt 0 (length bytes.now) ≡ true)
+        × (s.now ≡ take (length bytes.now - 1) bytes.now))
         (λ e. (nat_lt 0 (length bytes.now) ≡ false) × (e ≡ errs.Failed outside)) }
     ensures few { IfOk result (λ s. length s.now < 2 ^ 32) }
 {

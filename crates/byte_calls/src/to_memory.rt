@@ -21,7 +21,9 @@ fn copy_out(
     to: u32,
     len: u32,
 ) -> Result<Answer, ValueErr>
-    ensures does { (shown : List Datum) → Says result answer_of (copy_to_linear_memory bytes.now from to len (state shown memory.old budget.old)) (state shown memory.new budget.new) }
+    ensures does { (shown : List Datum)
+        → Says result answer_of (copy_to_linear_memory bytes.now from to len (state shown memory.old budget.old))
+        (state shown memory.new budget.new) }
     ensures made { IsMadeIfOk result }
 {
     let part = range_of(bytes, from, len)?;
@@ -41,7 +43,8 @@ pub fn bytes_copy_to_linear_memory(
     c: u64,
     d: u64,
 ) -> Result<Answer, ValueErr>
-    ensures { AnswersInto result (kinds.Bytes ∷ kinds.U32 ∷ kinds.U32 ∷ kinds.U32 ∷ []) bytes_copy_to_linear_memory (a ∷ b ∷ c ∷ d ∷ []) values.now memory.old memory.new budget.old budget.new }
+    ensures { AnswersInto result (kinds.Bytes ∷ kinds.U32 ∷ kinds.U32 ∷ kinds.U32 ∷ []) bytes_copy_to_linear_memory
+        (a ∷ b ∷ c ∷ d ∷ []) values.now memory.old memory.new budget.old budget.new }
 {
     let bytes = values.bytes(a)?;
     let from = values.number32(b)?;
@@ -61,7 +64,8 @@ pub fn string_copy_to_linear_memory(
     c: u64,
     d: u64,
 ) -> Result<Answer, ValueErr>
-    ensures { AnswersInto result (kinds.String ∷ kinds.U32 ∷ kinds.U32 ∷ kinds.U32 ∷ []) string_copy_to_linear_memory (a ∷ b ∷ c ∷ d ∷ []) values.now memory.old memory.new budget.old budget.new }
+    ensures { AnswersInto result (kinds.String ∷ kinds.U32 ∷ kinds.U32 ∷ kinds.U32 ∷ []) string_copy_to_linear_memory
+        (a ∷ b ∷ c ∷ d ∷ []) values.now memory.old memory.new budget.old budget.new }
 {
     let text = values.string(a)?;
     let from = values.number32(b)?;
@@ -81,7 +85,8 @@ pub fn symbol_copy_to_linear_memory(
     c: u64,
     d: u64,
 ) -> Result<Answer, ValueErr>
-    ensures { AnswersInto result (kinds.Symbol ∷ kinds.U32 ∷ kinds.U32 ∷ kinds.U32 ∷ []) symbol_copy_to_linear_memory (a ∷ b ∷ c ∷ d ∷ []) values.now memory.old memory.new budget.old budget.new }
+    ensures { AnswersInto result (kinds.Symbol ∷ kinds.U32 ∷ kinds.U32 ∷ kinds.U32 ∷ []) symbol_copy_to_linear_memory
+        (a ∷ b ∷ c ∷ d ∷ []) values.now memory.old memory.new budget.old budget.new }
 {
     let text = values.symbol(a)?;
     let from = values.number32(b)?;

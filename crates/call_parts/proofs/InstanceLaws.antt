@@ -70,7 +70,7 @@ map_entered u storage ms is h shallow = (is, h.0, entered_hosted (map (members_o
 
 pub copy_entered : (code : Hash) (storage : Option (List Member)) (ms : List Member) (r : Result Datum ScError) (key : LedgerKey) → (let q : Result (Option (List Member)) HostErr = Ok storage in IsEntered q ms r)
     → (let copy : Result InstanceCopy HostErr = Ok (record { code = code; storage = storage }) in Returns copy copied (effected key (with_entered code (members_of ms) r)))
-copy_entered code storage ms r key h w = (tt, rw (h.1, members_there ms, h.0) refl)
+copy_entered code storage ms r key h w = rw (h.1, members_there ms, h.0) (refl, refl)
 
 -- ---- equal copies
 

@@ -1,6 +1,7 @@
 pub mod Joining
 pub mod Reading
 pub mod Writing
+pub mod Making
 pub mod EntryLaws
 pub mod InstanceLaws
 pub mod Payloads

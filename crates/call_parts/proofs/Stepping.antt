@@ -1,5 +1,5 @@
 -- The steps of the crate, from the calls that they are made of.
-use Rattle.std.proofs.Common.{◌≡◌, ℕ, ◌*◌, Bool, true, false, List, [], ◌∷◌, length, Option, Result, Ok, Err, refl, subst}
+use Rattle.std.proofs.Common.{◌≡◌, ℕ, ◌*◌, Bool, true, false, List, [], ◌∷◌, length, Option, Result, Ok, Err, refl, sym, ap, subst, ◌∙◌}
 use Rattle.std.specs.Prelude.{is_some}
 use Rattle.sha2.specs.Sha256.{sha256}
 use Rattle.budget_meter.specs.Meter.{Meter}
@@ -16,7 +16,8 @@ use Rattle.wasm_spec.specs.Stores.{PAGE}
 use Rattle.module_loader.specs.Loading.{module_of}
 use Rattle.host_spec.specs.Acts as values
 use Rattle.host_spec.specs.declared.error.HostErr.{HostErr}
-use Rattle.contract_storage.specs.Stored.{Stored, IsLater}
+use Rattle.contract_storage.specs.Stored.{Stored, IsLater, IsRead}
+use Rattle.contract_storage.specs.declared.access.StoErr.{StoErr}
 use Rattle.call_spec.specs.Errors.{NO_MODULE}
 use Rattle.call_spec.specs.World.{AccessKind, Read, Write, Copied, World, Env, made_seq}
 use Rattle.call_spec.specs.Acts.{Act, Out, Good, Bad, Undeclared, after, then_do, gives, only_where, lift, paying}
@@ -25,10 +26,10 @@ use Rattle.call_spec.specs.Keys.{instance_key, instance_entry, code_key, code_en
 use Rattle.call_spec.specs.Found.{code_at, with_module}
 use Rattle.call_spec.specs.Frames.{paying_pages}
 use Rattle.call_spec.specs.Creating.{is_there, puts_code, uploads}
-use Rattle.call_spec.specs.Outcomes.{Says}
+use Rattle.call_spec.specs.Outcomes.{quiet, Says}
 use Rattle.host_ledger.specs.Worlds.{Serves}
-use Rattle.host_ledger.specs.Answered.{any}
-use Rattle.host_ledger.specs.Accessed.{Accesses}
+use Rattle.host_ledger.specs.Accessed.{end_of, named, Accesses}
+use Rattle.host_ledger.proofs.Rows.{later_read}
 use Rattle.call_parts.specs.Steps.{Steps, Charges}
 use Rattle.call_parts.specs.Entered.{judges}
 use Rattle.call_parts.proofs.Joining.{then_assoc, charges_steps, accesses_steps, steps_stop, steps_then, steps_as, charges_stop, charges_then, serves_later}
@@ -84,7 +85,7 @@ code_written u hash code key entry n old new before after' is made number later 
     steps_as q (λ (h : Hash). h) (λ env. after (access env Write (code_key hash) (puts env (code_entry (made_seq env) hash code) tt)) (λ _. gives hash)) (puts_the_code hash code) old new before after'
     (λ env serves w. puts_as env (code_key hash) (code_entry (made_seq env) hash code) hash w)
     (steps_then (λ (u : Unit {0}). u) (λ (h : Hash). h) u q (λ env. access env Write (code_key hash) (puts env (code_entry (made_seq env) hash code) tt)) (λ env _. gives hash) old new new before after' after'
-    (code_steps (Ok u) hash code key entry n old new before after' is made number h) (λ env. serves_later env old new later) (λ env serves w i j. (tt, rw (← i, ← j) refl)))
+    (code_steps (Ok u) hash code key entry n old new before after' is made number h) (λ env. serves_later env old new later) (λ env serves w i j. ((λ told. told), rw (← i, ← j) refl)))
 
 pub code_unwritten : (e : HostErr) (hash : Hash) (code : List ℕ) (key : LedgerKey) (entry : LedgerEntry) (n : ℕ) (old new : Stored) (before after' : Meter) → key ≡ code_key hash → entry ≡ code_entry n hash code → old.n ≡ n
     → (let q : Result (Unit {0}) HostErr = Err e in Steps q (λ u. u) (λ env. access env Write key (puts env entry tt)) old new before after')
@@ -103,6 +104,33 @@ stores hash code env = after (access env Read (code_key hash) is_there) (λ ther
 -- the access that looks for a code
 abbrev pub looks : Hash → Env → Act Bool
 looks hash env = access env Read (code_key hash) is_there
+
+-- the access that found whether a code is there
+looked : (there b : Bool) (hash : Hash) (key : LedgerKey) (old mid : Stored) (meter : Meter) → key ≡ code_key hash → there ≡ b
+    → (let r : Result Bool HostErr = Ok there in Accesses r (λ b. b) (λ env. access env Read key is_there) old mid)
+    → (let r : Result Bool HostErr = Ok b in Steps r (λ b. b) (looks hash) old mid meter meter)
+looked there b hash key old mid meter is test h =
+    let r : Result Bool HostErr = Ok b in
+    accesses_steps r (λ (b : Bool). b) (looks hash) old mid meter
+    (accesses_at r (λ (b : Bool). b) Read key (code_key hash) (λ env. is_there) old mid is
+    (subst (λ (x : Bool). let found : Result Bool HostErr = Ok x in Accesses found (λ b. b) (λ env. access env Read key is_there) old mid) test h))
+
+-- a code that is there
+pub code_seen : (there : Bool) (hash : Hash) (code : List ℕ) (key : LedgerKey) (old mid : Stored) (meter : Meter) → key ≡ code_key hash → there ≡ true → IsRead old mid
+    → (let r : Result Bool HostErr = Ok there in Accesses r (λ b. b) (λ env. access env Read key is_there) old mid)
+    → (let q : Result Hash HostErr = Ok hash in Steps q (λ h. h) (stores hash code) old mid meter meter)
+code_seen there hash code key old mid meter is test read h =
+    let q : Result Hash HostErr = Ok hash in
+    steps_then (λ (b : Bool). b) (λ (h : Hash). h) true q (looks hash) (λ env there. puts_code there env hash code) old mid mid meter meter meter
+    (looked there true hash key old mid meter is test h) (λ env. serves_later env old mid (later_read old mid read)) (λ env serves w i j. ((λ told. told), rw (← i, ← j) refl))
+
+-- a code that is put, since it is not there
+pub code_stored : (there : Bool) (q : Result Hash HostErr) (hash : Hash) (code : List ℕ) (key : LedgerKey) (old mid new : Stored) (before after' : Meter) → key ≡ code_key hash → there ≡ false → IsRead old mid
+    → (let r : Result Bool HostErr = Ok there in Accesses r (λ b. b) (λ env. access env Read key is_there) old mid)
+    → Steps q (λ h. h) (puts_the_code hash code) mid new before after' → Steps q (λ h. h) (stores hash code) old new before after'
+code_stored there q hash code key old mid new before after' is test read h put =
+    steps_then (λ (b : Bool). b) (λ (h : Hash). h) false q (looks hash) (λ env there. puts_code there env hash code) old mid new before before after'
+    (looked there false hash key old mid before is test h) (λ env. serves_later env old mid (later_read old mid read)) put
 
 pub code_unseen : (e : HostErr) (hash : Hash) (code : List ℕ) (key : LedgerKey) (old mid : Stored) (meter : Meter) → key ≡ code_key hash
     → (let r : Result Bool HostErr = Err e in Accesses r (λ b. b) (λ env. access env Read key is_there) old mid)
@@ -129,7 +157,7 @@ unpaid {C} {D} e view kind input len next before after' is h =
 -- a charge, and nothing after it
 pub charged_alone : (q : Result (Unit {0}) HostErr) (kind : Kind) (input : ℕ) (before after' : Meter) → Charges q (λ u. u) (lift (values.charged kind input)) before after' → Charges q (λ u. u) (paying kind input (gives tt)) before after'
 charged_alone (Ok u) kind input before after' h =
-    charges_then (λ (u : Unit {0}). u) (λ (u : Unit {0}). u) u (Ok u) (lift (values.charged kind input)) (λ _. gives tt) before after' after' h (λ w j. (tt, subst (λ (m : Meter). Good tt w ≡ Good tt (record w { meter = m })) j refl))
+    charges_then (λ (u : Unit {0}). u) (λ (u : Unit {0}). u) u (Ok u) (lift (values.charged kind input)) (λ _. gives tt) before after' after' h (λ w j. (refl, subst (λ (m : Meter). Good tt w ≡ Good tt (record w { meter = m })) j refl))
 charged_alone (Err e) kind input before after' h = charges_stop (λ (u : Unit {0}). u) (λ (u : Unit {0}). u) e (lift (values.charged kind input)) (λ _. gives tt) before after' h
 
 -- the pages' charge before an act
@@ -138,7 +166,7 @@ pages_then [] act w = refl
 pages_then (l ∷ ms) act w = then_assoc (lift (values.charged MemAlloc (PAGE * l.min)) w) (λ _. gives (tt {0})) (λ _. act)
 
 charges_as : {A B : Type 0} (q : Result A HostErr) (view : A → B) (act act' : Act B) (before after' : Meter) → ((w : World) → act w ≡ act' w) → Charges q view act before after' → Charges q view act' before after'
-charges_as q view act act' before after' same h w j = subst (λ (out : Out _). Says any q view out (λ trace. record w { meter = after' })) (same w) (h w j)
+charges_as q view act act' before after' same h w j = subst (λ (out : Out _). Says q view out (quiet w (λ trace. record w { meter = after' }))) (same w) (h w j)
 
 pub run_paid : (u : Unit {0}) (q : Result (Unit {0}) HostErr) (ms : List ResizableLimits) (before between after' : Meter)
     → (let r : Result (Unit {0}) HostErr = Ok u in Charges r (λ u. u) (paying_pages ms (gives tt)) before between) → Charges q (λ u. u) (lift (values.charged InvokeVmFunction 1)) between after'
@@ -207,16 +235,18 @@ not_uploaded e code old before after' h =
 abbrev pub reads : List ℕ → Act Module
 reads code = paying VmInstantiation (length code) (with_module (module_of code) (λ m. gives m))
 
-pub code_read : {A : Type 0} (view : A → List ℕ) (code : A) (q : Result Module HostErr) (hash : Hash) (s : Stored) (before after' : Meter)
-    → (let r : Result A HostErr = Ok code in Accesses r view (λ env. code_at env hash) s s) → Charges q (λ m. m) (reads (view code)) before after'
-    → Steps q (λ m. m) (λ env. after (code_at env hash) reads) s s before after'
-code_read view code q hash s before after' h k =
-    steps_then view (λ (m : Module). m) code q (λ env. code_at env hash) (λ env. reads) s s s before before after'
-    (accesses_steps (Ok code) view (λ env. code_at env hash) s s before h) (λ env serves. serves) (charges_steps q (λ (m : Module). m) (reads (view code)) s before after' k)
+pub code_read : {A : Type 0} (view : A → List ℕ) (code : A) (q : Result Module HostErr) (hash : Hash) (s t : Stored) (before after' : Meter)
+    → (let r : Result A HostErr = Ok code in Accesses r view (λ env. code_at env hash) s t) → IsRead s t → Charges q (λ m. m) (reads (view code)) before after'
+    → Steps q (λ m. m) (λ env. after (code_at env hash) reads) s t before after'
+code_read view code q hash s t before after' h read k =
+    steps_then view (λ (m : Module). m) code q (λ env. code_at env hash) (λ env. reads) s t t before before after'
+    (accesses_steps (Ok code) view (λ env. code_at env hash) s t before h) (λ env. serves_later env s t (later_read s t read)) (charges_steps q (λ (m : Module). m) (reads (view code)) t before after' k)
 
-pub code_missing : {A : Type 0} (view : A → List ℕ) (e : HostErr) (hash : Hash) (s : Stored) (meter : Meter)
-    → (let r : Result A HostErr = Err e in Accesses r view (λ env. code_at env hash) s s)
-    → (let q : Result Module HostErr = Err e in Steps q (λ m. m) (λ env. after (code_at env hash) reads) s s meter meter)
-code_missing {A} view e hash s meter h =
-    let r : Result A HostErr = Err e in
-    steps_stop view (λ (m : Module). m) e (λ env. code_at env hash) (λ env. reads) s s meter meter (accesses_steps r view (λ env. code_at env hash) s s meter h)
+pub code_missing : {A : Type 0} (view : A → List ℕ) (e : StoErr) (x : HostErr) (hash : Hash) (key : LedgerKey) (s t : Stored) (meter : Meter) → x ≡ end_of key e → key ≡ code_key hash
+    → (let r : Result A StoErr = Err e in Accesses (named (code_key hash) r) view (λ env. code_at env hash) s t)
+    → (let q : Result Module HostErr = Err x in Steps q (λ m. m) (λ env. after (code_at env hash) reads) s t meter meter)
+code_missing {A} view e x hash key s t meter is at h =
+    let r : Result A HostErr = Err x in
+    steps_stop view (λ (m : Module). m) x (λ env. code_at env hash) (λ env. reads) s t meter meter
+    (accesses_steps r view (λ env. code_at env hash) s t meter
+    (subst (λ (y : HostErr). let r : Result A HostErr = Err y in Accesses r view (λ env. code_at env hash) s t) (sym (is ∙ ap (λ (k : LedgerKey). end_of k e) at)) h))

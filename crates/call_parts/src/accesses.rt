@@ -5,7 +5,7 @@ ghost use Rattle.host_spec.specs.declared.error.HostErr.TheVariants as ends;
 ghost use Rattle.ledger_types.specs.Key.{key_format};
 ghost use Rattle.ledger_types.specs.Entry.{entry_format, key_of};
 ghost use Rattle.ledger_spec.specs.LedgerMap.{HasCodeHash};
-ghost use Rattle.contract_storage.specs.Stored.{IsLater};
+ghost use Rattle.contract_storage.specs.Stored.{IsRead, IsLater};
 ghost use Rattle.call_spec.specs.World.{Read, Write};
 ghost use Rattle.call_spec.specs.Accesses.{access, puts};
 ghost use Rattle.call_spec.specs.Creating.{is_there};
@@ -21,13 +21,14 @@ use host_spec::HostErr;
 use ledger_types::{LedgerEntry, LedgerKey};
 
 /// Whether there is a live entry at a key.
+#[tactic(auto, using(host_ledger::proofs::Linking::reads_read))]
 pub(crate) fn is_there<G: Ground>(
     storage: &mut Storage<'_, G>,
     key: LedgerKey,
 ) -> Result<bool, HostErr>
     requires { key_format.fits key }
     ensures does { Accesses result (λ there. there) (λ env. access env Read key is_there) storage.old storage.new }
-    ensures stays { storage.new ≡ storage.old }
+    ensures read { IsRead storage.old storage.new }
 {
     match storage.has(&key) {
         Ok(there) => Ok(there),

@@ -1,13 +1,17 @@
 //! The codes of contracts.
 
-ghost use Rattle.std.specs.Prelude.{◌≡◌, ◌<◌, ◌^◌, length, is_some, IfOk};
+ghost use mir.Syntax.{named};
+ghost use Rattle.std.specs.Prelude.{◌≡◌, ◌<◌, ◌^◌, [], length, is_some, IfOk};
+ghost use Rattle.std.specs.Borrow.{sem};
+ghost use Rattle.std.specs.Io.BufRead.{Rests};
 ghost use Rattle.sha2.specs.Sha256.{sha256};
 ghost use Rattle.xdr_spec.specs.Format.{IsBytes};
 ghost use Rattle.value_types.specs.Hash.{hash_of};
 ghost use Rattle.ledger_types.specs.Entry.{entry_format};
 ghost use Rattle.ledger_types.specs.declared.key.LedgerKey.{LedgerKey as LedgerKeyData};
 ghost use Rattle.module_loader.specs.Loading.{module_of};
-ghost use Rattle.contract_storage.specs.Stored.{IsLater};
+ghost use Rattle.contract_storage.specs.Stored.{IsRead, IsLater};
+ghost use Rattle.contract_storage.specs.contracts.storage.Storage.{the_row};
 ghost use Rattle.call_spec.specs.Errors.{NO_MODULE as NO_MODULE_ERROR};
 ghost use Rattle.call_spec.specs.World.{Read, Write, made_seq};
 ghost use Rattle.call_spec.specs.Acts.{after, gives, only_where};
@@ -15,7 +19,7 @@ ghost use Rattle.call_spec.specs.Accesses.{access, puts, effected};
 ghost use Rattle.call_spec.specs.Keys.{code_key, code_entry};
 ghost use Rattle.call_spec.specs.Found.{code_at, code_of_data};
 ghost use Rattle.call_spec.specs.Creating.{is_there, puts_code, uploads};
-ghost use Rattle.host_ledger.specs.Accessed.{Accesses};
+ghost use Rattle.host_ledger.specs.Accessed.{named as named_by, Accesses};
 ghost use Rattle.call_parts.specs.Entered.{judges_module, judges};
 ghost use Rattle.call_parts.specs.Steps.{Steps, Charges, Returns};
 
@@ -25,40 +29,44 @@ use crate::entries::{code_entry, code_hash};
 use crate::errors::NO_MODULE;
 use crate::modules::load_module;
 use budget_meter::{Budget, Kind};
-use contract_storage::Storage;
+use contract_storage::{StoErr, Storage};
 use entry_lookup::Ground;
-use host_ledger::{NO_ENTRY, code_key, end_of};
+use host_ledger::code_key;
 use host_spec::HostErr;
 use ledger_types::{LedgerEntry, LedgerEntryData};
 use std::alloc::Global;
 use value_types::Hash;
 
-/// The code that an entry has.
-fn code_of(found: &LedgerEntry) -> Result<&[u8], HostErr>
+/// The code that an entry has. An entry of another kind counts as missing.
+fn code_of(found: &LedgerEntry) -> Result<&[u8], StoErr>
     requires { entry_format.fits found.now }
-    ensures does { (key : LedgerKeyData) → Returns result (λ code. code.now) (effected key (code_of_data found.now.data)) }
+    ensures does { (key : LedgerKeyData)
+        → Returns (named_by key result) (λ code. code.now) (effected key (code_of_data found.now.data)) }
     ensures bytes { IfOk result (λ code. IsBytes code.now) }
     ensures few { IfOk result (λ code. length code.now < 2 ^ 32) }
 {
     match &found.data {
-        LedgerEntryData::ContractData(_) => Err(NO_ENTRY),
+        LedgerEntryData::ContractData(_) => Err(StoErr::Missing),
         LedgerEntryData::ContractCode(code) => Ok(code.code.as_slice()),
     }
 }
 
-/// Finds the code with a hash.
+/// Finds the code with a hash. A caller makes the host's error from the error and the code's key, by `end_of`.
 pub fn find_code<'s, G: Ground>(
-    storage: &'s Storage<'_, G>,
+    storage: &'s mut Storage<'_, G>,
     hash: Hash,
-) -> Result<&'s [u8], HostErr>
-    ensures does { Accesses result (λ code. code.now) (λ env. code_at env hash) storage.now storage.now }
+) -> Result<&'s [u8], StoErr>
+    // Once the entry is no longer borrowed.
+    ensures* lent { sem 𝓛 (Rests (the_row (record { mir = named 1; lft = [] }) G.row G.Ground) storage.entry
+        (λ new. (Accesses (named_by (code_key hash) result) (λ code. code.now) (λ env. code_at env hash) storage.old new)
+        × IsRead storage.old new)) }
     ensures bytes { IfOk result (λ code. IsBytes code.now) }
     ensures few { IfOk result (λ code. length code.now < 2 ^ 32) }
 {
     let key = code_key(hash);
     match storage.get(&key) {
         Ok(found) => code_of(found),
-        Err(error) => Err(end_of(key, error)),
+        Err(error) => Err(error),
     }
 }
 

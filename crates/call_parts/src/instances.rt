@@ -11,7 +11,7 @@ ghost use Rattle.ledger_types.specs.declared.key.LedgerKey.{LedgerKey as LedgerK
 ghost use Rattle.host_spec.specs.Hosted.{entry};
 ghost use Rattle.host_spec.specs.MapRows.{Member};
 ghost use Rattle.host_spec.specs.declared.error.HostErr.TheVariants as ends;
-ghost use Rattle.contract_storage.specs.Stored.{IsLater, HasBounds};
+ghost use Rattle.contract_storage.specs.Stored.{IsRead, IsLater, HasBounds};
 ghost use Rattle.call_spec.specs.World.{Write, made_seq};
 ghost use Rattle.call_spec.specs.Accesses.{access, puts, effected};
 ghost use Rattle.call_spec.specs.Keys.{instance_key, instance_entry};
@@ -156,12 +156,13 @@ fn opened(budget: &mut Budget, found: &LedgerEntry) -> Result<InstanceCopy, Host
 
 /// Finds the instance of a contract, and copies its storage.
 pub fn find_instance<G: Ground>(
-    storage: &Storage<'_, G>,
+    storage: &mut Storage<'_, G>,
     budget: &mut Budget,
     contract: Hash,
 ) -> Result<InstanceCopy, HostErr>
-    ensures does { Steps result copied (λ env. instance_at env contract) storage.now storage.now budget.old budget.new }
+    ensures does { Steps result copied (λ env. instance_at env contract) storage.old storage.new budget.old budget.new }
     ensures held { IfOk result (λ copy. IsHeld copy.storage) }
+    ensures read { IsRead storage.old storage.new }
 {
     let key = instance_key(contract);
     match storage.get(&key) {

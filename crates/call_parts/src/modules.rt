@@ -4,6 +4,7 @@ ghost use Rattle.std.specs.Prelude.{◌≡◌, length, IfOk, IfErr};
 ghost use Rattle.budget_meter.specs.declared.kind.Kind.TheVariants as kinds;
 ghost use Rattle.module_loader.specs.Loading.{module_of};
 ghost use Rattle.host_spec.specs.declared.error.HostErr.TheVariants as ends;
+ghost use Rattle.contract_storage.specs.Stored.{IsRead};
 ghost use Rattle.call_spec.specs.Acts.{after, gives, paying};
 ghost use Rattle.call_spec.specs.Found.{code_at, with_module};
 ghost use Rattle.call_parts.specs.Steps.{Steps, Charges, Returns};
@@ -15,6 +16,7 @@ use crate::errors::{NO_FUNCTION, NO_MODULE, OTHER_ARITY, SEGMENT_OUTSIDE};
 use budget_meter::{Budget, Kind};
 use contract_storage::Storage;
 use entry_lookup::Ground;
+use host_ledger::{code_key, end_of};
 use host_spec::HostErr;
 use module_loader::{LinkedModule, LoadErr, load};
 use std::alloc::Global;
@@ -82,17 +84,18 @@ fn read_module(alloc: Global, budget: &mut Budget, code: &[u8]) -> Result<Linked
 /// Finds the code with a hash, and loads its module. The charge comes before the code is read.
 pub fn call_module<G: Ground>(
     alloc: Global,
-    storage: &Storage<'_, G>,
+    storage: &mut Storage<'_, G>,
     budget: &mut Budget,
     hash: Hash,
 ) -> Result<LinkedModule, HostErr>
-    ensures { Steps result (λ m. m) (λ env. after (code_at env hash)
+    ensures does { Steps result (λ m. m) (λ env. after (code_at env hash)
         (λ code. paying kinds.VmInstantiation (length code) (with_module (module_of code) (λ m. gives m))))
-        storage.now storage.now budget.old budget.new }
+        storage.old storage.new budget.old budget.new }
+    ensures read { IsRead storage.old storage.new }
 {
     match find_code(storage, hash) {
         Ok(code) => read_module(alloc, budget, code),
-        Err(error) => Err(error),
+        Err(error) => Err(end_of(code_key(hash), error)),
     }
 }
 

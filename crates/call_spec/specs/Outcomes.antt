@@ -21,21 +21,33 @@ abbrev pub stopped_kind : {A : Type 0} → Out A → AccessKind
 stopped_kind (Undeclared a w) = a.kind
 stopped_kind _ = Read
 
--- An end that no `try_call` catches. Only the budget is compared. `traced` is what is known of the trace.
-abbrev pub EndsSo : {A : Type 0} → (List Access → Type 0) → Failure → Out A → World → Type 0
-EndsSo traced e out w = traced (trace_of out) × (out ≡ Bad e (world_of out)) × ((world_of out).meter ≡ w.meter)
+-- What the program leaves at the end of an act. The program does not hold the list of accesses, so it shows the act's final world only when that list is
+-- given. `told` is what it knows of the list: a storage that records has the touched keys, one that enforces a footprint has none.
+pub record Leaves : Type 1 where
+  pub world : List Access → World
+  pub told : List Access → Type 0
+
+-- An end that no `try_call` catches. Only the budget is compared, and the touched keys if the storage records.
+abbrev pub EndsSo : {A : Type 0} → Failure → Out A → Leaves → Type 0
+EndsSo e out left = left.told (trace_of out) × (out ≡ Bad e (world_of out)) × ((world_of out).meter ≡ (left.world []).meter)
 
 -- The act makes an access of this key, which the judge rejects.
-abbrev pub StopsSo : {A : Type 0} → (List Access → Type 0) → LedgerKey → Out A → World → Type 0
-StopsSo traced key out w =
-    traced (trace_of out) × (out ≡ Undeclared (record { kind = stopped_kind out; key = key; used = w.meter.used }) (world_of out)) × ((world_of out).meter ≡ w.meter)
+abbrev pub StopsSo : {A : Type 0} → LedgerKey → Out A → Leaves → Type 0
+StopsSo key out left =
+    left.told (trace_of out) × (out ≡ Undeclared (record { kind = stopped_kind out; key = key; used = (left.world []).meter.used }) (world_of out))
+    × ((world_of out).meter ≡ (left.world []).meter)
 
--- The Rust function returns what the act returns. The act's final world is `left` of its trace. `traced` is what is known of the trace: a storage
--- that records accesses knows it, one that enforces a footprint does not. Out of memory is always allowed.
-abbrev pub Says : {A B : Type 0} → (List Access → Type 0) → Result A HostErr → (A → B) → Out B → (List Access → World) → Type 0
-Says traced (Ok a) view out left = traced (trace_of out) × (out ≡ Good (view a) (left (trace_of out)))
-Says traced (Err (ends.Failed e)) view out left = traced (trace_of out) × (out ≡ Bad (Failed e) (left (trace_of out)))
-Says traced (Err ends.Spent) view out left = EndsSo traced Spent out (left [])
-Says traced (Err (ends.Archived key)) view out left = EndsSo traced (Archived key) out (left [])
-Says traced (Err (ends.Undeclared key)) view out left = StopsSo traced key out (left [])
-Says traced (Err ends.NoMemory) view out left = Unit {0}
+-- The Rust function returns what the act returns, and leaves the act's final world. Out of memory is always allowed.
+abbrev pub Says : {A B : Type 0} → Result A HostErr → (A → B) → Out B → Leaves → Type 0
+Says (Ok a) view out left = left.told (trace_of out) × (out ≡ Good (view a) (left.world (trace_of out)))
+Says (Err (ends.Failed e)) view out left = left.told (trace_of out) × (out ≡ Bad (Failed e) (left.world (trace_of out)))
+Says (Err ends.Spent) view out left = EndsSo Spent out left
+Says (Err (ends.Archived key)) view out left = EndsSo (Archived key) out left
+Says (Err (ends.Undeclared key)) view out left = StopsSo key out left
+Says (Err ends.NoMemory) view out left = Unit {0}
+
+-- ---- acts that make no access
+
+-- an act without accesses leaves this world, and the accesses of the world before
+abbrev pub quiet : World → (List Access → World) → Leaves
+quiet w left = record { world = left; told = λ trace. trace ≡ w.trace }

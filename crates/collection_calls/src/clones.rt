@@ -102,7 +102,8 @@ pub fn joined_entries_by(
     val: &ScVal,
     back: &[Entry],
 ) -> Result<Vec<Entry>, ValueErr>
-    ensures value { IfOk result (λ v. datum_pairs v.items ≡ datum_pairs front.now ++ ((datum key.now, datum val.now) ∷ datum_pairs back.now)) }
+    ensures value { IfOk result (λ v. datum_pairs v.items ≡ datum_pairs front.now ++
+        ((datum key.now, datum val.now) ∷ datum_pairs back.now)) }
     ensures memory { IfErr result (λ e. e ≡ errs.NoMemory) }
 {
     let mut made = Vec::with_capacity(alloc, front.len() + back.len() + 1)?;

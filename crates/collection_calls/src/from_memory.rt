@@ -82,7 +82,8 @@ pub fn vec_new_from_linear_memory(
     a: u64,
     b: u64,
 ) -> Result<Answer, ValueErr>
-    ensures { AnswersOver result (kinds.U32 ∷ kinds.U32 ∷ []) vec_new_from_linear_memory (a ∷ b ∷ []) values.now memory.now budget.old budget.new }
+    ensures { AnswersOver result (kinds.U32 ∷ kinds.U32 ∷ []) vec_new_from_linear_memory
+        (a ∷ b ∷ []) values.now memory.now budget.old budget.new }
 {
     let from = values.number32(a)?;
     let count = values.number32(b)?;

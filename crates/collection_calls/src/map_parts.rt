@@ -22,7 +22,8 @@ use value_types::{Entry, ScVal, ScVals};
 #[tactic(auto, using(host_frame::proofs::KeyLaws::value_there, host_frame::proofs::KeyLaws::value_gap, host_frame::proofs::KeyLaws::val_made))]
 pub fn value_at<'a>(key: &ScVal, entries: &'a [Entry]) -> Option<&'a ScVal>
     requires { IsHosted (map (members_of (datum_pairs entries.now))) }
-    ensures found { MatchOption result (value_at (datum key.now) (datum_pairs entries.now) ≡ None) (λ v. value_at (datum key.now) (datum_pairs entries.now) ≡ Some (datum v.now)) }
+    ensures found { MatchOption result (value_at (datum key.now) (datum_pairs entries.now) ≡ None)
+        (λ v. value_at (datum key.now) (datum_pairs entries.now) ≡ Some (datum v.now)) }
     ensures made { IfSome result (λ v. IsMade (datum v.now)) }
 {
     match index_of(key, entries) {
@@ -218,7 +219,8 @@ pub fn map_without(
 ) -> Result<Option<Answer>, ValueErr>
     requires hosted { IsHosted (map (members_of (datum_pairs entries.now))) }
     ensures value { IfOk result (λ o. MatchOption o (is_some (value_at (datum key.now) (datum_pairs entries.now)) ≡ false)
-        (λ a. (is_some (value_at (datum key.now) (datum_pairs entries.now)) ≡ true) × (answer_of a ≡ map_answer (without (datum key.now) (datum_pairs entries.now))) × IsAnswerMade (answer_of a))) }
+        (λ a. (is_some (value_at (datum key.now) (datum_pairs entries.now)) ≡ true)
+        × (answer_of a ≡ map_answer (without (datum key.now) (datum_pairs entries.now))) × IsAnswerMade (answer_of a))) }
     ensures memory { IfErr result (λ e. e ≡ errs.NoMemory) }
 {
     match index_of(key, entries) {

@@ -29,7 +29,8 @@ pub fn map_put(
     b: u64,
     c: u64,
 ) -> Result<Answer, ValueErr>
-    ensures { Answers result (kinds.Map ∷ kinds.Value ∷ kinds.Value ∷ []) map_put (a ∷ b ∷ c ∷ []) values.now budget.old budget.new }
+    ensures { Answers result (kinds.Map ∷ kinds.Value ∷ kinds.Value ∷ []) map_put
+        (a ∷ b ∷ c ∷ []) values.now budget.old budget.new }
 {
     let (map, entries) = values.whole_map(a)?;
     let key = values.value(b)?;

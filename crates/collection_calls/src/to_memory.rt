@@ -53,7 +53,8 @@ fn unpack(
     requires made { AreMade (datums items.items) }
     requires indices { AreIndices objects.old shown.old }
     requires room { to + 8 * length items.items ≤ length memory.old }
-    ensures does { Says result answer_of (given_to to (datums items.items) (state (shown_of objects.old shown.old) memory.old budget.old))
+    ensures does { Says result answer_of
+        (given_to to (datums items.items) (state (shown_of objects.old shown.old) memory.old budget.old))
         (state (shown_of objects.new shown.new) memory.new budget.new) }
     ensures made { IsMadeIfOk result }
     ensures indices { AreIndices objects.new shown.new }

@@ -64,7 +64,8 @@ pub fn in_range(from: u32, to: u32, items: &[ScVal]) -> Result<(), ValueErr>
 #[tactic(auto, using(crate::proofs::VecLaws::item_here, crate::proofs::VecLaws::item_past, crate::proofs::VecLaws::hosted_item))]
 pub fn item_at(items: &[ScVal], index: usize) -> Option<&ScVal>
     requires { IsHosted (vec (items_of (datums items.now))) }
-    ensures found { MatchOption result (slice_get (datums items.now) index ≡ None) (λ v. slice_get (datums items.now) index ≡ Some (datum v.now)) }
+    ensures found { MatchOption result (slice_get (datums items.now) index ≡ None)
+        (λ v. slice_get (datums items.now) index ≡ Some (datum v.now)) }
     ensures made { IfSome result (λ v. IsMade (datum v.now)) }
 {
     if index < items.len() {
@@ -79,7 +80,8 @@ pub fn item_at(items: &[ScVal], index: usize) -> Option<&ScVal>
 pub fn last_item(items: &[ScVal]) -> Option<&ScVal>
     requires { IsHosted (vec (items_of (datums items.now))) }
     ensures found { MatchOption result (nat_lt 0 (length (datums items.now)) ≡ false)
-        (λ v. (nat_lt 0 (length (datums items.now)) ≡ true) × (slice_get (datums items.now) (length (datums items.now) - 1) ≡ Some (datum v.now))) }
+        (λ v. (nat_lt 0 (length (datums items.now)) ≡ true)
+        × (slice_get (datums items.now) (length (datums items.now) - 1) ≡ Some (datum v.now))) }
     ensures made { IfSome result (λ v. IsMade (datum v.now)) }
 {
     if items.is_empty() {

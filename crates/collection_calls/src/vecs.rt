@@ -30,7 +30,8 @@ pub fn vec_put(
     b: u64,
     c: u64,
 ) -> Result<Answer, ValueErr>
-    ensures { Answers result (kinds.Vec ∷ kinds.U32 ∷ kinds.Value ∷ []) vec_put (a ∷ b ∷ c ∷ []) values.now budget.old budget.new }
+    ensures { Answers result (kinds.Vec ∷ kinds.U32 ∷ kinds.Value ∷ []) vec_put
+        (a ∷ b ∷ c ∷ []) values.now budget.old budget.new }
 {
     let items = values.vec(a)?;
     let index = values.number32(b)?;
@@ -156,7 +157,8 @@ pub fn vec_insert(
     b: u64,
     c: u64,
 ) -> Result<Answer, ValueErr>
-    ensures { Answers result (kinds.Vec ∷ kinds.U32 ∷ kinds.Value ∷ []) vec_insert (a ∷ b ∷ c ∷ []) values.now budget.old budget.new }
+    ensures { Answers result (kinds.Vec ∷ kinds.U32 ∷ kinds.Value ∷ []) vec_insert
+        (a ∷ b ∷ c ∷ []) values.now budget.old budget.new }
 {
     let items = values.vec(a)?;
     let index = values.number32(b)?;
@@ -189,7 +191,8 @@ pub fn vec_slice(
     b: u64,
     c: u64,
 ) -> Result<Answer, ValueErr>
-    ensures { Answers result (kinds.Vec ∷ kinds.U32 ∷ kinds.U32 ∷ []) vec_slice (a ∷ b ∷ c ∷ []) values.now budget.old budget.new }
+    ensures { Answers result (kinds.Vec ∷ kinds.U32 ∷ kinds.U32 ∷ []) vec_slice
+        (a ∷ b ∷ c ∷ []) values.now budget.old budget.new }
 {
     let items = values.vec(a)?;
     let from = values.number32(b)?;

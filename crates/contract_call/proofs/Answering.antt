@@ -23,19 +23,22 @@ use Rattle.call_spec.specs.Acts.{Failed, Out, Good, Bad, Undeclared, Act, world_
 use Rattle.call_spec.specs.Creating.{uploads, upload_wasm}
 use Rattle.call_spec.specs.Frames.{Opener}
 use Rattle.call_spec.specs.HostFunctions.{host_function}
-use Rattle.call_spec.specs.Outcomes.{Says, trace_of, stopped_kind}
+use Rattle.call_spec.specs.Outcomes.{quiet, Says, trace_of, stopped_kind}
+use Rattle.host_ledger.specs.Traced.{Tells, leaving}
 use Rattle.call_spec.specs.Rules.{Rule, answered, returning}
-use Rattle.host_ledger.specs.Answered.{any, Answers}
+use Rattle.host_ledger.specs.Answered.{Answers}
+use Rattle.host_ledger.proofs.Tracing.{afterwards}
 use Rattle.host_ledger.specs.Accessed.{Runs}
 use Rattle.host_ledger.proofs.Steps.{ready_after}
 use Rattle.call_parts.specs.Steps.{Steps}
 use Rattle.host_ledger.specs.Called.{Calls, Left}
 use Rattle.host_ledger.specs.Worlds.{world_at, IsReady, Stays as StaysLedger}
 use Rattle.host_ledger.specs.declared.state.HostLedger.{HostLedger}
-use Rattle.contract_call.specs.Worlds.{beside, world_in, DoesIn, MayRun}
+use Rattle.contract_call.specs.Worlds.{beside, world_in, leaving_by, DoesIn, MayRun}
 use Rattle.contract_call.specs.Running.{StaysIn}
 use Rattle.contract_call.specs.declared.host.Host.{Host}
 use Rattle.contract_call.proofs.Joining.{keep_rest, stop, go_on, fails_as, as_fails}
+use Rattle.contract_call.proofs.Showing.{telling}
 use Rattle.contract_call.proofs.Stepping.{steps_stop, steps_view}
 use Rattle.contract_call.proofs.Lending.{around}
 
@@ -71,7 +74,7 @@ does_call r i words old new calls opener env is rest trace =
 pub does_row : {G : Type 0} (r : Result Answer' HostErr) (ks : List ArgKind) (rule : Env → Rule ks) (words given : List ℕ) (old : Host G) (new : HostLedger G) → words ≡ given → Answers r ks rule given old.ledger new
     → DoesIn r answer_of (λ env. answered ks (rule env) words) old (around old new)
 does_row r ks rule words given old new e answers env is rest trace =
-    subst (λ (ws : List ℕ). let out = answered ks (rule env) ws (world_in rest old trace) in Says any r answer_of out (world_in rest (around old new))) (sym e)
+    subst (λ (ws : List ℕ). let out = answered ks (rule env) ws (world_in rest old trace) in Says r answer_of out (leaving_by old (around old new) trace (world_in rest (around old new)))) (sym e)
     (answers.does env is.ledger (beside rest old) trace)
 
 -- ---- what is shown
@@ -80,29 +83,32 @@ abbrev shows : Answer → Act ℕ
 shows answer = lift (given answer)
 
 pub shown_on : {G : Type 0} (a : Answer') (r : Result ℕ HostErr) (start mid : Host G) (new : HostLedger G) (act : Env → Act Answer)
-    → (let made : Result Answer' HostErr = Ok a in DoesIn made answer_of act start mid)
-    → ((rest : World) (trace : List Access) → Says any r (λ n. n) (lift (given (answer_of a)) (world_at rest mid.ledger trace)) (world_at rest new))
+    → (let made : Result Answer' HostErr = Ok a in DoesIn made answer_of act start mid) → new.storage ≡ mid.ledger.storage
+    → ((rest : World) (trace : List Access) → Says r (λ n. n) (lift (given (answer_of a)) (world_at rest mid.ledger trace)) (quiet (world_at rest mid.ledger trace) (world_at rest new)))
     → DoesIn r (λ n. n) (λ env. after (act env) (λ answer. lift (given answer))) start (around mid new)
-shown_on a r start mid new act one two env is rest trace =
-    go_on (λ w t. world_in w mid t) (λ w t. world_in w (around mid new) t) keep_rest (λ _ _ _. refl) a r answer_of (λ n. n) rest (act env (world_in rest start trace)) shows (one env is rest trace)
-    (λ w t. two (beside w mid) t)
+shown_on a r start mid new act one same two env is rest trace =
+    go_on (λ w t. world_in w mid t) (λ w t. world_in w (around mid new) t) keep_rest (telling start mid trace) (telling start (around mid new) trace) (λ _ _ _. refl) a r answer_of (λ n. n) rest
+    (act env (world_in rest start trace)) shows (one env is rest trace)
+    (λ w t told. afterwards r (λ n. n) (lift (given (answer_of a)) (world_in w mid t)) start.ledger.storage new.storage trace (world_in w mid t) (world_in w (around mid new))
+    (subst (λ (s : Stored). Tells start.ledger.storage s trace t) (sym same) told) (two (beside w mid) t))
 
 pub shown_stop : {G : Type 0} (e : HostErr) (start mid : Host G) (act : Env → Act Answer) → (let made : Result Answer' HostErr = Err e in DoesIn made answer_of act start mid)
     → (let none : Result ℕ HostErr = Err e in DoesIn none (λ n. n) (λ env. after (act env) (λ answer. lift (given answer))) start mid)
 shown_stop e start mid act one env is rest trace =
     let out = act env (world_in rest start trace) in
     let then = then_do out shows in
-    as_fails e (λ n. n) then (world_in rest mid)
-    (stop (λ w t. world_in w mid t) keep_rest mid.ledger.budget (λ _ _. refl) e rest out shows (fails_as e answer_of out (world_in rest mid) (one env is rest trace)))
+    as_fails e (λ n. n) then (leaving_by start mid trace (world_in rest mid))
+    (stop (λ w t. world_in w mid t) keep_rest (telling start mid trace) mid.ledger.budget (λ _ _. refl) e rest out shows (fails_as e answer_of out (leaving_by start mid trace (world_in rest mid)) (one env is rest trace)))
 
 -- an act that leaves one world, with the accesses so far
-pub traced : {A B : Type 0} (r : Result A HostErr) (view : A → B) (out : Out B) (left : List Access → World) (w : World) → left w.trace ≡ w → (left []).meter ≡ w.meter → Says any r view out (λ trace. w) → Says any r view out left
-traced (Ok a) view out left w e m p = (tt, subst (λ o. o ≡ Good (view a) (left (trace_of o))) (sym p.1) (ap (Good (view a)) (sym e)))
-traced (Err (ends.Failed d)) view out left w e m p = (tt, subst (λ o. o ≡ Bad (Failed d) (left (trace_of o))) (sym p.1) (ap (Bad (Failed d)) (sym e)))
-traced (Err ends.Spent) view out left w e m p = (tt, p.1, p.2 ∙ sym m)
-traced (Err (ends.Archived key)) view out left w e m p = (tt, p.1, p.2 ∙ sym m)
+pub traced : {A B : Type 0} (r : Result A HostErr) (view : A → B) (out : Out B) (left : List Access → World) (w : World) → left w.trace ≡ w → (left []).meter ≡ w.meter
+    → Says r view out (quiet w (λ trace. w)) → Says r view out (quiet w left)
+traced (Ok a) view out left w e m p = (p.0, subst (λ o. o ≡ Good (view a) (left (trace_of o))) (sym p.1) (ap (Good (view a)) (sym e)))
+traced (Err (ends.Failed d)) view out left w e m p = (p.0, subst (λ o. o ≡ Bad (Failed d) (left (trace_of o))) (sym p.1) (ap (Bad (Failed d)) (sym e)))
+traced (Err ends.Spent) view out left w e m p = (p.0, p.1, p.2 ∙ sym m)
+traced (Err (ends.Archived key)) view out left w e m p = (p.0, p.1, p.2 ∙ sym m)
 traced {B = B} (Err (ends.Undeclared key)) view out left w e m p =
-    (tt, subst (λ (z : Meter). out ≡ Undeclared (record { kind = stopped_kind out; key = key; used = z.used }) (world_of out)) (sym m) p.1, p.2 ∙ sym m)
+    (p.0, subst (λ (z : Meter). out ≡ Undeclared (record { kind = stopped_kind out; key = key; used = z.used }) (world_of out)) (sym m) p.1, p.2 ∙ sym m)
 traced (Err ends.NoMemory) view out left w e m p = tt
 
 -- ---- uploads
@@ -131,6 +137,6 @@ pub upload_runs : (r : Result Answer' HostErr) (shown : List Datum) (a : ℕ) (c
     → Steps r answer_of (λ env. returning (uploads env code) (λ hash. bytes hash.0)) old new entered after
     → (contract : Hash) (copy : Copied) → Runs r (kinds.Bytes ∷ []) upload_wasm (a ∷ []) shown contract old new before after copy copy
 upload_runs r shown a code old new before entered after h paid steps contract copy env serves w i j k l o =
-    subst (λ (x : Copied). Says any r answer_of (answered (kinds.Bytes ∷ []) (upload_wasm env) (a ∷ []) w) (λ trace. record w { entries = new.map; trace = trace; meter = after; frame = record w.frame { copy = x } })) o
-    (subst (λ (out : Out Answer). Says any r answer_of out (λ trace. record w { entries = new.map; trace = trace; meter = after }))
+    subst (λ (x : Copied). Says r answer_of (answered (kinds.Bytes ∷ []) (upload_wasm env) (a ∷ []) w) (leaving old new w.trace (λ trace. record w { entries = new.map; trace = trace; meter = after; frame = record w.frame { copy = x } }))) o
+    (subst (λ (out : Out Answer). Says r answer_of out (leaving old new w.trace (λ trace. record w { entries = new.map; trace = trace; meter = after })))
     (sym (upload_is env w shown a code before entered j k h paid)) (steps env serves (record w { meter = entered }) i refl))

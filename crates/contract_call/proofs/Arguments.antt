@@ -27,9 +27,8 @@ use Rattle.call_spec.specs.World.{World, Env}
 use Rattle.call_spec.specs.Acts.{Act, Out, then_do, gives, only_where}
 use Rattle.call_spec.specs.Creating.{only_hash, creates_by, create_contract, create_contract_with_constructor}
 use Rattle.call_spec.specs.Frames.{Opener}
-use Rattle.call_spec.specs.Outcomes.{Says}
+use Rattle.call_spec.specs.Outcomes.{quiet, Says}
 use Rattle.call_spec.specs.Rules.{answered}
-use Rattle.host_ledger.specs.Answered.{any}
 use Rattle.contract_call.specs.Creations.{creation_of, args_of}
 use Rattle.contract_call.specs.declared.works.NewContract.{NewContract}
 use Rattle.contract_call.specs.Taken.{Takes, creates_here}
@@ -63,14 +62,14 @@ hash_first bs next w = sized_first (length bs == 32) (hash_of bs) next w
 
 -- how the program tests a hash
 abbrev IsHash : Result Hash HostErr → List ℕ → Type 0
-IsHash r bs = (w : World) → Says any r (λ h. h) (only_hash bs (λ h. gives h) w) (λ trace. w)
+IsHash r bs = (w : World) → Says r (λ h. h) (only_hash bs (λ h. gives h) w) (quiet w (λ trace. w))
 
 hash_good : {A : Type 0} (bs : List ℕ) (hash : Hash) (next : Hash → Act A) (w : World) → IsHash (Ok hash) bs → only_hash bs next w ≡ next hash w
 hash_good bs hash next w h = hash_first bs next w ∙ ap (λ o. then_do o next) (h w).1
 
 hash_bad : {A C : Type 0} (other : C → A) (e : HostErr) (bs : List ℕ) (next : Hash → Act A) (w : World) → IsHash (Err e) bs
-    → (let none : Result C HostErr = Err e in Says any none other (only_hash bs next w) (λ trace. w))
-hash_bad other e bs next w h = says_stopped (λ hash. hash) other e next (only_hash bs (λ hash. gives hash) w) (only_hash bs next w) w (hash_first bs next w) (h w)
+    → (let none : Result C HostErr = Err e in Says none other (only_hash bs next w) (quiet w (λ trace. w)))
+hash_bad other e bs next w h = says_stopped (λ hash. hash) other e next (only_hash bs (λ hash. gives hash) w) (only_hash bs next w) (λ trace. trace ≡ w.trace) w (hash_first bs next w) (h w)
 
 -- ---- creates
 
@@ -82,15 +81,15 @@ pub code_bad : (e : HostErr) (env : Env) (opener : Opener) (deployer : ScAddress
     → IsTaken (Err e) env opener (creates_by env opener deployer code salt args)
 code_bad e env opener deployer code salt args h shown m w k j =
     let none : Result Answer' HostErr = Err e in
-    subst (λ (z : Meter). Says any none answer_of (creates_by env opener deployer code salt args w) (λ trace. record w { meter = z })) j
+    subst (λ (z : Meter). Says none answer_of (creates_by env opener deployer code salt args w) (quiet w (λ trace. record w { meter = z }))) j
     (hash_bad answer_of e code (λ hash. only_hash salt (λ s. creates_here env opener (record { deployer = deployer; code = hash; salt = s; args = args }))) w h)
 
 pub salt_bad : (e : HostErr) (env : Env) (opener : Opener) (deployer : ScAddress) (code salt : List ℕ) (hash : Hash) (args : Option (List Datum)) → IsHash (Ok hash) code → IsHash (Err e) salt
     → IsTaken (Err e) env opener (creates_by env opener deployer code salt args)
 salt_bad e env opener deployer code salt hash args good h shown m w k j =
     let none : Result Answer' HostErr = Err e in
-    subst (λ (z : Meter). Says any none answer_of (creates_by env opener deployer code salt args w) (λ trace. record w { meter = z })) j
-    (subst (λ (o : Out Answer). Says any none answer_of o (λ trace. w))
+    subst (λ (z : Meter). Says none answer_of (creates_by env opener deployer code salt args w) (quiet w (λ trace. record w { meter = z }))) j
+    (subst (λ (o : Out Answer). Says none answer_of o (quiet w (λ trace. w)))
     (sym (hash_good code hash (λ x. only_hash salt (λ s. creates_here env opener (record { deployer = deployer; code = x; salt = s; args = args }))) w good))
     (hash_bad answer_of e salt (λ s. creates_here env opener (record { deployer = deployer; code = hash; salt = s; args = args })) w h))
 
@@ -127,4 +126,4 @@ pub taken_after : (r : Result NewContract HostErr) (act : Act Answer) (env : Env
 taken_after (Ok x) act env opener deployer code salt args shown before after is h = λ w k j. is w k j ∙ h shown after (record w { meter = after }) k refl
 taken_after (Err e) act env opener deployer code salt args shown before after is h = λ w k j.
     let none : Result Answer' HostErr = Err e in
-    subst (λ (o : Out Answer). Says any none answer_of o (λ trace. record w { meter = after })) (sym (is w k j)) (h shown after (record w { meter = after }) k refl)
+    subst (λ (o : Out Answer). Says none answer_of o (quiet w (λ trace. record w { meter = after }))) (sym (is w k j)) (h shown after (record w { meter = after }) k refl)

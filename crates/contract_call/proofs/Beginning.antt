@@ -13,9 +13,8 @@ use Rattle.host_spec.specs.declared.error.HostErr.{HostErr}
 use Rattle.call_spec.specs.World.{World}
 use Rattle.call_spec.specs.Acts.{Act, Out, then_do, gives, lift, paying}
 use Rattle.call_spec.specs.Frames.{paying_pages}
-use Rattle.call_spec.specs.Outcomes.{Says}
+use Rattle.call_spec.specs.Outcomes.{quiet, Says}
 use Rattle.call_parts.specs.Steps.{Charges, Shows}
-use Rattle.host_ledger.specs.Answered.{any}
 use Rattle.contract_call.specs.Framed.{argument_words}
 use Rattle.contract_call.proofs.Joining.{says_stopped, traced}
 use Rattle.contract_call.proofs.Splitting.{joined, same_after}
@@ -37,19 +36,19 @@ words_of words = words.items
 pub words_shown : (before mid after : Meter) (old new : List Datum) (memories : List ResizableLimits) (args : List Datum) (r : Result (Vec ℕ Global) HostErr)
     → (let paid : Result (Unit {0}) HostErr = Ok tt in Charges paid (λ u. u) (paying_pages memories (paying InvokeVmFunction 1 (gives (tt {0})))) before mid) → Shows r words_of (all_given args) old new mid after
     → (w : World) → w.frame.shown ≡ old → w.meter ≡ before
-    → Says any r words_of (argument_words memories args w) (λ trace. record w { frame = record w.frame { shown = new }; trace = trace; meter = after })
+    → Says r words_of (argument_words memories args w) (quiet w (λ trace. record w { frame = record w.frame { shown = new }; trace = trace; meter = after }))
 words_shown before mid after old new memories args r charges shows w i j =
-    traced r words_of (argument_words memories args w) (record w { frame = record w.frame { shown = new }; meter = after })
-    (subst (λ (o : Out (List ℕ)). Says any r words_of o (λ trace. record w { frame = record w.frame { shown = new }; meter = after }))
+    traced r words_of (argument_words memories args w) (λ trace. trace ≡ w.trace) (record w { frame = record w.frame { shown = new }; meter = after })
+    (subst (λ (o : Out (List ℕ)). Says r words_of o (quiet w (λ trace. record w { frame = record w.frame { shown = new }; meter = after })))
     (sym (charges_first memories (lift (all_given args)) w ∙ ap (λ o. then_do o (λ _. lift (all_given args))) (charges w j).1)) (shows (record w { meter = mid }) i refl))
 
 pub words_stopped : (e : HostErr) (before mid : Meter) (old : List Datum) (memories : List ResizableLimits) (args : List Datum)
     → (let paid : Result (Unit {0}) HostErr = Err e in Charges paid (λ u. u) (paying_pages memories (paying InvokeVmFunction 1 (gives (tt {0})))) before mid)
     → (w : World) → w.frame.shown ≡ old → w.meter ≡ before
-    → (let none : Result (Vec ℕ Global) HostErr = Err e in Says any none words_of (argument_words memories args w) (λ trace. record w { frame = record w.frame { shown = old }; trace = trace; meter = mid }))
+    → (let none : Result (Vec ℕ Global) HostErr = Err e in Says none words_of (argument_words memories args w) (quiet w (λ trace. record w { frame = record w.frame { shown = old }; trace = trace; meter = mid })))
 words_stopped e before mid old memories args charges w i j =
     let none : Result (Vec ℕ Global) HostErr = Err e in
-    traced none words_of (argument_words memories args w) (record w { frame = record w.frame { shown = old }; meter = mid })
-    (subst (λ (z : List Datum). Says any none words_of (argument_words memories args w) (λ trace. record w { frame = record w.frame { shown = z }; meter = mid })) i
-    (says_stopped (λ u. u) words_of e (λ _. lift (all_given args)) (paying_pages memories (paying InvokeVmFunction 1 (gives (tt {0}))) w) (argument_words memories args w) (record w { meter = mid })
+    traced none words_of (argument_words memories args w) (λ trace. trace ≡ w.trace) (record w { frame = record w.frame { shown = old }; meter = mid })
+    (subst (λ (z : List Datum). Says none words_of (argument_words memories args w) (quiet w (λ trace. record w { frame = record w.frame { shown = z }; meter = mid }))) i
+    (says_stopped (λ u. u) words_of e (λ _. lift (all_given args)) (paying_pages memories (paying InvokeVmFunction 1 (gives (tt {0}))) w) (argument_words memories args w) (λ trace. trace ≡ w.trace) (record w { meter = mid })
     (charges_first memories (lift (all_given args)) w) (charges w j)))

@@ -16,7 +16,8 @@ use Rattle.auth_trees.proofs.Later.{later_itself, later_again}
 use Rattle.contract_storage.proofs.Going.{again}
 use Rattle.host_ledger.proofs.Rows.{later_same}
 use Rattle.call_spec.specs.World.{World, Env}
-use Rattle.call_spec.specs.Acts.{Act, Failed, Bad, after, begins}
+use Rattle.call_spec.specs.Acts.{Act, Failed, Out, Bad, then_do, after, begins}
+use Rattle.call_spec.specs.Outcomes.{trace_of}
 use Rattle.call_spec.specs.Calling.{Call}
 use Rattle.call_spec.specs.Frames.{Entered, framed}
 use Rattle.call_spec.specs.Found.{with_start}
@@ -25,7 +26,7 @@ use Rattle.call_parts.specs.Started.{IsStarted, refusal_of}
 use Rattle.host_ledger.specs.Worlds.{address_of, copied}
 use Rattle.host_ledger.specs.declared.state.InstanceCopy.{InstanceCopy}
 use Rattle.host_ledger.specs.declared.state.Running.{Running}
-use Rattle.contract_call.specs.Worlds.{world_around, numbered, IsEnvOf, DoesAround, Stays}
+use Rattle.contract_call.specs.Worlds.{world_around, leaving_by, numbered, IsEnvOf, DoesAround, Stays}
 use Rattle.contract_call.specs.Running.{entered}
 use Rattle.contract_call.specs.Targets.{call_at, target, target_of, enters_at, call_of}
 use Rattle.contract_call.specs.Placed.{IsNewPlace}
@@ -35,7 +36,8 @@ use Rattle.contract_call.specs.declared.targets.Target.{Target as Target'}
 use Rattle.contract_call.specs.declared.targets.ContractCall.{ContractCall}
 use Rattle.contract_call.proofs.Joining.{stop, go_on, same_act, fails_as, as_fails, traced, keep_rest}
 use Rattle.contract_call.proofs.Looping.{same_authority, place_again}
-use Rattle.contract_call.proofs.Showing.{shown_as}
+use Rattle.host_ledger.proofs.Tracing.{since, quietly}
+use Rattle.contract_call.proofs.Showing.{telling}
 use Rattle.contract_call.proofs.Splitting.{calls_first}
 use Rattle.host_ledger.proofs.Composing.{serves_later}
 
@@ -51,13 +53,15 @@ pub around_on : {A B C D G : Type 0} (a : A) (r : Result C HostErr) (view : A �
     → ((env : Env) → IsEnvOf env old → IsEnvOf env mid) → (let given : Result A HostErr = Ok a in DoesAround given view act old mid) → DoesAround r other (λ env. next env (view a)) mid new
     → DoesAround r other (λ env. after (act env) (next env)) old new
 around_on a r view other act next old mid new later one two env is rest trace =
-    go_on (λ w t. world_around w mid t) (λ w t. world_around w new t) keep_rest (λ _ _ _. refl) a r view other rest (act env (world_around rest old trace)) (next env) (one env is rest trace) (λ w t. two env (later env is) w t)
+    go_on (λ w t. world_around w mid t) (λ w t. world_around w new t) keep_rest (telling old mid trace) (telling old new trace) (λ _ _ _. refl) a r view other rest (act env (world_around rest old trace)) (next env) (one env is rest trace)
+    (λ w t told. since r other (next env (view a) (world_around w mid t)) old.ledger.storage mid.ledger.storage new.ledger.storage trace t (world_around w new) told (two env (later env is) w t))
 
 pub around_stop : {A B C D G : Type 0} (e : HostErr) (view : A → B) (other : C → D) (act : Env → Act B) (next : Env → B → Act D) (old new : Host G)
     → (let none : Result A HostErr = Err e in DoesAround none view act old new) → (let none : Result C HostErr = Err e in DoesAround none other (λ env. after (act env) (next env)) old new)
 around_stop e view other act next old new one env is rest trace =
     let out = act env (world_around rest old trace) in
-    as_fails e other _ (λ t. _) (stop (λ w t. world_around w new t) keep_rest new.ledger.budget (λ _ _. refl) e rest out (next env) (fails_as e view out (λ t. _) (one env is rest trace)))
+    as_fails e other (then_do out (next env)) (leaving_by old new trace (world_around rest new))
+    (stop (λ w t. world_around w new t) keep_rest (telling old new trace) new.ledger.budget (λ _ _. refl) e rest out (next env) (fails_as e view out (leaving_by old new trace (world_around rest new)) (one env is rest trace)))
 
 -- an act that gets a path of its own
 pub around_begins : {C D G : Type 0} (r : Result C HostErr) (view : C → D) (act : Env → List ℕ → Act D) (path : List ℕ) (old mid new : Host G) → path ≡ old.place.path.items ++ old.place.begun ∷ [] → mid ≡ numbered old
@@ -95,15 +99,15 @@ stays_then old mid new one two = record {
 pub around_same : {C D G : Type 0} (r : Result C HostErr) (view : C → D) (one other : Env → Act D) (old new : Host G) → ((env : Env) (w : World) → one env w ≡ other env w) → DoesAround r view other old new
     → DoesAround r view one old new
 around_same r view one other old new same h env is rest trace =
-    same_act (λ w t. world_around w new t) keep_rest r view rest (one env (world_around rest old trace)) (other env (world_around rest old trace)) (same env (world_around rest old trace)) (h env is rest trace)
+    same_act (λ w t. world_around w new t) keep_rest (telling old new trace) r view rest (one env (world_around rest old trace)) (other env (world_around rest old trace)) (same env (world_around rest old trace)) (h env is rest trace)
 
 -- a failure that changes nothing
 pub around_fails : {C D G : Type 0} (e : ScError) (view : C → D) (act : Env → Act D) (old : Host G) → ((env : Env) (w : World) → act env w ≡ Bad (Failed e) w)
     → (let none : Result C HostErr = Err (ends.Failed e) in DoesAround none view act old old)
-around_fails {C} e view act old h env is rest trace =
+around_fails {C} {D} e view act old h env is rest trace =
     let none : Result C HostErr = Err (ends.Failed e) in
     let w = world_around rest old trace in
-    shown_as (λ v t. world_around v old t) keep_rest old.ledger.budget (λ _ _. refl) none view rest (act env w) (λ t. world_around rest old t) (λ t. refl) (traced none view (act env w) w (tt, h env w))
+    quietly none view (act env w) old.ledger.storage w (world_around rest old) (traced none view (act env w) (λ t. t ≡ w.trace) w (ap (λ (o : Out D). trace_of o) (h env w), h env w))
 
 -- ---- the target
 

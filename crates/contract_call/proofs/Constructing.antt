@@ -13,7 +13,7 @@ use Rattle.module_loader.specs.Loading.{module_of}
 use Rattle.host_spec.specs.Acts.{charged}
 use Rattle.host_spec.specs.Errors.{OTHER_TYPE}
 use Rattle.host_spec.specs.declared.error.HostErr.{HostErr}
-use Rattle.contract_storage.specs.Stored.{Stored, IsLater}
+use Rattle.contract_storage.specs.Stored.{Stored, IsLater, IsRead}
 use Rattle.call_spec.specs.Errors.{NO_FUNCTION}
 use Rattle.call_spec.specs.World.{Write, World, Env}
 use Rattle.call_spec.specs.Acts.{Act, then_do, after, gives, only_where, lift, paying}
@@ -21,13 +21,13 @@ use Rattle.call_spec.specs.Accesses.{access}
 use Rattle.call_spec.specs.Keys.{instance_key}
 use Rattle.call_spec.specs.Demands.{demanded}
 use Rattle.call_spec.specs.Outcomes.{Says}
+use Rattle.host_ledger.specs.Traced.{leaving}
 use Rattle.call_spec.specs.Frames.{Opener}
 use Rattle.call_spec.specs.Found.{code_at, with_module}
 use Rattle.call_spec.specs.Creating.{Creation, preimage_of, id_of, function_of, paying_id, makes_instance, CONSTRUCTOR, constructs_if, builds, makes, creates_at}
 use Rattle.host_ledger.specs.Accessed.{Accesses}
-use Rattle.host_ledger.specs.Answered.{any}
 use Rattle.host_ledger.specs.declared.state.HostLedger.{HostLedger}
-use Rattle.host_ledger.proofs.Rows.{later_same}
+use Rattle.host_ledger.proofs.Rows.{later_read}
 use Rattle.call_parts.specs.Steps.{Steps, Charges, Returns}
 use Rattle.contract_call.specs.Worlds.{world_around, IsEnvOf, DoesAround}
 use Rattle.contract_call.specs.Made.{identifying, granting, authorising, sized, code_of, instantiating, building, constructing, builds_with, unless_given, if_void}
@@ -36,6 +36,7 @@ use Rattle.contract_call.specs.declared.host.Host.{Host}
 use Rattle.contract_call.proofs.Splitting.{joined, same_after}
 use Rattle.contract_call.proofs.Stepping.{steps_on, steps_stop}
 use Rattle.contract_call.proofs.Lending.{around}
+use Rattle.host_ledger.proofs.Tracing.{quietly}
 use Rattle.contract_call.proofs.Answering.{traced}
 
 module_first : {A : Type 0} (m : Option Module) (next : Module → Act A) (w : World) → with_module m next w ≡ then_do (with_module m (λ x. gives x) w) next
@@ -116,10 +117,11 @@ paid_is r header env c before after is h = subst (λ (x : Header). Charges r (λ
 -- a step that only charges leaves the entries
 charges_step : {A B : Type 0} (r : Result A HostErr) (view : A → B) (act : Act B) (s : Stored) (before after : Meter) → Charges r view act before after → Steps r view (λ _. act) s s before after
 charges_step r view act s before after h env serves w i j =
-    traced r view (act w) (λ t. record w { entries = s.map; trace = t; meter = after }) (record w { meter = after }) (ap (λ m. record w { entries = m; meter = after }) (sym i)) refl (h w j)
+    quietly r view (act w) s w (λ t. record w { entries = s.map; trace = t; meter = after })
+    (traced r view (act w) (λ t. record w { entries = s.map; trace = t; meter = after }) (record w { meter = after }) (ap (λ m. record w { entries = m; meter = after }) (sym i)) refl (h w j))
 
 access_step : {A B : Type 0} (r : Result A HostErr) (view : A → B) (act : Env → Act B) (old new : Stored) (m : Meter) → Accesses r view act old new → Steps r view act old new m m
-access_step r view act old new m h env serves w i j = subst (λ (z : Meter). Says any r view (act env w) (λ t. record w { entries = new.map; trace = t; meter = z })) j (h env serves w i)
+access_step r view act old new m h env serves w i j = subst (λ (z : Meter). Says r view (act env w) (leaving old new w.trace (λ t. record w { entries = new.map; trace = t; meter = z }))) j (h env serves w i)
 
 abbrev made_at : Env → Hash → Hash → Act (Unit {0})
 made_at env id hash = access env Write (instance_key id) (makes_instance env id hash)
@@ -138,24 +140,24 @@ pub instance_failed : (e : HostErr) (id hash : Hash) (length : ℕ) (m : Option 
     → (let none : Result Module HostErr = Err e in Steps none (λ x. x) (λ env. instantiating env id hash (length, m)) old new before last)
 instance_failed e id hash length m old new before last one = steps_stop e (λ u. u) (λ x. x) (λ env. made_at env id hash) (λ _ _. taken length m) old new before last one
 
-pub built : (code : SizedCode) (r : Result Module HostErr) (id hash : Hash) (old new : Stored) (before last : Meter)
-    → (let given : Result SizedCode HostErr = Ok code in Accesses given sized (λ env. code_of env hash) old old) → Steps r (λ x. x) (λ env. instantiating env id hash (sized code)) old new before last
+pub built : (code : SizedCode) (r : Result Module HostErr) (id hash : Hash) (old mid new : Stored) (before last : Meter) → IsRead old mid
+    → (let given : Result SizedCode HostErr = Ok code in Accesses given sized (λ env. code_of env hash) old mid) → Steps r (λ x. x) (λ env. instantiating env id hash (sized code)) mid new before last
     → Steps r (λ x. x) (λ env. building env id hash) old new before last
-built code r id hash old new before last one two =
+built code r id hash old mid new before last read one two =
     let given : Result SizedCode HostErr = Ok code in
-    steps_on code r sized (λ x. x) (λ env. code_of env hash) (λ env. instantiating env id hash) old old new before before last (later_same old old refl) (access_step given sized (λ env. code_of env hash) old old before one) two
+    steps_on code r sized (λ x. x) (λ env. code_of env hash) (λ env. instantiating env id hash) old mid new before before last (later_read old mid read) (access_step given sized (λ env. code_of env hash) old mid before one) two
 
-pub code_failed : (e : HostErr) (id hash : Hash) (s : Stored) (m : Meter) → (let none : Result SizedCode HostErr = Err e in Accesses none sized (λ env. code_of env hash) s s)
-    → (let none : Result Module HostErr = Err e in Steps none (λ x. x) (λ env. building env id hash) s s m m)
-code_failed e id hash s m one =
+pub code_failed : (e : HostErr) (id hash : Hash) (s t : Stored) (m : Meter) → (let none : Result SizedCode HostErr = Err e in Accesses none sized (λ env. code_of env hash) s t)
+    → (let none : Result Module HostErr = Err e in Steps none (λ x. x) (λ env. building env id hash) s t m m)
+code_failed e id hash s t m one =
     let none : Result SizedCode HostErr = Err e in
-    steps_stop e sized (λ x. x) (λ env. code_of env hash) (λ env. instantiating env id hash) s s m m (access_step none sized (λ env. code_of env hash) s s m one)
+    steps_stop e sized (λ x. x) (λ env. code_of env hash) (λ env. instantiating env id hash) s t m m (access_step none sized (λ env. code_of env hash) s t m one)
 
 -- ---- the host
 
 pub does_around : {A B G : Type 0} (r : Result A HostErr) (view : A → B) (act : Env → Act B) (old : Host G) (new : HostLedger G) → new ≡ record old.ledger { storage = new.storage; budget = new.budget }
     → ((env : Env) → IsEnvOf env old → (w : World) → w.entries ≡ old.ledger.storage.map → w.meter ≡ old.ledger.budget
-    → Says any r view (act env w) (λ trace. record w { entries = new.storage.map; trace = trace; meter = new.budget }))
+    → Says r view (act env w) (leaving old.ledger.storage new.storage w.trace (λ trace. record w { entries = new.storage.map; trace = trace; meter = new.budget })))
     → DoesAround r view act old (around old new)
 does_around r view act old new e h =
     let with_parts = record old.ledger { storage = new.storage; budget = new.budget } in
@@ -169,14 +171,15 @@ charges_around r view act old new e h =
     subst (λ l. DoesAround r view act old (around old l)) (sym e)
     (λ env is rest trace.
     let w = world_around rest old trace in
-    traced r view (act env w) (world_around rest (around old paid)) (record w { meter = new.budget }) refl refl (h env is.ledger.header w refl))
+    quietly r view (act env w) old.ledger.storage w (world_around rest (around old paid))
+    (traced r view (act env w) (world_around rest (around old paid)) (record w { meter = new.budget }) refl refl (h env is.ledger.header w refl)))
 
 -- ---- the constructor's end
 
 pub unless_says : (none : Bool) (id : Hash) → Returns (unless_given none id) (λ h. h) (after (only_where none NO_FUNCTION (gives (tt {0}))) (λ _. gives id))
-unless_says true id w = (tt, refl)
-unless_says false id w = (tt, refl)
+unless_says true id w = (refl, refl)
+unless_says false id w = (refl, refl)
 
 pub void_says : (void : Bool) (id : Hash) → Returns (if_void void id) (λ h. h) (after (only_where void OTHER_TYPE (gives (tt {0}))) (λ _. gives id))
-void_says true id w = (tt, refl)
-void_says false id w = (tt, refl)
+void_says true id w = (refl, refl)
+void_says false id w = (refl, refl)

@@ -29,6 +29,7 @@ use Rattle.contract_call.specs.declared.host.Host.{Host}
 use Rattle.contract_call.specs.declared.place.Place.{Place}
 use Rattle.contract_call.proofs.Calling.{env_later, around_on, around_stop, around_same, start_same, opens}
 use Rattle.contract_call.proofs.Constructing.{at_first, authorising_first, void_says}
+use Rattle.host_ledger.proofs.Tracing.{quietly}
 use Rattle.contract_call.proofs.Joining.{traced}
 use Rattle.contract_call.proofs.Splitting.{joined}
 
@@ -36,7 +37,7 @@ use Rattle.contract_call.proofs.Splitting.{joined}
 pub returns_around : {A B G : Type 0} (r : Result A HostErr) (view : A → B) (act : Env → Act B) (old : Host G) → ((env : Env) → Returns r view (act env)) → DoesAround r view act old old
 returns_around r view act old h env is rest trace =
     let w = world_around rest old trace in
-    traced r view (act env w) w (h env w)
+    quietly r view (act env w) old.ledger.storage w (world_around rest old) (traced r view (act env w) (λ trace. trace ≡ w.trace) w (h env w))
 
 -- ---- the create
 

@@ -14,8 +14,7 @@ use Rattle.budget_meter.specs.declared.kind.Kind.TheVariants.{InvokeVmFunction}
 use Rattle.call_spec.specs.World.{World, outside}
 use Rattle.call_spec.specs.Acts.{Out, Good, Bad, Undeclared, then_do, gives, lift, lifted, paying, state_of}
 use Rattle.call_spec.specs.Frames.{paying_pages}
-use Rattle.call_spec.specs.Outcomes.{Says}
-use Rattle.host_ledger.specs.Answered.{any}
+use Rattle.call_spec.specs.Outcomes.{quiet, Says}
 use Rattle.contract_call.specs.Framed.{argument_words}
 use Rattle.contract_call.proofs.Beginning.{charges_first, words_of}
 
@@ -59,7 +58,7 @@ words_counted memories ds w =
     subst (λ o. IsCounted o (length ds)) (sym (charges_first memories (lift (all_given ds)) w)) (after_charges (paying_pages memories (paying InvokeVmFunction 1 (gives (tt {0}))) w) ds)
 
 pub counted : (r : Result (Vec ℕ Global) HostErr) (memories : List ResizableLimits) (ds shown new : List Datum) (before after : Meter)
-    → ((w : World) → w.frame.shown ≡ shown → w.meter ≡ before → Says any r words_of (argument_words memories ds w) (λ trace. record w { frame = record w.frame { shown = new }; trace = trace; meter = after }))
+    → ((w : World) → w.frame.shown ≡ shown → w.meter ≡ before → Says r words_of (argument_words memories ds w) (quiet w (λ trace. record w { frame = record w.frame { shown = new }; trace = trace; meter = after })))
     → IfOk r (λ words. length words.items ≡ length ds)
 counted (Ok words) memories ds shown new before after does =
     let w : World = record { entries = empty; events = []; pairs = []; frame = record outside { shown = shown }; contracts = []; trace = []; meter = before } in

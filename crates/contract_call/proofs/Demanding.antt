@@ -16,7 +16,6 @@ use Rattle.host_spec.specs.declared.error.HostErr.TheVariants as ends
 use Rattle.host_frame.specs.Answered.{answer_of}
 use Rattle.host_frame.specs.declared.answer.Answer.{Answer as Answer'}
 use Rattle.host_ledger.proofs.Rows.{later_same}
-use Rattle.host_ledger.specs.Answered.{any}
 use Rattle.call_spec.specs.Errors.{DENIED}
 use Rattle.call_spec.specs.World.{Access, World, Authority, Env}
 use Rattle.call_spec.specs.Acts.{Failed, Spent, Archived, Out, Good, Bad, Undeclared, Act, world_of, after, gives, only_where}
@@ -25,7 +24,8 @@ use Rattle.call_spec.specs.Demands.{met, demanded, proves_entry, require_auth, r
 use Rattle.call_spec.specs.Creating.{Creation, function_of}
 use Rattle.call_spec.specs.Frames.{Opener, is_void}
 use Rattle.call_spec.specs.HostFunctions.{opener_of}
-use Rattle.call_spec.specs.Outcomes.{Says, trace_of, stopped_kind}
+use Rattle.call_spec.specs.Outcomes.{Leaves, Says, trace_of, stopped_kind}
+use Rattle.host_ledger.specs.Traced.{leaving}
 use Rattle.auth_parts.specs.Asked.{Asked, proved, asks_first, asks_then}
 use Rattle.auth_parts.specs.Views.{asked}
 use Rattle.auth_parts.specs.declared.asking.Asked.{Asked as Asked'}
@@ -36,7 +36,7 @@ use Rattle.contract_call.proofs.Lending.{around}
 use Rattle.auth_parts.proofs.Splitting.{entry_asked}
 use Rattle.contract_call.specs.Demanded.{called, requires_here, settled, asks_at, granted, denied_end, if_good, checked}
 use Rattle.contract_call.specs.Made.{granting, IsValued}
-use Rattle.contract_call.specs.Worlds.{world_around, IsEnvOf, DoesAround, DoesIn, Stays}
+use Rattle.contract_call.specs.Worlds.{leaving_by, world_around, IsEnvOf, DoesAround, DoesIn, Stays}
 use Rattle.contract_call.specs.declared.host.Host.{Host}
 use Rattle.contract_call.proofs.Calling.{around_on, around_stop, around_same}
 use Rattle.contract_call.proofs.Rowing.{in_around, valued_does}
@@ -65,7 +65,7 @@ demanded_does {G} room path caller address function answered r old mid new answe
     let asks = λ (s : Marked). met env (opener_of env room) path (choice s path caller address function) w in
     let same : demanded env (opener_of env room) path caller address function w ≡ settled env (opener_of env room) (answer c) (record w { pairs = paired old.marks.pairs path c }) =
     ap (λ a. asks (record { entries = a.entries; source = a.source; pairs = old.marks.pairs })) is.authority ∙ met_settled env (opener_of env room) path c w in
-    subst (λ (o : Out (Unit {0})). Says any r (λ u. u) o (world_around rest new)) (sym same)
+    subst (λ (o : Out (Unit {0})). Says r (λ u. u) o (leaving_by old new trace (world_around rest new))) (sym same)
     (settle env (record { ledger = record { header = is.ledger.header; serves = is.ledger.serves }; authority = is.authority }) rest trace)
 
 pub marked_stays : {G : Type 0} (old mid : Host G) (path : List ℕ) (caller : Option ScAddress) (address : ScAddress) (function : Function) → mid ≡ marked old path caller address function → Stays old mid
@@ -111,15 +111,15 @@ module _ (room entry : ℕ) where
 pub asks_does : {G : Type 0} (r : Result Asked' HostErr) (index : ℕ) (entry : AuthEntry) (old : Host G) (new : HostLedger G) → new ≡ record old.ledger { storage = new.storage; budget = new.budget }
     → slice_get old.marks.entries index ≡ Some entry
     → ((env : Env) → IsEnv env old.ledger → env.authority.verdicts ≡ old.verdicts.now → (w : World) → w.entries ≡ old.ledger.storage.map → w.meter ≡ old.ledger.budget
-    → Says any r asked (asks_first env entry w) (λ trace. record w { entries = new.storage.map; trace = trace; meter = new.budget }))
+    → Says r asked (asks_first env entry w) (leaving old.ledger.storage new.storage w.trace (λ trace. record w { entries = new.storage.map; trace = trace; meter = new.budget })))
     → DoesAround r asked (λ env. asks_at env (slice_get env.authority.entries index)) old (around old new)
 asks_does r index entry old new kept found does =
     does_around r asked (λ env. asks_at env (slice_get env.authority.entries index)) old new kept
-    (λ env is w i j. subst (λ o. Says any r asked (asks_at env o w) (λ trace. record w { entries = new.storage.map; trace = trace; meter = new.budget })) (sym (ap (λ (a : Authority). slice_get a.entries index) is.authority ∙ found))
+    (λ env is w i j. subst (λ o. Says r asked (asks_at env o w) (leaving old.ledger.storage new.storage w.trace (λ trace. record w { entries = new.storage.map; trace = trace; meter = new.budget }))) (sym (ap (λ (a : Authority). slice_get a.entries index) is.authority ∙ found))
     (does env is.ledger (ap (λ (a : Authority). a.verdicts) is.authority) w i j))
 
 pub nothing_left : {G : Type 0} (room : ℕ) (h : Host G) → (let r : Result (Unit {0}) HostErr = Ok tt in DoesAround r (λ u. u) (λ env. asks_then env (opener_of env room) proved) h h)
-nothing_left room h env is rest trace = (tt, refl)
+nothing_left room h env is rest trace = ((λ told. told), refl)
 
 -- ---- the contract's own function
 
@@ -127,19 +127,27 @@ abbrev deny : {A : Type 0} → Result A HostErr → Result A HostErr
 deny (Ok a) = Ok a
 deny (Err e) = Err (denied_end e)
 
-denied_says : {A B : Type 0} (r : Result A HostErr) (view : A → B) (out : Out B) (left : List Access → World) → ((t : List Access) → (left t).trace ≡ t) → Says any r view out left → Says any (deny r) view (denied out) left
+denied_says : {A B : Type 0} (r : Result A HostErr) (view : A → B) (out : Out B) (left : Leaves) → ((t : List Access) → (left.world t).trace ≡ t) → Says r view out left → Says (deny r) view (denied out) left
 denied_says (Ok a) view out left tr p =
-    let e : denied out ≡ Good (view a) (left (trace_of out)) = ap denied p.1 in (tt, e ∙ ap (λ t. Good (view a) (left t)) (sym (ap trace_of e ∙ tr (trace_of out))))
+    let e : denied out ≡ Good (view a) (left.world (trace_of out)) = ap denied p.1 in
+    let same : trace_of (denied out) ≡ trace_of out = ap trace_of e ∙ tr (trace_of out) in
+    (subst left.told (sym same) p.0, e ∙ ap (λ t. Good (view a) (left.world t)) (sym same))
 denied_says (Err (ends.Failed d)) view out left tr p =
-    let e : denied out ≡ Bad (Failed DENIED) (left (trace_of out)) = ap denied p.1 in (tt, e ∙ ap (λ t. Bad (Failed DENIED) (left t)) (sym (ap trace_of e ∙ tr (trace_of out))))
+    let e : denied out ≡ Bad (Failed DENIED) (left.world (trace_of out)) = ap denied p.1 in
+    let same : trace_of (denied out) ≡ trace_of out = ap trace_of e ∙ tr (trace_of out) in
+    (subst left.told (sym same) p.0, e ∙ ap (λ t. Bad (Failed DENIED) (left.world t)) (sym same))
 denied_says (Err ends.Spent) view out left tr p =
-    let e : denied out ≡ Bad Spent (world_of out) = ap denied p.1 in (tt, e ∙ ap (Bad Spent) (sym (ap world_of e)), ap (λ o. (world_of o).meter) e ∙ p.2)
+    let e : denied out ≡ Bad Spent (world_of out) = ap denied p.1 in (subst left.told (sym (ap trace_of e)) p.0, e ∙ ap (Bad Spent) (sym (ap world_of e)), ap (λ o. (world_of o).meter) e ∙ p.2)
 denied_says (Err (ends.Archived key)) view out left tr p =
-    let e : denied out ≡ Bad (Archived key) (world_of out) = ap denied p.1 in (tt, e ∙ ap (Bad (Archived key)) (sym (ap world_of e)), ap (λ o. (world_of o).meter) e ∙ p.2)
+    let e : denied out ≡ Bad (Archived key) (world_of out) = ap denied p.1 in
+    (subst left.told (sym (ap trace_of e)) p.0, e ∙ ap (Bad (Archived key)) (sym (ap world_of e)), ap (λ o. (world_of o).meter) e ∙ p.2)
 denied_says {B = B} (Err (ends.Undeclared key)) view out left tr p =
-    let at : _ → World → Out B = λ kind w. Undeclared (record { kind = kind; key = key; used = (left []).meter.used }) w in
-    let e : denied out ≡ at (stopped_kind out) (world_of out) = ap denied p.1 in
-    (tt, e ∙ ap (λ k. at k (world_of out)) (sym (ap stopped_kind e)) ∙ ap (at (stopped_kind (denied out))) (sym (ap world_of e)), ap (λ o. (world_of o).meter) e ∙ p.2)
+    let at : _ → World → Out B = λ kind w. Undeclared (record { kind = kind; key = key; used = (left.world []).meter.used }) w in
+    let e : denied out ≡ at (stopped_kind out) (world_of out) = ap denied p.1 in (
+      subst left.told (sym (ap trace_of e)) p.0,
+      e ∙ ap (λ k. at k (world_of out)) (sym (ap stopped_kind e)) ∙ ap (at (stopped_kind (denied out))) (sym (ap world_of e)),
+      ap (λ o. (world_of o).meter) e ∙ p.2,
+    )
 denied_says (Err ends.NoMemory) view out left tr p = tt
 
 -- Void is good
@@ -148,9 +156,9 @@ judged (Ok v) = if_good (is_void (datum v))
 judged (Err e) = Err e
 
 good_says : {G : Type 0} (good : Bool) (rest : World) (h : Host G) (trace : List Access)
-    → Says any (if_good good) (λ u. u) (only_where good DENIED (gives tt) (world_around rest h trace)) (world_around rest h)
-good_says true rest h trace = (tt, refl)
-good_says false rest h trace = (tt, refl)
+    → Says (if_good good) (λ u. u) (only_where good DENIED (gives tt) (world_around rest h trace)) (leaving_by h h trace (world_around rest h))
+good_says true rest h trace = ((λ told. told), refl)
+good_says false rest h trace = ((λ told. told), refl)
 
 good_is : (good : Bool) → if_good good ≡ deny (if_good good)
 good_is true = refl
@@ -171,7 +179,7 @@ pub checks_does : {G : Type 0} (returned : Result ScVal HostErr) (r : Result (Un
     → DoesAround returned datum act old new → DoesAround r (λ u. u) (λ env. denying (after (act env) (λ d. only_where (is_void d) DENIED (gives tt)))) old new
 checks_does returned r act old new later is does =
     subst (λ x. DoesAround x (λ u. u) (λ env. denying (after (act env) (λ d. only_where (is_void d) DENIED (gives tt)))) old new) (sym (is ∙ checked_is returned))
-    (λ env env_is rest trace. denied_says (judged returned) (λ u. u) (after (act env) (λ d. only_where (is_void d) DENIED (gives tt)) (world_around rest old trace)) (world_around rest new) (λ _. refl)
+    (λ env env_is rest trace. denied_says (judged returned) (λ u. u) (after (act env) (λ d. only_where (is_void d) DENIED (gives tt)) (world_around rest old trace)) (leaving_by old new trace (world_around rest new)) (λ _. refl)
     (judged_does returned act old new later does env env_is rest trace))
 
 -- ---- the end of a demand
@@ -181,7 +189,7 @@ pub grants_does : {G : Type 0} (room : ℕ) (creator : Option ScAddress) (c : Cr
     → DoesAround r (λ x. x) (λ env. granting env (opener_of env room) creator c path id) old new
 grants_does room creator c path id (Ok u) r old new later is does =
     subst (λ x. DoesAround x (λ x. x) (λ env. granting env (opener_of env room) creator c path id) old new) (sym is)
-    (around_on u (Ok id) (λ u. u) (λ x. x) (λ env. demanded env (opener_of env room) path creator c.deployer (function_of c)) (λ env _. gives id) old new new later does (λ env is rest trace. (tt, refl)))
+    (around_on u (Ok id) (λ u. u) (λ x. x) (λ env. demanded env (opener_of env room) path creator c.deployer (function_of c)) (λ env _. gives id) old new new later does (λ env is rest trace. ((λ told. told), refl)))
 grants_does room creator c path id (Err e) r old new later is does =
     subst (λ x. DoesAround x (λ x. x) (λ env. granting env (opener_of env room) creator c path id) old new) (sym is)
     (around_stop e (λ u. u) (λ x. x) (λ env. demanded env (opener_of env room) path creator c.deployer (function_of c)) (λ env _. gives id) old new does)

@@ -1,5 +1,7 @@
 -- How a work ends, beside its run over all entries of the ledger.
-use Rattle.std.proofs.Common.{◌≡◌, List, [], Bool, Option, Some, None, Result, Ok, Err, refl, sym, ap, ◌∙◌, subst}
+use Rattle.std.specs.Prelude.{IsSomeAnd}
+use Rattle.std.specs.Option.{option_or}
+use Rattle.std.proofs.Common.{◌≡◌, List, [], ◌∷◌, Bool, true, false, Option, Some, None, Result, Ok, Err, refl, sym, ap, ◌∙◌, subst}
 use Rattle.value_types.specs.Datum.{Datum}
 use Rattle.value_types.specs.declared.error.ScError.{ScError}
 use Rattle.ledger_types.specs.Key.{key_format}
@@ -10,19 +12,23 @@ use Rattle.tx_xdr.specs.declared.transaction.Footprint.{Footprint}
 use Rattle.host_spec.specs.declared.error.HostErr.{HostErr}
 use Rattle.host_spec.specs.declared.error.HostErr.TheVariants as ends
 use Rattle.contract_storage.specs.Footprint.{IsFootprint, allows}
+use Rattle.contract_storage.specs.Touched.{admits}
 use Rattle.contract_storage.specs.declared.access.Access.TheVariants as accesses
 use Rattle.call_spec.specs.World.{AccessKind, Read, Extend, Write, Access, Judge, World, Authority, Env}
 use Rattle.call_spec.specs.Acts.{Failure, Failed, Spent, Archived, Out, Good, Bad, Undeclared, world_of}
 use Rattle.call_spec.specs.Calling.{undone}
 use Rattle.call_spec.specs.Footprints.{by_footprint, first_rejected}
-use Rattle.call_spec.specs.Laws.{Maps, AlikeWorlds, Stops}
-use Rattle.call_spec.specs.Outcomes.{Says}
+use Rattle.call_spec.specs.Laws.{Maps, AlikeWorlds, AlikeEnds, Stops}
+use Rattle.call_spec.specs.Outcomes.{Leaves, Says, trace_of}
 use Rattle.call_spec.specs.WholeRuns.{Work, all_allowed, done_under}
+use Rattle.call_spec.proofs.Acts.{Same}
+use Rattle.call_spec.proofs.Frames.{unwatched, unwatched_fair}
+use Rattle.call_spec.proofs.HostFunctions.{done_local}
 use Rattle.call_spec.proofs.Stopping.{end_to_end_law}
-use Rattle.host_ledger.specs.Answered.{any}
-use Rattle.host_ledger.specs.Worlds.{kind_of}
-use Rattle.contract_call.specs.Ended.{IsEnd, EndsBy, Ends}
-use Rattle.contract_call.specs.Worlds.{world_around, authority_of, DoesAround, MayRun}
+use Rattle.host_ledger.specs.Traced.{kind_of, touches_of, Tells}
+use Rattle.host_ledger.proofs.Tracing.{retold}
+use Rattle.contract_call.specs.Ended.{IsEnd, EndsBy, Ends, UnlessMemory, EndsRecorded}
+use Rattle.contract_call.specs.Worlds.{world_around, authority_of, leaving_by, DoesAround, MayRun}
 use Rattle.contract_call.specs.declared.host.Host.{Host}
 
 -- ---- outcomes that differ
@@ -62,9 +68,14 @@ same_key p = cc
 
 -- ---- an end at an access that is not declared
 
--- how the program says the end
+-- how the program says the end, apart from what is known of the accesses
 abbrev Said : {A G : Type 0} → Result A HostErr → (A → Datum) → Out Datum → World → Host G → Type 0
-Said r view out rest new = Says any r view out (world_around rest new)
+Said r view out rest new = let left : Leaves = record { world = world_around rest new; told = λ trace. Unit {0} } in Says r view out left
+
+untold : {A G : Type 0} (r : Result A HostErr) (view : A → Datum) (out : Out Datum) (rest : World) (old new : Host G) (trace : List Access)
+    → Says r view out (leaving_by old new trace (world_around rest new)) → Said r view out rest new
+untold r view out rest old new trace says =
+    retold r view out (world_around rest new) (Tells old.ledger.storage new.ledger.storage trace) (λ _. Unit {0}) (λ _ _. tt) says
 
 stopped : {A G : Type 0} (may : Judge) (m : LedgerMap) (a s : Access) (one : Out Datum) (v rest : World) (r : Result A HostErr) (view : A → Datum) (old new : Host G) → s ≡ a → v.meter.used ≡ a.used
     → Said r view (Undeclared s v) rest new → EndsBy may m (Some a) one r view old new
@@ -158,15 +169,21 @@ undone_back old w i j k (Bad (Archived key) u) e v p = let q : Archived key ≡ 
 undone_back old w i j k (Good a u) e v p = absurd (good_bad p)
 undone_back old w i j k (Undeclared a u) e v p = absurd (undeclared_bad p)
 
-done_back : {G : Type 0} (old : Host G) (may : Judge) (header : Header) (authority : Authority) (work : Work) (rest : World) → BackAtFailure old (done_under may header authority work (world_around rest old []))
+done_back : {G : Type 0} (old : Host G) (may : Judge) (header : Header) (authority : Authority) (work : Work) (rest : World) (trace : List Access)
+    → BackAtFailure old (done_under may header authority work (world_around rest old trace))
 unfolding done_under
-done_back old may header authority work rest = undone_back old (world_around rest old []) refl refl refl _
+done_back old may header authority work rest trace = undone_back old (world_around rest old trace) refl refl refl _
 
 judges : (footprint : Footprint) (declared : List (LedgerKey × Bool)) → IsFootprint footprint.read_only footprint.read_write declared → (kind : AccessKind) (key : LedgerKey) → key_format.fits key
     → allows declared (kind_of kind) key ≡ by_footprint footprint kind (key_bytes key)
 judges footprint declared is Read key fits = is accesses.Read key fits
 judges footprint declared is Extend key fits = is accesses.Extend key fits
 judges footprint declared is Write key fits = is accesses.Write key fits
+
+judges_declared : (footprint : Footprint) (declared : Option (List (LedgerKey × Bool))) → IsSomeAnd declared (IsFootprint footprint.read_only footprint.read_write)
+    → (kind : AccessKind) (key : LedgerKey) → key_format.fits key → admits declared (kind_of kind) key ≡ by_footprint footprint kind (key_bytes key)
+judges_declared footprint None is kind key fits = absurd is
+judges_declared footprint (Some declared) is kind key fits = judges footprint declared is kind key fits
 
 pub ends_so : {A G : Type 0} (work : Work) (r : Result A HostErr) (view : A → Datum) (old new : Host G) → MayRun old → DoesAround r view (λ env. done_under env.judge env.header env.authority work) old new → Ends work r view old new
 ends_so work r view old new ready does footprint declared m agree rest =
@@ -177,9 +194,65 @@ ends_so work r view old new ready does footprint declared m agree rest =
     let w = world_around rest old [] in
     let start : World = record w { entries = m } in
     let one = done_under all_allowed header authority work start in
-    ended may m (first_rejected may (world_of one).trace) one (done_under may header authority work w) rest r view old new (done_back old may header authority work rest)
+    ended may m (first_rejected may (world_of one).trace) one (done_under may header authority work w) rest r view old new (done_back old may header authority work rest [])
     (end_to_end_law header authority work footprint start old.ledger.storage.map agree refl)
-    (does env (record {
-      ledger = record { header = refl; serves = record { number = ready.ledger.number; lives = ready.ledger.lives; judge = judges footprint old.ledger.storage.declared declared } };
+    (untold r view (done_under may header authority work w) rest old new [] (does env (record {
+      ledger = record { header = refl; serves = record { number = ready.ledger.number; lives = ready.ledger.lives; judge = judges_declared footprint old.ledger.storage.declared declared } };
       authority = refl;
-    }) rest [])
+    }) rest []))
+
+-- ---- over a storage that records
+
+judges_all : (declared : Option (List (LedgerKey × Bool))) → declared ≡ None → (kind : AccessKind) (key : LedgerKey) → admits declared (kind_of kind) key ≡ true
+judges_all declared none kind key = ap (λ (d : Option (List (LedgerKey × Bool))). admits d (kind_of kind) key) none
+
+-- every map agrees with itself
+same_maps : (m n p : LedgerMap) → Maps all_allowed m n p p
+same_maps m n p = record { agree = λ q e. refl; left = λ key e. absurd cc; right = λ key e. absurd cc }
+
+-- a judge that allows all rejects no access
+none_rejected : (trace : List Access) → first_rejected all_allowed trace ≡ None
+none_rejected [] = refl
+none_rejected (a ∷ older) = ap (λ (x : Option Access). option_or x None) (none_rejected older)
+
+-- and so it stops no run
+never_stops : (header : Header) (authority : Authority) (work : Work) (w u : World) (a : Access) → done_under all_allowed header authority work w ≡ Undeclared a u → ⊥
+never_stops header authority work w u a e =
+    let maps : Maps all_allowed w.entries w.entries w.entries w.entries = same_maps w.entries w.entries w.entries in
+    let out = done_under all_allowed header authority work w in
+    let same : Same all_allowed w.entries w.entries out out =
+    (done_local all_allowed w.entries w.entries (unwatched header) (λ kind key h. refl) header authority (unwatched_fair header) work).same w w.entries maps (none_rejected w.trace) in
+    let stopped = subst (λ (o : Out Datum). Same all_allowed w.entries w.entries out o) e same in
+    let rejected : true ≡ false = stopped.0 in absurd cc
+
+-- a run that is never stopped ends as itself
+alike_self : {B : Type 0} (m n : LedgerMap) (out : Out B) → ((a : Access) (u : World) → out ≡ Undeclared a u → ⊥) → AlikeEnds all_allowed m n out out
+alike_self m n (Good b w) never = (refl, record { rest = refl; maps = same_maps m n w.entries })
+alike_self m n (Bad e w) never = (refl, record { rest = refl; maps = same_maps m n w.entries })
+alike_self m n (Undeclared a w) never = never a w refl
+
+told_unless : {A B : Type 0} (r : Result A HostErr) (view : A → B) (out : Out B) (left : Leaves) (P : Type 0) → (left.told (trace_of out) → P) → Says r view out left → UnlessMemory r P
+told_unless (Ok a) view out left P k h = k h.0
+told_unless (Err (ends.Failed e)) view out left P k h = k h.0
+told_unless (Err ends.Spent) view out left P k h = k h.0
+told_unless (Err (ends.Archived key)) view out left P k h = k h.0
+told_unless (Err (ends.Undeclared key)) view out left P k h = k h.0
+told_unless (Err ends.NoMemory) view out left P k h = tt
+
+pub recorded_so : {A G : Type 0} (work : Work) (r : Result A HostErr) (view : A → Datum) (old new : Host G) → MayRun old → new.ledger.storage.declared ≡ old.ledger.storage.declared
+    → DoesAround r view (λ env. done_under env.judge env.header env.authority work) old new → EndsRecorded work r view old new
+recorded_so work r view old new ready same does free rest trace told =
+    let header = old.ledger.header.now in
+    let authority = authority_of old in
+    let env : Env = record { header = header; authority = authority; judge = all_allowed } in
+    let w = world_around rest old trace in
+    let out = done_under all_allowed header authority work w in
+    let says = does env (record {
+      ledger = record { header = refl; serves = record { number = ready.ledger.number; lives = ready.ledger.lives; judge = λ kind key fits. judges_all old.ledger.storage.declared free kind key } };
+      authority = refl;
+    }) rest trace in
+    let never : (a : Access) (u : World) → out ≡ Undeclared a u → ⊥ = λ a u e. never_stops header authority work w u a e in (
+      ended all_allowed old.ledger.storage.map None out out rest r view old new (done_back old all_allowed header authority work rest trace)
+          (alike_self old.ledger.storage.map old.ledger.storage.map out never) (untold r view out rest old new trace says),
+      told_unless r view out _ (new.ledger.storage.touched ≡ touches_of (world_of out).trace) (λ tells. tells (λ _. told) (same ∙ free)) says,
+    )

@@ -9,7 +9,10 @@ use Rattle.object_store.specs.Shown.{shown_of}
 use Rattle.auth_trees.proofs.Later.{later_itself}
 use Rattle.call_spec.specs.World.{Env}
 use Rattle.call_spec.specs.Acts.{Failed, Bad, Act}
+use Rattle.host_frame.specs.Answered.{answer_of}
+use Rattle.host_frame.specs.declared.answer.Answer.{Answer as Answer'}
 use Rattle.call_spec.specs.Outcomes.{trace_of}
+use Rattle.host_ledger.proofs.Tracing.{quietly}
 use Rattle.host_ledger.proofs.Rows.{later_same}
 use Rattle.contract_call.specs.Worlds.{world_in, MayRun}
 use Rattle.contract_call.specs.Running.{StaysIn}
@@ -52,12 +55,25 @@ stays_same old ready = stays_by old old.ledger.budget ready
 
 taken_by : {A G : Type 0} (r : Result A HostErr) (act : Env → Act Answer) (next : Env → A → Act Answer) (old : Host G) (m : Meter)
     → ((env : Env) → Takes r (act env) (next env) (shown_of old.ledger.objects old.ledger.frame.shown) old.ledger.budget m) → TakesIn r act next old (around old (paid old.ledger m))
-taken_by (Ok a) act next old m h = λ env is rest trace. h env (world_in rest old trace) refl refl
-taken_by (Err (ends.Failed d)) act next old m h =
-    λ env is rest trace. (tt, subst (λ o. o ≡ Bad (Failed d) (world_in rest (around old (paid old.ledger m)) (trace_of o))) (sym (h env (world_in rest old trace) refl refl).1) refl)
-taken_by (Err ends.Spent) act next old m h = λ env is rest trace. h env (world_in rest old trace) refl refl
-taken_by (Err (ends.Archived key)) act next old m h = λ env is rest trace. h env (world_in rest old trace) refl refl
-taken_by (Err (ends.Undeclared key)) act next old m h = λ env is rest trace. h env (world_in rest old trace) refl refl
+taken_by (Ok a) act next old m h = (refl, λ env is rest trace. h env (world_in rest old trace) refl refl)
+taken_by (Err (ends.Failed d)) act next old m h = λ env is rest trace.
+    let none : Result Answer' HostErr = Err (ends.Failed d) in
+    let w = world_in rest old trace in
+    let p = h env w refl refl in
+    quietly none answer_of (act env w) old.ledger.storage w (world_in rest (around old (paid old.ledger m)))
+    (p.0, subst (λ o. o ≡ Bad (Failed d) (world_in rest (around old (paid old.ledger m)) (trace_of o))) (sym p.1) refl)
+taken_by (Err ends.Spent) act next old m h = λ env is rest trace.
+    let none : Result Answer' HostErr = Err ends.Spent in
+    let w = world_in rest old trace in
+    quietly none answer_of (act env w) old.ledger.storage w (world_in rest (around old (paid old.ledger m))) (h env w refl refl)
+taken_by (Err (ends.Archived key)) act next old m h = λ env is rest trace.
+    let none : Result Answer' HostErr = Err (ends.Archived key) in
+    let w = world_in rest old trace in
+    quietly none answer_of (act env w) old.ledger.storage w (world_in rest (around old (paid old.ledger m))) (h env w refl refl)
+taken_by (Err (ends.Undeclared key)) act next old m h = λ env is rest trace.
+    let none : Result Answer' HostErr = Err (ends.Undeclared key) in
+    let w = world_in rest old trace in
+    quietly none answer_of (act env w) old.ledger.storage w (world_in rest (around old (paid old.ledger m))) (h env w refl refl)
 taken_by (Err ends.NoMemory) act next old m h = λ env is rest trace. tt
 
 pub taken_in : {A G : Type 0} (r : Result A HostErr) (act : Env → Act Answer) (next : Env → A → Act Answer) (old : Host G) (new : HostLedger G) → new ≡ paid old.ledger new.budget

@@ -23,8 +23,9 @@ use Rattle.call_spec.specs.Acts.{Act, Failed, Spent, Out, Good, Bad, Undeclared,
 use Rattle.call_spec.specs.Frames.{HostCalls, metered, runs, trap_code}
 use Rattle.call_spec.specs.HostFunctions.{host_function, host_of, of_row, opener_of}
 use Rattle.call_spec.specs.Outcomes.{Says, trace_of, stopped_kind}
-use Rattle.host_ledger.specs.Answered.{any}
-use Rattle.contract_call.specs.Worlds.{authority_of, world_in, ending, IsEnvOf}
+use Rattle.host_ledger.specs.Traced.{Tells as Tells'}
+use Rattle.host_ledger.proofs.Tracing.{retold}
+use Rattle.contract_call.specs.Worlds.{authority_of, world_in, ending, leaving_by, IsEnvOf}
 use Rattle.contract_storage.proofs.Going.{again}
 use Rattle.host_ledger.proofs.Rows.{later_same}
 use Rattle.contract_call.specs.Worlds.{MayRun}
@@ -35,8 +36,8 @@ use Rattle.auth_trees.proofs.Later.{later_itself, later_again}
 use Rattle.contract_call.specs.declared.host.Host.{Host}
 use Rattle.contract_call.specs.declared.place.Place.{Place}
 use Rattle.contract_call.specs.Placed.{IsPathFor, HasRoom}
-use Rattle.contract_call.proofs.Joining.{keep_memory, says_stopped, traced}
-use Rattle.contract_call.proofs.Showing.{shown_as}
+use Rattle.contract_call.proofs.Joining.{Telling, knowing, keep_memory, says_stopped, traced}
+use Rattle.contract_call.proofs.Showing.{shown_as, telling}
 
 -- the rest with another linear memory
 abbrev pub kept : List ℕ → World → World
@@ -46,10 +47,11 @@ kept memory rest = record rest { frame = record rest.frame { memory = memory } }
 abbrev pub Follows : {G : Type 0} → Module → ℕ → Suspended → Host G → Suspended → Host G → Type 0
 Follows m room i0 h0 i h = (go : Meter → Run) → Does i0 go → (next : (Meter → Run)) × Does i next
     × ((env : Env) → IsEnvOf env h0 → (rest : World) (trace : List Access) → (memory : List ℕ) × (t : List Access)
+    × Tells' h0.ledger.storage h.ledger.storage trace t
     × (runs (host_of env (opener_of env room) m) (go h0.ledger.budget) (world_in rest h0 trace) ≡ runs (host_of env (opener_of env room) m) (next h.ledger.budget) (world_in (kept memory rest) h t)))
 
 pub follows_first : {G : Type 0} (m : Module) (room : ℕ) (i : Suspended) (h : Host G) → Follows m room i h i h
-follows_first m room i h go does = (go, does, λ env is rest trace. (rest.frame.memory, trace, refl))
+follows_first m room i h go does = (go, does, λ env is rest trace. (rest.frame.memory, trace, (λ told. told), refl))
 
 -- ---- events
 
@@ -103,10 +105,10 @@ spent_is host Stuck b i w h = absurd h
 
 -- ---- ends
 
-end_says : {A G : Type 0} (r : Result A HostErr) (view : A → ℕ) (rest : World) (memory : List ℕ) (t : List Access) (h : Host G) (out : Out ℕ)
-    → Says any r view out (λ trace. world_in (kept memory rest) h t) → Says any r view out (world_in (ending rest out) h)
-end_says r view rest memory t h out p =
-    shown_as (λ w z. world_in w h z) keep_memory h.ledger.budget (λ _ _. refl) r view rest out (λ z. world_in (kept memory rest) h z) (λ z. refl) (traced r view out (world_in (kept memory rest) h t) p)
+end_says : {A G : Type 0} (r : Result A HostErr) (view : A → ℕ) (rest : World) (memory : List ℕ) (t : List Access) (told : Telling) (h : Host G) (out : Out ℕ)
+    → Says r view out (knowing told (λ trace. world_in (kept memory rest) h t)) → Says r view out (knowing told (world_in (ending rest out) h))
+end_says r view rest memory t told h out p =
+    shown_as (λ w z. world_in w h z) keep_memory told h.ledger.budget (λ _ _. refl) r view rest out (λ z. world_in (kept memory rest) h z) (λ z. refl) (traced r view out told (world_in (kept memory rest) h t) p)
 
 abbrev pub paid : {G : Type 0} → Host G → Meter → Host G
 paid h b = record h { ledger = record h.ledger { budget = b } }
@@ -117,7 +119,7 @@ env_paid h b env is = record { ledger = record { header = is.ledger.header; serv
 -- the run ended in the frame, as the result says
 abbrev pub EndsRun : {G : Type 0} → Module → ℕ → Suspended → Host G → Result ℕ HostErr → Host G → Type 0
 EndsRun m room i0 h0 r h = (go : Meter → Run) → Does i0 go → (env : Env) → IsEnvOf env h0 → (rest : World) (trace : List Access)
-    → (let out = runs (host_of env (opener_of env room) m) (go h0.ledger.budget) (world_in rest h0 trace) in Says any r (λ word. word) out (world_in (ending rest out) h))
+    → (let out = runs (host_of env (opener_of env room) m) (go h0.ledger.budget) (world_in rest h0 trace) in Says r (λ word. word) out (leaving_by h0 h trace (world_in (ending rest out) h)))
 
 -- what an event tells of an instance's runs, with these budgets
 abbrev pub Told : Suspended → Meter → Event → Meter → Suspended → Type 0
@@ -130,7 +132,8 @@ run_done m room i0 i after h0 h n b follows tells go does env is rest trace =
     let at = f.2 env is rest trace in
     let host = host_of env (opener_of env room) m in
     let r : Result ℕ HostErr = Ok n in
-    end_says r (λ word. word) rest at.0 at.1 (paid h b) _ (tt, at.2 ∙ done_is host (f.0 h.ledger.budget) n b after (world_in (kept at.0 rest) h at.1) (tells f.0 f.1))
+    let e = at.3 ∙ done_is host (f.0 h.ledger.budget) n b after (world_in (kept at.0 rest) h at.1) (tells f.0 f.1) in
+    end_says r (λ word. word) rest at.0 at.1 (telling h0 h trace) (paid h b) _ (subst (telling h0 h trace) (sym (ap (λ (o : Out ℕ). trace_of o) e)) at.2, e)
 
 pub run_trapped : {G : Type 0} (m : Module) (room : ℕ) (i0 i after : Suspended) (h0 h : Host G) (k : TrapKind) (b : Meter) (e : ScError) → e ≡ traps.trap_error k → Follows m room i0 h0 i h
     → ((go : Meter → Run) → Does i go → Tells (go h.ledger.budget) (event.Trap k) b after) → EndsRun m room i0 h0 (Err (ends.Failed e)) (paid h b)
@@ -139,8 +142,8 @@ run_trapped m room i0 i after h0 h k b e is-trap follows tells go does env is re
     let at = f.2 env is rest trace in
     let host = host_of env (opener_of env room) m in
     let r : Result ℕ HostErr = Err (ends.Failed e) in
-    end_says r (λ word. word) rest at.0 at.1 (paid h b) _
-    (tt, at.2 ∙ trap_is host (f.0 h.ledger.budget) k b after (world_in (kept at.0 rest) h at.1) (tells f.0 f.1) ∙ ap (λ x. Bad (Failed x) (world_in (kept at.0 rest) (paid h b) at.1)) (sym is-trap))
+    let e = at.3 ∙ trap_is host (f.0 h.ledger.budget) k b after (world_in (kept at.0 rest) h at.1) (tells f.0 f.1) ∙ ap (λ x. Bad (Failed x) (world_in (kept at.0 rest) (paid h b) at.1)) (sym is-trap) in
+    end_says r (λ word. word) rest at.0 at.1 (telling h0 h trace) (paid h b) _ (subst (telling h0 h trace) (sym (ap (λ (o : Out ℕ). trace_of o) e)) at.2, e)
 
 pub run_spent : {G : Type 0} (m : Module) (room : ℕ) (i0 i after : Suspended) (h0 h : Host G) (b : Meter) → Follows m room i0 h0 i h
     → ((go : Meter → Run) → Does i go → Tells (go h.ledger.budget) event.Spent b after) → EndsRun m room i0 h0 (Err ends.Spent) (paid h b)
@@ -149,8 +152,9 @@ run_spent m room i0 i after h0 h b follows tells go does env is rest trace =
     let at = f.2 env is rest trace in
     let host = host_of env (opener_of env room) m in
     let r : Result ℕ HostErr = Err ends.Spent in
-    let e = at.2 ∙ spent_is host (f.0 h.ledger.budget) b after (world_in (kept at.0 rest) h at.1) (tells f.0 f.1) in
-    end_says r (λ word. word) rest at.0 at.1 (paid h b) _ (tt, e ∙ ap (Bad Spent) (sym (ap world_of e)), ap (λ o. (world_of o).meter) e)
+    let e = at.3 ∙ spent_is host (f.0 h.ledger.budget) b after (world_in (kept at.0 rest) h at.1) (tells f.0 f.1) in
+    end_says r (λ word. word) rest at.0 at.1 (telling h0 h trace) (paid h b) _
+    (subst (telling h0 h trace) (sym (ap (λ (o : Out ℕ). trace_of o) e)) at.2, e ∙ ap (Bad Spent) (sym (ap world_of e)), ap (λ o. (world_of o).meter) e)
 
 -- ---- calls of the host
 
@@ -181,21 +185,22 @@ run_answered m room i0 i i1 i2 h0 h h2 b f words row word before after follows t
           let says = answer env (env_paid h b env (later env is)) waiting at.1 same in (
             after,
             trace_of out,
-            at.2 ∙ ap (λ r. runs host r w) q.1 ∙ ap (λ o. then_do o next) (row_act env room m f row words (world_in waiting (paid h b) at.1) named ∙ says.1),
+            (λ told. says.0 (at.2 told)),
+            at.3 ∙ ap (λ r. runs host r w) q.1 ∙ ap (λ o. then_do o next) (row_act env room m f row words (world_in waiting (paid h b) at.1) named ∙ says.1),
           ),
     )
 
-fixed_left : {A B : Type 0} (r : Result A HostErr) (view : A → B) (out : Out B) (left : List Access → World) (m : Meter) → ((t : List Access) → (left t).meter ≡ m) → Says any r view out left
-    → Says any r view out (λ _. left (trace_of out))
-fixed_left (Ok a) view out left m pays p = p
-fixed_left (Err (ends.Failed d)) view out left m pays p = p
-fixed_left (Err ends.Spent) view out left m pays p = (tt, p.1, p.2 ∙ pays [] ∙ sym (pays (trace_of out)))
-fixed_left (Err (ends.Archived key)) view out left m pays p = (tt, p.1, p.2 ∙ pays [] ∙ sym (pays (trace_of out)))
-fixed_left {B = B} (Err (ends.Undeclared key)) view out left m pays p =
+fixed_left : {A B : Type 0} (r : Result A HostErr) (view : A → B) (out : Out B) (told : Telling) (left : List Access → World) (m : Meter) → ((t : List Access) → (left t).meter ≡ m) → Says r view out (knowing told left)
+    → Says r view out (knowing told (λ _. left (trace_of out)))
+fixed_left (Ok a) view out told left m pays p = p
+fixed_left (Err (ends.Failed d)) view out told left m pays p = p
+fixed_left (Err ends.Spent) view out told left m pays p = (p.0, p.1, p.2 ∙ pays [] ∙ sym (pays (trace_of out)))
+fixed_left (Err (ends.Archived key)) view out told left m pays p = (p.0, p.1, p.2 ∙ pays [] ∙ sym (pays (trace_of out)))
+fixed_left {B = B} (Err (ends.Undeclared key)) view out told left m pays p =
     let e = pays [] ∙ sym (pays (trace_of out)) in
     let at : Meter → Out B = λ z. Undeclared (record { kind = stopped_kind out; key = key; used = z.used }) (world_of out) in
-    (tt, p.1 ∙ ap at e, p.2 ∙ e)
-fixed_left (Err ends.NoMemory) view out left m pays p = tt
+    (p.0, p.1 ∙ ap at e, p.2 ∙ e)
+fixed_left (Err ends.NoMemory) view out told left m pays p = tt
 
 pub run_refused : {G : Type 0} (m : Module) (room : ℕ) (i0 i i1 : Suspended) (h0 h h2 : Host G) (b : Meter) (f : ℕ) (words : List ℕ) (row : Row) (e : HostErr) (before after : List ℕ) → Follows m room i0 h0 i h
     → ((go : Meter → Run) → Does i go → Tells (go h.ledger.budget) (event.HostCall f words) b i1) → row_at m f ≡ Some row → i1.store.memory.bytes ≡ before
@@ -213,10 +218,12 @@ run_refused m room i0 i i1 h0 h h2 b f words row e before after follows tells na
     let says = answer env (env_paid h b env (later env is)) waiting at.1 same in
     let r : Result ℕ HostErr = Err e in
     let left = world_in (kept after rest) h2 (trace_of out) in
-    end_says r (λ word. word) rest after (trace_of out) h2 whole
-    (says_stopped (λ (word : ℕ). word) (λ (word : ℕ). word) e next out whole left
-    (at.2 ∙ ap (λ r. runs host r w) q.1 ∙ ap (λ o. then_do o next) (row_act env room m f row words (world_in waiting (paid h b) at.1) named))
-    (fixed_left r (λ word. word) out (λ t. world_in (kept after rest) h2 t) h2.ledger.budget (λ _. refl) says))
+    let first = telling (paid h b) h2 at.1 in
+    end_says r (λ word. word) rest after (trace_of out) (telling h0 h2 trace) h2 whole
+    (retold r (λ word. word) whole (λ _. left) first (telling h0 h2 trace) (λ z other told. other (at.2 told))
+    (says_stopped (λ (word : ℕ). word) (λ (word : ℕ). word) e next out whole first left
+    (at.3 ∙ ap (λ r. runs host r w) q.1 ∙ ap (λ o. then_do o next) (row_act env room m f row words (world_in waiting (paid h b) at.1) named))
+    (fixed_left r (λ word. word) out first (λ t. world_in (kept after rest) h2 t) h2.ledger.budget (λ _. refl) says)))
 
 -- ---- the state
 

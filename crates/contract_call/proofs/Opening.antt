@@ -23,7 +23,6 @@ use Rattle.call_spec.specs.Acts.{Act, Failure, Failed, Spent, Archived, Out, Goo
 use Rattle.call_spec.specs.Frames.{Entered, frame_of, started, finished, framed, closed, with_frames}
 use Rattle.call_spec.specs.HostFunctions.{host_of, opener_of}
 use Rattle.call_spec.specs.Outcomes.{Says, trace_of, stopped_kind}
-use Rattle.host_ledger.specs.Answered.{any}
 use Rattle.host_ledger.specs.Worlds.{copied}
 use Rattle.host_ledger.specs.declared.state.InstanceCopy.{InstanceCopy}
 use Rattle.host_ledger.specs.declared.state.Running.{Running}
@@ -32,7 +31,9 @@ use Rattle.contract_call.specs.Worlds.{contracts_of, placed, world_in, world_aro
 use Rattle.contract_call.specs.Running.{entered, IsNewFrame, Starts, StaysIn, DoesFrom}
 use Rattle.contract_call.specs.declared.host.Host.{Host}
 use Rattle.contract_call.specs.declared.place.Place.{Place}
-use Rattle.contract_call.proofs.Joining.{same_act, keep_rest}
+use Rattle.host_ledger.proofs.Tracing.{as_storages}
+use Rattle.contract_call.proofs.Joining.{Telling, knowing, same_act, keep_rest}
+use Rattle.contract_call.proofs.Showing.{telling}
 
 -- ---- the start of the code
 
@@ -51,28 +52,34 @@ closed_bad f cs x out p =
     let e : closed f cs out ≡ Bad x (with_frames f cs (world_of out)) = ap (closed f cs) p in
     (e ∙ ap (Bad x) (sym (ap world_of e)), ap (λ o. (world_of o).meter) e)
 
-pub closed_says : {A B : Type 0} (f : Frame) (cs : List Hash) (r : Result A HostErr) (view : A → B) (out : Out B) (left new : List Access → World) → ((t : List Access) → with_frames f cs (left t) ≡ new t)
-    → ((t : List Access) → (left t).trace ≡ t) → Says any r view out left → Says any r view (closed f cs out) new
-closed_says f cs (Ok a) view out left new h tr p =
+closed_trace : {B : Type 0} (f : Frame) (cs : List Hash) (x : Failure) (out : Out B) → out ≡ Bad x (world_of out) → trace_of (closed f cs out) ≡ trace_of out
+closed_trace {B} f cs x out p =
+    let e : closed f cs out ≡ Bad x (with_frames f cs (world_of out)) = ap (closed f cs) p in ap (λ (o : Out B). trace_of o) e
+
+pub closed_says : {A B : Type 0} (f : Frame) (cs : List Hash) (r : Result A HostErr) (view : A → B) (out : Out B) (told : Telling) (left new : List Access → World) → ((t : List Access) → with_frames f cs (left t) ≡ new t)
+    → ((t : List Access) → (left t).trace ≡ t) → Says r view out (knowing told left) → Says r view (closed f cs out) (knowing told new)
+closed_says f cs (Ok a) view out told left new h tr p =
     let e : closed f cs out ≡ Good (view a) (with_frames f cs (left (trace_of out))) = ap (closed f cs) p.1 in
-    (tt, e ∙ ap (Good (view a)) (h (trace_of out) ∙ ap new (sym (ap trace_of e ∙ tr (trace_of out)))))
-closed_says f cs (Err (ends.Failed d)) view out left new h tr p =
+    let same : trace_of (closed f cs out) ≡ trace_of out = ap trace_of e ∙ tr (trace_of out) in
+    (subst told (sym same) p.0, e ∙ ap (Good (view a)) (h (trace_of out) ∙ ap new (sym same)))
+closed_says f cs (Err (ends.Failed d)) view out told left new h tr p =
     let e : closed f cs out ≡ Bad (Failed d) (with_frames f cs (left (trace_of out))) = ap (closed f cs) p.1 in
-    (tt, e ∙ ap (Bad (Failed d)) (h (trace_of out) ∙ ap new (sym (ap trace_of e ∙ tr (trace_of out)))))
-closed_says f cs (Err ends.Spent) view out left new h tr p =
-    let c = closed_bad f cs Spent out p.1 in (tt, c.0, c.1 ∙ p.2 ∙ ap (λ (w : World). w.meter) (h []))
-closed_says f cs (Err (ends.Archived key)) view out left new h tr p =
-    let c = closed_bad f cs (Archived key) out p.1 in (tt, c.0, c.1 ∙ p.2 ∙ ap (λ (w : World). w.meter) (h []))
-closed_says {B = B} f cs (Err (ends.Undeclared key)) view out left new h tr p =
+    let same : trace_of (closed f cs out) ≡ trace_of out = ap trace_of e ∙ tr (trace_of out) in
+    (subst told (sym same) p.0, e ∙ ap (Bad (Failed d)) (h (trace_of out) ∙ ap new (sym same)))
+closed_says {B = B} f cs (Err ends.Spent) view out told left new h tr p =
+    let c = closed_bad f cs Spent out p.1 in (subst told (sym (closed_trace f cs Spent out p.1)) p.0, c.0, c.1 ∙ p.2 ∙ ap (λ (w : World). w.meter) (h []))
+closed_says {B = B} f cs (Err (ends.Archived key)) view out told left new h tr p =
+    let c = closed_bad f cs (Archived key) out p.1 in (subst told (sym (closed_trace f cs (Archived key) out p.1)) p.0, c.0, c.1 ∙ p.2 ∙ ap (λ (w : World). w.meter) (h []))
+closed_says {B = B} f cs (Err (ends.Undeclared key)) view out told left new h tr p =
     let at : AccessKind → Meter → World → Out B = λ kind meter w. Undeclared (record { kind = kind; key = key; used = meter.used }) w in
     let m : (left []).meter ≡ (new []).meter = ap (λ (w : World). w.meter) (h []) in
     let e : closed f cs out ≡ at (stopped_kind out) (left []).meter (with_frames f cs (world_of out)) = ap (closed f cs) p.1 in (
-      tt,
+      subst told (sym (ap trace_of e)) p.0,
       e ∙ ap (λ k. at k (left []).meter (with_frames f cs (world_of out))) (sym (ap stopped_kind e)) ∙ ap (λ z. at (stopped_kind (closed f cs out)) z (with_frames f cs (world_of out))) m
           ∙ ap (at (stopped_kind (closed f cs out)) (new []).meter) (sym (ap world_of e)),
       ap (λ o. (world_of o).meter) e ∙ p.2 ∙ m,
     )
-closed_says f cs (Err ends.NoMemory) view out left new h tr p = tt
+closed_says f cs (Err ends.NoMemory) view out told left new h tr p = tt
 
 -- ---- the frame
 
@@ -127,7 +134,7 @@ module _ (frame : Running) (fresh : IsNewFrame frame) (place : Place) (unbegun :
   pub framed_does : {G : Type 0} (room : ℕ) (first : InstanceCopy) (r : Result ScVal HostErr) (old h1 h2 h3 : Host G) → first ≡ frame.copy → IsOpened frame place old h1 → h1.open.items ≡ old.open.items ++ frame.contract ∷ [] → StaysIn h1 h2
       → DoesFrom (copied first) r datum (λ env. after (started (host_of env (opener_of env room) m) this) (finished env)) h1 h2 → IsClosed old.ledger.objects old.ledger.frame old.place h2 h3
       → h3.open.items ≡ take (length h2.open.items - 1) h2.open.items → DoesAround r datum (λ env. framed env (host_of env (opener_of env room)) this) old h3
-  framed_does room first r old h1 h2 h3 copy opened pushed stays inside closing open3 env is rest trace =
+  framed_does {G} room first r old h1 h2 h3 copy opened pushed stays inside closing open3 env is rest trace =
       let host = host_of env (opener_of env room) in
       let act : Act Datum = after (started (host m) this) (finished env) in
       let w = world_around rest old trace in
@@ -135,11 +142,12 @@ module _ (frame : Running) (fresh : IsNewFrame frame) (place : Place) (unbegun :
       let out_in = act (world_in rest_in h1 trace) in
       let out = closed (placed old.place rest.frame) (contracts_of old) out_in in
       let cs : contracts_of h3 ≡ contracts_of old = ap reverse (open3 ∙ last_off old.open.items h2.open.items frame.contract (stays.contracts ∙ pushed)) in
-      same_act (λ v t. world_around v h3 t) keep_rest r datum rest (framed env host this w) out
+      same_act (λ v t. world_around v h3 t) keep_rest (telling old h3 trace) r datum rest (framed env host this w) out
       (ap (λ z. closed (placed old.place rest.frame) (contracts_of old) (act z)) (start_is old h1 rest trace opened pushed))
-      (closed_says (placed old.place rest.frame) (contracts_of old) r datum out_in (λ t. world_in (ending rest_in out_in) h2 t) (λ t. world_around rest h3 t)
-      (λ t. end_is old h2 h3 rest (ending rest_in out_in) t closing cs) (λ t. refl)
-      (inside env (env_opened old h1 env opened is) rest_in trace (ap copied (sym copy))))
+      (as_storages r datum out h1.ledger.storage h2.ledger.storage old.ledger.storage h3.ledger.storage trace (world_around rest h3) (ap (λ (h : Host G). h.ledger.storage) opened)
+      (sym (ap (λ (h : Host G). h.ledger.storage) closing))
+      (closed_says (placed old.place rest.frame) (contracts_of old) r datum out_in (telling h1 h2 trace) (λ t. world_in (ending rest_in out_in) h2 t) (λ t. world_around rest h3 t)
+      (λ t. end_is old h2 h3 rest (ending rest_in out_in) t closing cs) (λ t. refl) (inside env (env_opened old h1 env opened is) rest_in trace (ap copied (sym copy)))))
 
 -- the frame that waited is the one around
 pub closes : {G : Type 0} (old h2 h3 : Host G) (objects : List Datum) (outer : Running) (place : Place) → objects ≡ old.ledger.objects → outer ≡ old.ledger.frame → place ≡ old.place → IsClosed objects outer place h2 h3

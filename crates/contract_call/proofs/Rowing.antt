@@ -19,15 +19,15 @@ use Rattle.auth_types.specs.AuthEntry.{auth_entry_format}
 use Rattle.auth_trees.specs.Demands.{Marked}
 use Rattle.auth_trees.proofs.Later.{later_again}
 use Rattle.call_spec.specs.World.{Access, World, Env, next_seq}
-use Rattle.call_spec.specs.Acts.{Act, Good, after, gives, lift, world_of}
+use Rattle.call_spec.specs.Acts.{Act, Good, after, gives, lift}
 use Rattle.call_spec.specs.Calling.{Call, calls}
 use Rattle.call_spec.specs.HostFunctions.{host_function, opener_of}
 use Rattle.call_spec.specs.Outcomes.{Says}
 use Rattle.call_spec.specs.Rules.{returning}
-use Rattle.host_ledger.specs.Answered.{any}
+use Rattle.host_ledger.specs.Traced.{leaving}
 use Rattle.host_ledger.specs.Worlds.{address_of, copied, IsHeld}
 use Rattle.host_ledger.specs.declared.state.Running.{Running}
-use Rattle.contract_call.specs.Worlds.{contracts_of, placed, world_in, world_around, with_memory, DoesAround, DoesIn, Stays, MayRun}
+use Rattle.contract_call.specs.Worlds.{leaving_by, contracts_of, placed, world_in, world_around, with_memory, DoesAround, DoesIn, Stays, MayRun}
 use Rattle.contract_call.specs.Running.{StaysIn, DoesOver}
 use Rattle.contract_call.specs.Made.{IsValued}
 use Rattle.contract_call.specs.Taken.{TakesIn}
@@ -35,7 +35,7 @@ use Rattle.contract_call.specs.declared.host.Host.{Host}
 use Rattle.contract_call.proofs.Joining.{stop, go_on, same_act, fails_as, as_fails, keep_rest}
 use Rattle.contract_storage.proofs.Going.{again}
 use Rattle.contract_call.proofs.Looping.{env_in, place_again}
-use Rattle.contract_call.proofs.Showing.{shown_as}
+use Rattle.contract_call.proofs.Showing.{shown_as, telling}
 
 -- an act around the running frame, in it
 pub in_around : {A B G : Type 0} (r : Result A HostErr) (view : A → B) (act : Env → Act B) (old new : Host G) → Stays old new → DoesAround r view act old new → DoesIn r view act old new
@@ -50,7 +50,7 @@ in_around r view act old new stays around env is rest trace =
       trace = t;
       meter = new.ledger.budget;
     } in
-    shown_as (λ v t. world_in v new t) keep_rest new.ledger.budget (λ _ _. refl) r view rest (act env (world_in rest old trace)) (λ t. world_around outer new t)
+    shown_as (λ v t. world_in v new t) keep_rest (telling old new trace) new.ledger.budget (λ _ _. refl) r view rest (act env (world_in rest old trace)) (λ t. world_around outer new t)
     (λ t. ap (λ f. at f new.ledger.objects t) stays.frame ∙ ap (λ o. at old.ledger.frame o t) stays.objects) (around env is outer trace)
 
 -- a value of an act as a host function's answer
@@ -59,22 +59,23 @@ pub valued_does : {A B G : Type 0} (made : Result A HostErr) (pick : A → B) (v
 valued_does (Ok a) pick view r act old new valued does env is rest trace =
     let w = world_in rest old trace in
     let answer : Result Answer' HostErr = Ok valued.0 in
-    subst (λ (x : Result Answer' HostErr). Says any x answer_of (returning (act env) view w) (world_in rest new)) (sym valued.1)
-    (go_on (λ v t. world_in v new t) (λ v t. world_in v new t) keep_rest (λ _ _ _. refl) a answer pick answer_of rest (act env w) (λ b. gives (value (view b))) (does env is rest trace)
-    (λ v t. (tt, ap (λ x. Good x (world_in v new t)) (sym valued.2))))
+    subst (λ (x : Result Answer' HostErr). Says x answer_of (returning (act env) view w) (leaving_by old new trace (world_in rest new))) (sym valued.1)
+    (go_on (λ v t. world_in v new t) (λ v t. world_in v new t) keep_rest (telling old new trace) (telling old new trace) (λ _ _ _. refl) a answer pick answer_of rest (act env w) (λ b. gives (value (view b)))
+    (does env is rest trace) (λ v t told. (told, ap (λ x. Good x (world_in v new t)) (sym valued.2))))
 valued_does (Err e) pick view r act old new valued does env is rest trace =
     let w = world_in rest old trace in
     let out = act env w in
     let next : _ → Act Answer = λ b. gives (value (view b)) in
-    subst (λ (x : Result Answer' HostErr). Says any x answer_of (returning (act env) view w) (world_in rest new)) (sym valued)
-    (as_fails e answer_of (returning (act env) view w) (λ t. world_in (keep_rest rest (world_of (returning (act env) view w))) new t)
-    (stop (λ v t. world_in v new t) keep_rest new.ledger.budget (λ _ _. refl) e rest out next (fails_as e pick out (λ t. world_in (keep_rest rest (world_of out)) new t) (does env is rest trace))))
+    subst (λ (x : Result Answer' HostErr). Says x answer_of (returning (act env) view w) (leaving_by old new trace (world_in rest new))) (sym valued)
+    (as_fails e answer_of (returning (act env) view w) (leaving_by old new trace (world_in rest new))
+    (stop (λ v t. world_in v new t) keep_rest (telling old new trace) new.ledger.budget (λ _ _. refl) e rest out next (fails_as e pick out (leaving_by old new trace (world_in rest new)) (does env is rest trace))))
 
 -- the arguments first
 pub taken_does : {A G : Type 0} (a : A) (r : Result Answer' HostErr) (act : Env → Act Answer) (next : Env → A → Act Answer) (old mid new : Host G) → StaysIn old mid
     → (let taken : Result A HostErr = Ok a in TakesIn taken act next old mid) → DoesIn r answer_of (λ env. next env a) mid new → DoesIn r answer_of act old new
 taken_does a r act next old mid new stays takes does env is rest trace =
-    same_act (λ v t. world_in v new t) keep_rest r answer_of rest (act env (world_in rest old trace)) (next env a (world_in rest mid trace)) (takes env is rest trace) (does env (env_in old mid stays env is) rest trace)
+    same_act (λ v t. world_in v new t) keep_rest (telling old new trace) r answer_of rest (act env (world_in rest old trace)) (next env a (world_in rest mid trace)) (takes.1 env is rest trace)
+    (subst (λ (s : Stored). Says r answer_of (next env a (world_in rest mid trace)) (leaving s new.ledger.storage trace (world_in rest new))) takes.0 (does env (env_in old mid stays env is) rest trace))
 
 -- a call by the running frame, with the same function's name
 pub called_by : {G : Type 0} (wrap : Act Datum → Act Datum) (room : ℕ) (address : ScAddress) (slice function : List ℕ) (args : List Datum) (made : Result ScVal HostErr) (r : Result Answer' HostErr) (mid new : Host G)
@@ -91,7 +92,7 @@ called_by wrap room address slice function args made r mid new same stays valued
 pub over_same : {A B G : Type 0} (before after : List ℕ) (r : Result A HostErr) (view : A → B) (act : Env → Act B) (old new : Host G) → after ≡ before → DoesIn r view act old new
     → DoesOver before after r view act old new
 over_same before after r view act old new e does env is rest trace same =
-    subst (λ (m : List ℕ). Says any r view (act env (world_in rest old trace)) (world_in (with_memory m rest) new)) (same ∙ sym e) (does env is rest trace)
+    subst (λ (m : List ℕ). Says r view (act env (world_in rest old trace)) (leaving_by old new trace (world_in (with_memory m rest) new))) (same ∙ sym e) (does env is rest trace)
 
 -- ---- the answer
 
@@ -101,7 +102,7 @@ pub row_answers : {G : Type 0} (i j : HostImport) (room : ℕ) (words memory : L
 row_answers {G} i j room words memory act r old new is same does =
     subst (λ x. DoesOver memory memory r (λ word. word) (λ env. host_function env (opener_of env room) x words) old new) (sym is)
     (over_same memory memory r (λ word. word) (λ env. host_function env (opener_of env room) j words) old new refl
-    (λ env env_is rest trace. same_act (λ v t. world_in v new t) keep_rest r (λ word. word) rest (host_function env (opener_of env room) j words (world_in rest old trace)) (after (act env) (λ answer. lift (given answer)) (world_in rest old trace))
+    (λ env env_is rest trace. same_act (λ v t. world_in v new t) keep_rest (telling old new trace) r (λ word. word) rest (host_function env (opener_of env room) j words (world_in rest old trace)) (after (act env) (λ answer. lift (given answer)) (world_in rest old trace))
     (same env (world_in rest old trace)) (does env env_is rest trace)))
 
 -- ---- the state

@@ -14,17 +14,19 @@ use Rattle.ledger_spec.specs.LedgerMap.{LedgerMap}
 use Rattle.invoke_types.specs.declared.event.ContractEvent.{ContractEvent}
 use Rattle.host_spec.specs.declared.error.HostErr.{HostErr}
 use Rattle.host_spec.specs.declared.error.HostErr.TheVariants as ends
-use Rattle.contract_storage.specs.Stored.{Stored, IsRestored}
+use Rattle.contract_storage.specs.Stored.{Stored, IsRead, IsRestored, with_touched}
+use Rattle.contract_storage.specs.declared.touched.Touch.{Touch}
 use Rattle.contract_storage.proofs.Going.{goes_back}
-use Rattle.host_ledger.proofs.Rows.{later_same}
+use Rattle.host_ledger.proofs.Rows.{later_read}
 use Rattle.call_spec.specs.World.{Access, World, Env}
-use Rattle.call_spec.specs.Acts.{Act, Failed, Out, Good, Bad}
+use Rattle.call_spec.specs.Acts.{Act, Failed, Out, Good, Bad, world_of}
 use Rattle.call_spec.specs.Calling.{restored, undone, undoing, caught, catching}
 use Rattle.call_spec.specs.Errors.{HIDDEN_ERROR}
 use Rattle.call_spec.specs.Frames.{passed_on}
 use Rattle.call_spec.specs.Outcomes.{Says, trace_of}
-use Rattle.host_ledger.specs.Answered.{any}
-use Rattle.contract_call.specs.Worlds.{world_around, DoesAround, Stays}
+use Rattle.host_ledger.specs.Traced.{Tells}
+use Rattle.host_ledger.proofs.Tracing.{tells_still}
+use Rattle.contract_call.specs.Worlds.{world_around, leaving_by, DoesAround, Stays}
 use Rattle.contract_call.specs.Undone.{IsMark, IsWithin, IsBack, Undoes, Catches}
 use Rattle.auth_trees.specs.Pairs.{Pair}
 use Rattle.auth_trees.specs.Demands.{Marked, IsLater, restored as restored_marks}
@@ -32,23 +34,31 @@ use Rattle.auth_trees.proofs.Later.{goes_back as goes_back_marked, later_itself}
 use Rattle.contract_call.specs.declared.host.Host.{Host}
 use Rattle.contract_call.specs.declared.place.Place.{Place}
 use Rattle.contract_call.specs.declared.undo.Mark.{Mark}
-use Rattle.contract_call.proofs.Joining.{same_act, traced, keep_rest}
-use Rattle.contract_call.proofs.Showing.{shown_as}
+use Rattle.contract_call.proofs.Joining.{Telling, knowing, same_act, traced, keep_rest}
+use Rattle.contract_call.proofs.Showing.{shown_as, telling}
 
 -- ---- back at the mark
 
 -- the entries, the events and the authorisations that were used of another state
 pub record IsAsAt {G : Type 0} (start new : Host G) : Type 0 where
-  pub storage : new.ledger.storage ≡ start.ledger.storage
+  pub storage : IsRead start.ledger.storage new.ledger.storage
   pub events : new.ledger.events ≡ start.ledger.events
   pub marks : new.marks ≡ start.marks
+
+-- a storage with other touched keys
+as_read : (s t : Stored) (touched : List Touch) → t ≡ with_touched s touched → IsRead s t
+as_read s t touched e = e ∙ ap (λ (x : List Touch). with_touched s x) (sym (ap (λ (u : Stored). u.touched) e))
+
+-- what was told is told after the writes were undone
+restored_tells : (n : ℕ) (old new : Stored) (trace : List Access) → IsRestored n old new → Tells old new trace trace
+restored_tells n old new trace back = tells_still old new trace (ap (λ (s : Stored). s.declared) back.same) (ap (λ (s : Stored). s.touched) back.same)
 
 pub gone_back : {G : Type 0} (mark : Mark) (start old new : Host G) → IsMark mark start → Stays start old → IsBack mark old new → IsAsAt start new
 gone_back mark start old new marks stays back =
     let first = start.ledger.events in
     record {
-      storage = goes_back start.ledger.storage old.ledger.storage new.ledger.storage stays.storage
-          (subst (λ (n : ℕ). IsRestored n old.ledger.storage new.ledger.storage) marks.storage back.storage);
+      storage = as_read start.ledger.storage new.ledger.storage old.ledger.storage.touched (goes_back start.ledger.storage old.ledger.storage new.ledger.storage stays.storage
+          (subst (λ (n : ℕ). IsRestored n old.ledger.storage new.ledger.storage) marks.storage back.storage));
       events = back.events ∙ ap (λ (n : ℕ). take n old.ledger.events) marks.events ∙ ap (take (length first)) stays.events.1 ∙ take-append_seam first stays.events.0;
       marks = back.marks ∙ ap (λ (n : ℕ). restored_marks n old.marks) marks.pairs ∙ goes_back_marked start.marks old.marks stays.marks;
     }
@@ -70,7 +80,7 @@ stays_back {G} mark start old new marks stays back =
     let same = gone_back mark start old new marks stays back in
     record {
       header = ap (λ (h : Host G). h.ledger.header.now) back.rest ∙ stays.header;
-      storage = later_same start.ledger.storage new.ledger.storage same.storage;
+      storage = later_read start.ledger.storage new.ledger.storage same.storage;
       events = (_, same.events ∙ sym (append-nil start.ledger.events));
       objects = ap (λ (h : Host G). h.ledger.objects) back.rest ∙ stays.objects;
       frame = ap (λ (h : Host G). h.ledger.frame) back.rest ∙ stays.frame;
@@ -83,21 +93,28 @@ stays_back {G} mark start old new marks stays back =
 -- ---- ends that undo nothing
 
 same_end : {A B G : Type 0} (change : World → Out B → Out B) (r : Result A HostErr) (view : A → B) (act : Env → Act B) (start old new : Host G) → new ≡ old
-    → ((env : Env) (rest : World) (trace : List Access) → (let w = world_around rest start trace in let out = act env w in Says any r view out (world_around rest old) → change w out ≡ out))
+    → ((env : Env) (rest : World) (trace : List Access) → (let w = world_around rest start trace in let out = act env w in Says r view out (leaving_by start old trace (world_around rest old)) → change w out ≡ out))
     → DoesAround r view act start old → DoesAround r view (λ env w. change w (act env w)) start new
 same_end {G = G} change r view act start old new is same does env at rest trace =
     let w = world_around rest start trace in
     let out = act env w in
     let says = does env at rest trace in
-    subst (λ (h : Host G). Says any r view (change w out) (world_around rest h)) (sym is)
-    (same_act (λ v t. world_around v old t) keep_rest r view rest (change w out) out (same env rest trace says) says)
+    subst (λ (h : Host G). Says r view (change w out) (leaving_by start h trace (world_around rest h))) (sym is)
+    (same_act (λ v t. world_around v old t) keep_rest (telling start old trace) r view rest (change w out) out (same env rest trace says) says)
 
 -- ---- failures that are undone
 
-left_is : {A B G : Type 0} (r : Result A HostErr) (view : A → B) (rest : World) (t : List Access) (new : Host G) (out : Out B) → Says any r view out (λ _. world_around rest new t) → Says any r view out (world_around rest new)
-left_is r view rest t new out p =
+left_is : {A B G : Type 0} (r : Result A HostErr) (view : A → B) (rest : World) (t : List Access) (told : Telling) (new : Host G) (out : Out B) → Says r view out (knowing told (λ _. world_around rest new t))
+    → Says r view out (knowing told (world_around rest new))
+left_is r view rest t told new out p =
     let left = world_around rest new t in
-    shown_as (λ v u. world_around v new u) keep_rest new.ledger.budget (λ _ _. refl) r view rest out (λ u. record left { trace = u }) (λ u. refl) (traced r view out left p)
+    shown_as (λ v u. world_around v new u) keep_rest told new.ledger.budget (λ _ _. refl) r view rest out (λ u. record left { trace = u }) (λ u. refl) (traced r view out told left p)
+
+-- what is told of the accesses of an act whose writes were undone
+told_back : {B G : Type 0} (n : ℕ) (start old new : Host G) (trace : List Access) (out other : Out B) (rest : World) → IsRestored n old.ledger.storage new.ledger.storage
+    → world_of other ≡ world_around rest new (trace_of out) → telling start old trace (trace_of out) → telling start new trace (trace_of other)
+told_back n start old new trace out other rest back is told =
+    subst (telling start new trace) (sym (ap (λ (w : World). w.trace) is)) (λ first. restored_tells n old.ledger.storage new.ledger.storage (trace_of out) back (told first))
 
 pub undoes_good : {A B G : Type 0} (a : A) (view : A → B) (act : Env → Act B) (start old : Host G) → (let r : Result A HostErr = Ok a in DoesAround r view act start old)
     → (let r : Result A HostErr = Ok a in DoesAround r view (λ env. undoing (act env)) start old)
@@ -112,8 +129,8 @@ undoes_end {A} {B} mark (ends.Failed d) view act start old new marks stays back 
     let w = world_around rest start trace in
     let out = act env w in
     let says = does env is rest trace in
-    left_is r view rest (trace_of out) new (undone w out)
-    (tt, ap (λ (o : Out B). undone w o) says.1 ∙ ap (Bad (Failed d)) (restored_is mark start old new marks stays back rest trace (trace_of out)))
+    let e = ap (λ (o : Out B). undone w o) says.1 ∙ ap (Bad (Failed d)) (restored_is mark start old new marks stays back rest trace (trace_of out)) in
+    left_is r view rest (trace_of out) (telling start new trace) new (undone w out) (told_back _ start old new trace out (undone w out) rest back.storage (ap (λ (o : Out B). world_of o) e) says.0, e)
 undoes_end {A} {B} mark ends.Spent view act start old new marks stays is does env at rest trace =
     let r : Result A HostErr = Err ends.Spent in
     same_end undone r view act start old new is (λ env rest trace says. ap (λ (o : Out B). undone (world_around rest start trace) o) says.1 ∙ sym says.1) does env at rest trace
@@ -142,8 +159,8 @@ caught_failed mark d act start old new marks stays back does env is rest trace =
     let w = world_around rest start trace in
     let out = act env w in
     let says = does env is rest trace in
-    left_is r datum rest (trace_of out) new (caught w out)
-    (tt, ap (λ (o : Out Datum). caught w o) says.1 ∙ ap (Good (datum (values.Error (passed_on d)))) (restored_is mark start old new marks stays back rest trace (trace_of out)))
+    let e = ap (λ (o : Out Datum). caught w o) says.1 ∙ ap (Good (datum (values.Error (passed_on d)))) (restored_is mark start old new marks stays back rest trace (trace_of out)) in
+    left_is r datum rest (trace_of out) (telling start new trace) new (caught w out) (told_back _ start old new trace out (caught w out) rest back.storage (ap (λ (o : Out Datum). world_of o) e) says.0, e)
 
 abbrev Caught : {G : Type 0} → Result ScVal HostErr → (Env → Act Datum) → Host G → Host G → Type 0
 Caught r act start new = DoesAround r datum (λ env. catching (act env)) start new

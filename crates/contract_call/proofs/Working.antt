@@ -19,8 +19,9 @@ use Rattle.contract_call.specs.Undone.{IsMark, Undoes}
 use Rattle.contract_call.specs.Worlds.{world_around, DoesAround, Stays}
 use Rattle.contract_call.specs.declared.host.Host.{Host}
 use Rattle.contract_call.specs.declared.undo.Mark.{Mark}
+use Rattle.host_ledger.specs.Traced.{Tells}
 use Rattle.contract_call.proofs.Joining.{go_on, keep_rest}
-use Rattle.contract_call.proofs.Showing.{shown_as}
+use Rattle.contract_call.proofs.Showing.{shown_as, telling}
 use Rattle.contract_call.proofs.Undoing.{undoes_good, undoes_end}
 
 -- ---- values
@@ -44,7 +45,7 @@ pub steps_around : {A B G : Type 0} (r : Result A HostErr) (view : A → B) (act
 steps_around {G = G} r view act old ledger stays steps env is rest trace =
     let w = world_around rest old trace in
     let left : List Access → World = λ t. record w { entries = ledger.storage.map; trace = t; meter = ledger.budget } in
-    shown_as (λ v t. world_around v (record old { ledger = ledger }) t) keep_rest ledger.budget (λ _ _. refl) r view rest (act env w) left
+    shown_as (λ v t. world_around v (record old { ledger = ledger }) t) keep_rest (Tells old.ledger.storage ledger.storage trace) ledger.budget (λ _ _. refl) r view rest (act env w) left
     (λ t. subst (λ (l : HostLedger G). world_around rest (record old { ledger = l }) t ≡ left t) (sym stays) refl) (steps env is.ledger.serves w refl refl)
 
 pub steps_stay : {G : Type 0} (old : Host G) (ledger : HostLedger G) → ledger ≡ record old.ledger { storage = ledger.storage; budget = ledger.budget } → IsLater old.ledger.storage ledger.storage
@@ -66,8 +67,8 @@ pub viewed : {A B D G : Type 0} (a : A) (view : A → B) (of : B → D) (act : E
     → (let r : Result A HostErr = Ok a in DoesAround r (λ x. of (view x)) (λ env. after (act env) (λ b. gives (of b))) old new)
 viewed {A} a view of act old new one env is rest trace =
     let r : Result A HostErr = Ok a in
-    go_on (λ w t. world_around w new t) (λ w t. world_around w new t) keep_rest (λ _ _ _. refl) a r view (λ x. of (view x)) rest (act env (world_around rest old trace)) (λ b. gives (of b))
-    (one env is rest trace) (λ w t. (tt, refl))
+    go_on (λ w t. world_around w new t) (λ w t. world_around w new t) keep_rest (telling old new trace) (telling old new trace) (λ _ _ _. refl) a r view (λ x. of (view x)) rest (act env (world_around rest old trace))
+    (λ b. gives (of b)) (one env is rest trace) (λ w t told. (told, refl))
 
 -- ---- works
 
@@ -101,3 +102,15 @@ undone_base {G} mark (ends.Undeclared key) old mid new stays same = ap (λ (h : 
 undone_base {G} mark (ends.Archived key) old mid new stays same = ap (λ (h : Host G). h.ledger.storage.base) same ∙ same_base old mid stays
 undone_base {G} mark ends.Spent old mid new stays same = ap (λ (h : Host G). h.ledger.storage.base) same ∙ same_base old mid stays
 undone_base {G} mark ends.NoMemory old mid new stays same = ap (λ (h : Host G). h.ledger.storage.base) same ∙ same_base old mid stays
+
+-- ---- whether a storage records
+
+pub same_declared : {G : Type 0} (old new : Host G) → Stays old new → new.ledger.storage.declared ≡ old.ledger.storage.declared
+same_declared old new stays = ap (λ (s : Stored). s.declared) stays.storage.same
+
+pub undone_declared : {G : Type 0} (mark : Mark) (e : HostErr) (old mid new : Host G) → Stays old mid → Undoes mark e mid new → new.ledger.storage.declared ≡ old.ledger.storage.declared
+undone_declared mark (ends.Failed e) old mid new stays back = ap (λ (s : Stored). s.declared) back.storage.same ∙ same_declared old mid stays
+undone_declared {G} mark (ends.Undeclared key) old mid new stays same = ap (λ (h : Host G). h.ledger.storage.declared) same ∙ same_declared old mid stays
+undone_declared {G} mark (ends.Archived key) old mid new stays same = ap (λ (h : Host G). h.ledger.storage.declared) same ∙ same_declared old mid stays
+undone_declared {G} mark ends.Spent old mid new stays same = ap (λ (h : Host G). h.ledger.storage.declared) same ∙ same_declared old mid stays
+undone_declared {G} mark ends.NoMemory old mid new stays same = ap (λ (h : Host G). h.ledger.storage.declared) same ∙ same_declared old mid stays

@@ -1,5 +1,5 @@
 -- How a call, an upload or a create ends, beside its run over all entries of the ledger (own).
-use Rattle.std.specs.Prelude.{◌≡◌, [], Option, Some, None, Result, Ok, Err}
+use Rattle.std.specs.Prelude.{◌≡◌, List, [], Option, Some, None, Result, Ok, Err, IsSomeAnd}
 use Rattle.ledger_spec.specs.LedgerMap.{LedgerMap}
 use Rattle.value_types.specs.Datum.{Datum}
 use Rattle.tx_xdr.specs.declared.transaction.Footprint.{Footprint}
@@ -11,8 +11,14 @@ use Rattle.call_spec.specs.Acts.{Failed, Spent, Archived, Out, Good, Bad, world_
 use Rattle.call_spec.specs.Footprints.{by_footprint, first_rejected}
 use Rattle.call_spec.specs.Laws.{Agree, Maps}
 use Rattle.call_spec.specs.WholeRuns.{Work, all_allowed, done_under}
+use Rattle.host_ledger.specs.Traced.{touches_of}
 use Rattle.contract_call.specs.Worlds.{world_around, authority_of}
 use Rattle.contract_call.specs.declared.host.Host.{Host}
+
+-- this, unless memory ran out
+abbrev pub UnlessMemory : {A : Type 0} → Result A HostErr → Type 0 → Type 0
+UnlessMemory (Err ends.NoMemory) p = Unit {0}
+UnlessMemory r p = p
 
 -- Compares the result of the Rust function with the end of the whole run over the map m. The storage agrees with m on the keys that may be read. After
 -- a failure, entries, events and authorisations that were used are as before the call. After Spent and Archived only the budget is compared.
@@ -38,7 +44,14 @@ EndsBy may m None out r view old new = IsEnd may m out r view old new
 -- Take any map that agrees with the storage on the declared keys. The Rust function ends as the whole run over that map, or at the first undeclared
 -- access of that run. The whole run checks no footprint.
 abbrev pub Ends : {A G : Type 0} → Work → Result A HostErr → (A → Datum) → Host G → Host G → Type 0
-Ends work r view old new = (footprint : Footprint) → IsFootprint footprint.read_only footprint.read_write old.ledger.storage.declared
+Ends work r view old new = (footprint : Footprint) → IsSomeAnd old.ledger.storage.declared (IsFootprint footprint.read_only footprint.read_write)
     → (m : LedgerMap) → Agree (by_footprint footprint) m old.ledger.storage.map → (rest : World)
     → (let out = done_under all_allowed old.ledger.header.now (authority_of old) work (record (world_around rest old []) { entries = m }) in
     EndsBy (by_footprint footprint) m (first_rejected (by_footprint footprint) (world_of out).trace) out r view old new)
+
+-- The same over a storage that records, and has recorded the keys of `trace` so far. The Rust function ends as the whole run. Unless memory ran out,
+-- the storage then has the keys of the whole run's accesses, whatever its end.
+abbrev pub EndsRecorded : {A G : Type 0} → Work → Result A HostErr → (A → Datum) → Host G → Host G → Type 0
+EndsRecorded work r view old new = old.ledger.storage.declared ≡ None → (rest : World) (trace : List Access) → old.ledger.storage.touched ≡ touches_of trace
+    → (let out = done_under all_allowed old.ledger.header.now (authority_of old) work (world_around rest old trace) in
+    IsEnd all_allowed old.ledger.storage.map out r view old new × UnlessMemory r (new.ledger.storage.touched ≡ touches_of (world_of out).trace))

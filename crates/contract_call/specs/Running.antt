@@ -12,10 +12,9 @@ use Rattle.call_spec.specs.Acts.{Act}
 use Rattle.call_spec.specs.Frames.{Entered}
 use Rattle.call_spec.specs.Outcomes.{Says}
 use Rattle.host_ledger.specs.Worlds.{address_of, copied, IsHeld}
-use Rattle.host_ledger.specs.Answered.{any}
 use Rattle.host_ledger.specs.Called.{Left}
 use Rattle.host_ledger.specs.declared.state.Running.{Running}
-use Rattle.contract_call.specs.Worlds.{world_in, ending, with_memory, IsEnvOf, MayRun}
+use Rattle.contract_call.specs.Worlds.{world_in, ending, with_memory, leaving_by, IsEnvOf, MayRun}
 use Rattle.contract_call.specs.declared.host.Host.{Host}
 
 -- what a frame starts with
@@ -55,9 +54,9 @@ pub record StaysIn {G : Type 0} (old new : Host G) : Type 0 where
 -- `RunsIn` for a frame that started with this instance
 abbrev pub DoesFrom : {A B G : Type 0} → Copied → Result A HostErr → (A → B) → (Env → Act B) → Host G → Host G → Type 0
 DoesFrom first r view act old new = (env : Env) → IsEnvOf env old → (rest : World) (trace : List Access) → rest.frame.first ≡ first
-    → (let out = act env (world_in rest old trace) in Says any r view out (world_in (ending rest out) new))
+    → (let out = act env (world_in rest old trace) in Says r view out (leaving_by old new trace (world_in (ending rest out) new)))
 
 -- `DoesIn` for a frame whose linear memory is `before` at the start and `after` at the end
 abbrev pub DoesOver : {A B G : Type 0} → List ℕ → List ℕ → Result A HostErr → (A → B) → (Env → Act B) → Host G → Host G → Type 0
 DoesOver before after r view act old new = (env : Env) → IsEnvOf env old → (rest : World) (trace : List Access) → rest.frame.memory ≡ before
-    → Says any r view (act env (world_in rest old trace)) (world_in (with_memory after rest) new)
+    → Says r view (act env (world_in rest old trace)) (leaving_by old new trace (world_in (with_memory after rest) new))

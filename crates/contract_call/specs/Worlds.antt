@@ -9,9 +9,9 @@ use Rattle.host_spec.specs.declared.error.HostErr.{HostErr}
 use Rattle.contract_storage.specs.Stored.{IsLater}
 use Rattle.call_spec.specs.World.{Access, Frame, World, Authority, Env}
 use Rattle.call_spec.specs.Acts.{Act, Out, world_of}
-use Rattle.call_spec.specs.Outcomes.{Says}
+use Rattle.call_spec.specs.Outcomes.{Leaves, Says}
+use Rattle.host_ledger.specs.Traced.{leaving}
 use Rattle.host_ledger.specs.Worlds.{world_at, IsEnv, IsReady}
-use Rattle.host_ledger.specs.Answered.{any}
 use Rattle.host_ledger.specs.declared.state.Running.{Running}
 use Rattle.contract_call.specs.declared.host.Host.{Host}
 use Rattle.contract_call.specs.declared.place.Place.{Place}
@@ -86,21 +86,25 @@ pub record IsEnvOf {G : Type 0} (env : Env) (h : Host G) : Type 0 where
 
 -- ---- acts
 
+-- what an act leaves after these accesses, while the host changes
+abbrev pub leaving_by : {G : Type 0} → Host G → Host G → List Access → (List Access → World) → Leaves
+leaving_by old new before world = leaving old.ledger.storage new.ledger.storage before world
+
 -- The Rust function returns what the act returns, and leaves the host that the act leaves. This holds for every environment of the host, every
 -- running frame and every earlier trace.
 abbrev pub DoesAround : {A B G : Type 0} → Result A HostErr → (A → B) → (Env → Act B) → Host G → Host G → Type 0
 DoesAround r view act old new = (env : Env) → IsEnvOf env old → (rest : World) (trace : List Access)
-    → Says any r view (act env (world_around rest old trace)) (world_around rest new)
+    → Says r view (act env (world_around rest old trace)) (leaving_by old new trace (world_around rest new))
 
 -- the same in the frame that runs
 abbrev pub DoesIn : {A B G : Type 0} → Result A HostErr → (A → B) → (Env → Act B) → Host G → Host G → Type 0
 DoesIn r view act old new = (env : Env) → IsEnvOf env old → (rest : World) (trace : List Access)
-    → Says any r view (act env (world_in rest old trace)) (world_in rest new)
+    → Says r view (act env (world_in rest old trace)) (leaving_by old new trace (world_in rest new))
 
 -- the same of an act that may write to the frame's linear memory
 abbrev pub RunsIn : {A B G : Type 0} → Result A HostErr → (A → B) → (Env → Act B) → Host G → Host G → Type 0
 RunsIn r view act old new = (env : Env) → IsEnvOf env old → (rest : World) (trace : List Access)
-    → (let out = act env (world_in rest old trace) in Says any r view out (world_in (ending rest out) new))
+    → (let out = act env (world_in rest old trace) in Says r view out (leaving_by old new trace (world_in (ending rest out) new)))
 
 -- ---- the state
 

@@ -508,7 +508,8 @@ fn create_below<G: Ground>(
     requires path { IsPathBelow path.items room }
     requires args { AreArgsHosted contract.args }
     ensures does { DoesAround result (λ id. id)
-        (λ env. creates_at env (opener_of env room) (option_map address_of creator) (creation_of contract) path.items) host.old host.new }
+        (λ env. creates_at env (opener_of env room) (option_map address_of creator)
+        (creation_of contract) path.items) host.old host.new }
     ensures stays { Stays host.old host.new }
 {
     match authorise(host, room, path.as_slice(), creator, &contract) {
@@ -530,7 +531,8 @@ fn authorise<G: Ground>(
     requires room { HasRoom room host.old }
     requires path { IsPathBelow path.now room }
     ensures does { DoesAround result (λ id. id)
-        (λ env. authorising env (opener_of env room) (option_map address_of creator) (creation_of contract.now) path.now) host.old host.new }
+        (λ env. authorising env (opener_of env room) (option_map address_of creator)
+        (creation_of contract.now) path.now) host.old host.new }
     ensures stays { Stays host.old host.new }
 {
     match paid_id(host, contract) {
@@ -563,7 +565,8 @@ fn build<G: Ground>(
     requires path { IsPathBelow path.items room }
     requires args { AreArgsHosted contract.args }
     ensures does { DoesAround result (λ id. id)
-        (λ env. builds_with env (opener_of env room) (option_map address_of creator) (creation_of contract) path.items id) host.old host.new }
+        (λ env. builds_with env (opener_of env room) (option_map address_of creator)
+        (creation_of contract) path.items id) host.old host.new }
     ensures stays { Stays host.old host.new }
 {
     match made(host, id, contract.code) {
@@ -643,7 +646,8 @@ fn auth_for_args_row<G: Ground>(
     requires path { HasRoom room host.old }
     requires arity { length words.now ≡ 2 }
     ensures does { DoesIn result answer_of
-        (λ env. answered (kinds.Address ∷ kinds.Vec ∷ []) (require_auth_for_args env (opener_of env room)) words.now) host.old host.new }
+        (λ env. answered (kinds.Address ∷ kinds.Vec ∷ [])
+        (require_auth_for_args env (opener_of env room)) words.now) host.old host.new }
     ensures made { IsMadeIfOk result }
     ensures stays { StaysIn host.old host.new }
 {

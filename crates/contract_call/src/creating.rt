@@ -11,7 +11,7 @@ ghost use Rattle.host_spec.specs.Hosted.{IsHosted, AreHosted};
 ghost use Rattle.host_spec.specs.declared.error.HostErr.TheVariants as ends;
 ghost use Rattle.host_frame.specs.Answered.{answer_of};
 ghost use Rattle.host_frame.specs.Made.{IsAnswerMade};
-ghost use Rattle.contract_storage.specs.Stored.{IsLater, HasBounds};
+ghost use Rattle.contract_storage.specs.Stored.{IsRead, IsLater, HasBounds};
 ghost use Rattle.call_spec.specs.World.{Env};
 ghost use Rattle.call_spec.specs.Creating.{function_of, CONSTRUCTOR};
 ghost use Rattle.host_ledger.specs.Accessed.{Accesses};
@@ -31,7 +31,7 @@ use call_parts::{find_code, load_module, make_instance, new_id, paid_module};
 use contract_storage::Storage;
 use entry_lookup::Ground;
 use host_frame::Answer;
-use host_ledger::{HostLedger, made_seq};
+use host_ledger::{HostLedger, code_key, end_of, made_seq};
 use host_spec::HostErr;
 use invoke_types::{CreateContractArgs, CreateContractArgsV2, Function, Preimage};
 use ledger_types::Settings;
@@ -127,13 +127,14 @@ pub(crate) fn create_function(alloc: Global, contract: &NewContract) -> Result<F
 /// Finds the code with a hash, and loads its module.
 fn sized_code<G: Ground>(
     alloc: Global,
-    storage: &Storage<'_, G>,
+    storage: &mut Storage<'_, G>,
     hash: Hash,
 ) -> Result<SizedCode, HostErr>
-    ensures { Accesses result sized (λ env. code_of env hash) storage.now storage.now }
+    ensures does { Accesses result sized (λ env. code_of env hash) storage.old storage.new }
+    ensures read { IsRead storage.old storage.new }
 {
     match find_code(storage, hash) {
-        Err(error) => Err(error),
+        Err(error) => Err(end_of(code_key(hash), error)),
         Ok(code) => match load_module(alloc, code) {
             Err(error) => Err(error),
             Ok(module) => Ok(SizedCode {
@@ -199,7 +200,8 @@ fn build_in<G: Ground>(
     code: Hash,
 ) -> Result<LinkedModule, HostErr>
     requires ready { IsReady ledger.old }
-    ensures does { Steps result (λ m. m) (λ env. building env id code) ledger.old.storage ledger.new.storage ledger.old.budget ledger.new.budget }
+    ensures does { Steps result (λ m. m)
+        (λ env. building env id code) ledger.old.storage ledger.new.storage ledger.old.budget ledger.new.budget }
     ensures later { IsLater ledger.old.storage ledger.new.storage }
     ensures kept { ledger.new ≡ record ledger.old { storage = ledger.new.storage; budget = ledger.new.budget } }
 {

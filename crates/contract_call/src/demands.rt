@@ -9,7 +9,7 @@ ghost use Rattle.host_spec.specs.declared.error.HostErr.TheVariants as ends;
 ghost use Rattle.contract_storage.specs.Stored.{IsLater};
 ghost use Rattle.call_spec.specs.World.{World, Env};
 ghost use Rattle.call_spec.specs.Outcomes.{Says};
-ghost use Rattle.host_ledger.specs.Answered.{any};
+ghost use Rattle.host_ledger.specs.Traced.{leaving};
 ghost use Rattle.host_ledger.specs.Worlds.{address_of, IsEnv, IsReady};
 ghost use Rattle.auth_parts.specs.Asked.{asks_first};
 ghost use Rattle.auth_parts.specs.Views.{asked, IsAskedHosted};
@@ -65,7 +65,8 @@ pub(crate) fn call_with<G: Ground>(
 
 /// The running frame's function with its own arguments. Its only error is memory.
 pub(crate) fn own_call<G: Ground>(host: &Host<'_, G>) -> Result<Function, HostErr>
-    ensures ok { IfOk result (λ f. f ≡ called host.now.ledger.frame.contract host.now.place.function.items (datums host.now.place.args.items)) }
+    ensures ok { IfOk result (λ f. f ≡ called host.now.ledger.frame.contract host.now.place.function.items
+        (datums host.now.place.args.items)) }
     ensures memory { IfErr result (λ e. e ≡ ends.NoMemory) }
 {
     match clone_args(host.allocator(), host.place.args.as_slice()) {
@@ -84,8 +85,9 @@ fn ask_in<G: Ground>(
     requires fits { auth_entry_format.fits entry.now }
     ensures does { (env : Env) → IsEnv env ledger.old → env.authority.verdicts ≡ verdicts.now → (w : World)
         → w.entries ≡ ledger.old.storage.map → w.meter ≡ ledger.old.budget
-        → Says any result asked (asks_first env entry.now w)
-        (λ trace. record w { entries = ledger.new.storage.map; trace = trace; meter = ledger.new.budget }) }
+        → Says result asked (asks_first env entry.now w)
+        (leaving ledger.old.storage ledger.new.storage w.trace
+        (λ trace. record w { entries = ledger.new.storage.map; trace = trace; meter = ledger.new.budget })) }
     ensures hosted { IfOk result IsAskedHosted }
     ensures later { IsLater ledger.old.storage ledger.new.storage }
     ensures kept { ledger.new ≡ record ledger.old { storage = ledger.new.storage; budget = ledger.new.budget } }

@@ -8,8 +8,8 @@ ghost use Rattle.object_store.specs.Shown.{shown_of, AreIndices};
 ghost use Rattle.contract_storage.specs.Stored.{IsLater};
 ghost use Rattle.call_spec.specs.World.{World, Env};
 ghost use Rattle.call_spec.specs.Frames.{is_same as is_same_copy, writes_if, writes_instance, finished};
-ghost use Rattle.call_spec.specs.Outcomes.{Says};
-ghost use Rattle.host_ledger.specs.Answered.{any};
+ghost use Rattle.call_spec.specs.Outcomes.{quiet, Says};
+ghost use Rattle.host_ledger.specs.Traced.{leaving};
 ghost use Rattle.host_ledger.specs.Worlds.{Serves, IsHeld, copied};
 ghost use Rattle.contract_call.specs.Framed.{argument_words};
 
@@ -34,8 +34,8 @@ pub(crate) fn argument_words(
     requires made { AreMade (datums args.items) }
     requires indices { AreIndices objects.old shown.old }
     ensures does { (w : World) → w.frame.shown ≡ shown_of objects.old shown.old → w.meter ≡ budget.old
-        → Says any result (λ words. words.items) (argument_words «module».now.memories (datums args.items) w)
-        (λ trace. record w { frame = record w.frame { shown = shown_of objects.new shown.new }; trace = trace; meter = budget.new }) }
+        → Says result (λ words. words.items) (argument_words «module».now.memories (datums args.items) w)
+        (quiet w (λ trace. record w { frame = record w.frame { shown = shown_of objects.new shown.new }; trace = trace; meter = budget.new })) }
     ensures count { IfOk result (λ words. length words.items ≡ length (datums args.items)) }
     ensures indices { AreIndices objects.new shown.new }
 {
@@ -58,8 +58,9 @@ fn write_if_changed<G: Ground>(
     requires number { storage.old.n ≡ n }
     ensures does { (env : Env) → Serves env storage.old → (w : World) → w.entries ≡ storage.old.map → w.meter ≡ budget.old
         → w.frame.contract ≡ contract → w.frame.first ≡ copied first.now → w.frame.copy ≡ copied copy.now
-        → Says any result (λ u. u) (writes_instance env w)
-        (λ trace. record w { entries = storage.new.map; trace = trace; meter = budget.new }) }
+        → Says result (λ u. u) (writes_instance env w)
+        (leaving storage.old storage.new w.trace
+        (λ trace. record w { entries = storage.new.map; trace = trace; meter = budget.new })) }
     ensures later { IsLater storage.old storage.new }
 {
     if is_same(first, copy) {
@@ -84,8 +85,9 @@ pub(crate) fn finish<G: Ground>(
     ensures does { (env : Env) → Serves env storage.old → (w : World) → w.entries ≡ storage.old.map → w.meter ≡ budget.old
         → w.frame.shown ≡ shown_of objects.now frame.now.shown → w.frame.contract ≡ frame.now.contract
         → w.frame.first ≡ copied first.now → w.frame.copy ≡ copied frame.now.copy
-        → Says any result datum (finished env word w)
-        (λ trace. record w { entries = storage.new.map; trace = trace; meter = budget.new }) }
+        → Says result datum (finished env word w)
+        (leaving storage.old storage.new w.trace
+        (λ trace. record w { entries = storage.new.map; trace = trace; meter = budget.new })) }
     ensures hosted { IfOk result (λ value. IsHosted (datum value)) }
     ensures later { IsLater storage.old storage.new }
 {

@@ -4,8 +4,9 @@
 //!    function it is, or makes the call itself, and the instance goes on with the word. So a call runs above its caller's frame,
 //!    and a cycle of functions carries them, at most 64 frames deep. A demand of authorisation is part of the cycle: a contract
 //!    that is asked runs in a frame of its own.
-//! 2. The clauses compare a function with an act of call_spec, from every world that the host's state shows: end, value, trace of
-//!    accesses, entries, events, used authorisations and sums. What the state does not hold is the same in both worlds.
+//! 2. The clauses compare a function with an act of call_spec, from every world that the host's state shows: end, value, entries,
+//!    events, used authorisations, sums, and the touched keys if the storage records. What the state does not hold is the same in
+//!    both worlds.
 //!
 //!    | clause | the running frame |
 //!    |---|---|

@@ -17,10 +17,11 @@ ghost use Rattle.call_spec.specs.Acts.{Act, after, lift};
 ghost use Rattle.call_spec.specs.Creating.{uploads, upload_wasm};
 ghost use Rattle.call_spec.specs.Frames.{Opener};
 ghost use Rattle.call_spec.specs.HostFunctions.{host_function};
-ghost use Rattle.call_spec.specs.Outcomes.{Says};
+ghost use Rattle.call_spec.specs.Outcomes.{Says, quiet};
+ghost use Rattle.host_ledger.specs.Traced.{leaving};
 ghost use Rattle.call_spec.specs.Rules.{answered, returning};
 ghost use Rattle.host_ledger.specs.Accessed.{Runs};
-ghost use Rattle.host_ledger.specs.Answered.{Answers, IsMadeIfOk, any};
+ghost use Rattle.host_ledger.specs.Answered.{Answers, IsMadeIfOk};
 ghost use Rattle.host_ledger.specs.Called.{is_over_ledger};
 ghost use Rattle.host_ledger.specs.Worlds.{address_of, world_at, IsReady};
 ghost use Rattle.host_values.specs.Called.{IsValueCall};
@@ -53,8 +54,8 @@ fn value_in<G: Ground>(
     requires indices { AreIndices ledger.old.objects ledger.old.frame.shown }
     requires memory { IsMemory memory.old }
     ensures does { (env : Env) (opener : Opener) (rest : World) (trace : List Access) → rest.frame.memory ≡ memory.old
-        → Says any result (λ word. word) (host_function env opener «import» words.now (world_at rest ledger.old trace))
-        (world_at (with_memory memory.new rest) ledger.new) }
+        → Says result (λ word. word) (host_function env opener «import» words.now (world_at rest ledger.old trace))
+        (leaving ledger.old.storage ledger.new.storage trace (world_at (with_memory memory.new rest) ledger.new)) }
     ensures indices { AreIndices ledger.new.objects ledger.new.frame.shown }
     ensures kept { ledger.new ≡ record ledger.old { objects = ledger.new.objects; budget = ledger.new.budget; frame = record ledger.old.frame { shown = ledger.new.frame.shown } } }
 {
@@ -110,8 +111,8 @@ fn show<G: Ground>(ledger: &mut HostLedger<'_, G>, answer: Answer) -> Result<u64
     requires made { IsAnswerMade (answer_of answer) }
     requires indices { AreIndices ledger.old.objects ledger.old.frame.shown }
     ensures does { (rest : World) (trace : List Access)
-        → Says any result (λ word. word) (lift (given (answer_of answer)) (world_at rest ledger.old trace))
-        (world_at rest ledger.new) }
+        → Says result (λ word. word) (lift (given (answer_of answer)) (world_at rest ledger.old trace))
+        (quiet (world_at rest ledger.old trace) (world_at rest ledger.new)) }
     ensures indices { AreIndices ledger.new.objects ledger.new.frame.shown }
     ensures kept { ledger.new ≡ record ledger.old { objects = ledger.new.objects; budget = ledger.new.budget; frame = record ledger.old.frame { shown = ledger.new.frame.shown } } }
 {

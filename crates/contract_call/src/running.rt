@@ -7,8 +7,8 @@ ghost use Rattle.host_frame.specs.Made.{AreMade};
 ghost use Rattle.object_store.specs.Shown.{shown_of, AreIndices};
 ghost use Rattle.contract_storage.specs.Stored.{IsLater};
 ghost use Rattle.call_spec.specs.World.{World, Env};
-ghost use Rattle.call_spec.specs.Outcomes.{Says};
-ghost use Rattle.host_ledger.specs.Answered.{any};
+ghost use Rattle.call_spec.specs.Outcomes.{quiet, Says};
+ghost use Rattle.host_ledger.specs.Traced.{leaving};
 ghost use Rattle.call_spec.specs.Frames.{finished};
 ghost use Rattle.host_ledger.specs.Worlds.{IsReady, IsHeld, Serves, copied};
 ghost use Rattle.contract_call.specs.Worlds.{DoesIn, MayRun};
@@ -56,8 +56,8 @@ fn begin_in<G: Ground>(
     requires made { AreMade (datums args.items) }
     requires ready { IsReady ledger.old }
     ensures does { (w : World) → w.frame.shown ≡ shown_of ledger.old.objects ledger.old.frame.shown → w.meter ≡ ledger.old.budget
-        → Says any result (λ words. words.items) (argument_words_in «module».now.memories (datums args.items) w)
-        (λ trace. record w { frame = record w.frame { shown = shown_of ledger.new.objects ledger.new.frame.shown }; trace = trace; meter = ledger.new.budget }) }
+        → Says result (λ words. words.items) (argument_words_in «module».now.memories (datums args.items) w)
+        (quiet w (λ trace. record w { frame = record w.frame { shown = shown_of ledger.new.objects ledger.new.frame.shown }; trace = trace; meter = ledger.new.budget })) }
     ensures count { IfOk result (λ words. length words.items ≡ length (datums args.items)) }
     ensures indices { AreIndices ledger.new.objects ledger.new.frame.shown }
     ensures stays { ledger.new ≡ record ledger.old { objects = ledger.new.objects; frame = record ledger.old.frame { shown = ledger.new.frame.shown }; budget = ledger.new.budget } }
@@ -106,8 +106,9 @@ fn end_in<G: Ground>(
         → w.meter ≡ ledger.old.budget
         → w.frame.shown ≡ shown_of ledger.old.objects ledger.old.frame.shown → w.frame.contract ≡ ledger.old.frame.contract
         → w.frame.first ≡ copied first.now → w.frame.copy ≡ copied ledger.old.frame.copy
-        → Says any result datum (finished env word w)
-        (λ trace. record w { entries = ledger.new.storage.map; trace = trace; meter = ledger.new.budget }) }
+        → Says result datum (finished env word w)
+        (leaving ledger.old.storage ledger.new.storage w.trace
+        (λ trace. record w { entries = ledger.new.storage.map; trace = trace; meter = ledger.new.budget })) }
     ensures hosted { IfOk result (λ value. IsHosted (datum value)) }
     ensures later { IsLater ledger.old.storage ledger.new.storage }
     ensures stays { ledger.new ≡ record ledger.old { storage = ledger.new.storage; budget = ledger.new.budget } }

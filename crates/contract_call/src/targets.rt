@@ -4,12 +4,13 @@ ghost use Rattle.std.specs.Prelude.{◌≡◌, Option, Some, None, IfOk, reverse
 ghost use Rattle.std.specs.List.{list_any};
 ghost use Rattle.std.specs.Str.{bytes_eq};
 ghost use Rattle.value_types.specs.declared.address.ScAddress.TheVariants as addresses;
+ghost use Rattle.contract_storage.specs.Stored.{IsRead};
 ghost use Rattle.call_spec.specs.World.{World, Env};
 ghost use Rattle.call_spec.specs.Acts.{after, gives};
 ghost use Rattle.call_spec.specs.Calling.{is_reserved as is_reserved_in};
-ghost use Rattle.call_spec.specs.Outcomes.{Says};
+ghost use Rattle.call_spec.specs.Outcomes.{quiet, Says};
+ghost use Rattle.host_ledger.specs.Traced.{leaving};
 ghost use Rattle.call_parts.specs.Steps.{Steps};
-ghost use Rattle.host_ledger.specs.Answered.{any};
 ghost use Rattle.host_ledger.specs.Worlds.{Serves, IsHeld, copied};
 ghost use Rattle.contract_call.specs.Worlds.{DoesAround, MayRun, Stays};
 ghost use Rattle.contract_call.specs.Targets.{may_name as may_name_in, tests, target, module_at, target_at as target_at_in, target_of as target_of_in};
@@ -70,7 +71,7 @@ fn is_running(open: &[Hash], contract: Hash) -> bool
 /// The contract at the address, if its function may be called now. `named` says whether the caller may call a function of its name.
 fn admitted(open: &[Hash], address: ScAddress, named: bool) -> Result<Hash, HostErr>
     ensures { (w : World) → w.contracts ≡ reverse open.now
-        → Says any result (λ c. c) (tests named address (λ c. gives c) w) (λ trace. w) }
+        → Says result (λ c. c) (tests named address (λ c. gives c) w) (quiet w (λ trace. w)) }
 {
     let ScAddress::Contract(contract) = address else {
         return Err(OTHER_TYPE);
@@ -87,15 +88,16 @@ fn admitted(open: &[Hash], address: ScAddress, named: bool) -> Result<Hash, Host
 /// Finds the module of the code of a contract's instance.
 fn with_module<G: Ground>(
     alloc: Global,
-    storage: &Storage<'_, G>,
+    storage: &mut Storage<'_, G>,
     budget: &mut Budget,
     contract: Hash,
     copy: InstanceCopy,
 ) -> Result<Target, HostErr>
     requires { IsHeld copy.storage }
     ensures does { Steps result target (λ env. after (module_at env copy.code)
-        (λ m. gives (record { contract = contract; instance = copied copy; module_ = m }))) storage.now storage.now budget.old budget.new }
+        (λ m. gives (record { contract = contract; instance = copied copy; module_ = m }))) storage.old storage.new budget.old budget.new }
     ensures held { IfOk result (λ t. IsHeld t.copy.storage) }
+    ensures read { IsRead storage.old storage.new }
 {
     match call_module(alloc, storage, budget, copy.code) {
         Ok(module) => Ok(Target {
@@ -110,12 +112,13 @@ fn with_module<G: Ground>(
 /// Finds the instance of a contract, and the module of its code.
 fn target_at<G: Ground>(
     alloc: Global,
-    storage: &Storage<'_, G>,
+    storage: &mut Storage<'_, G>,
     budget: &mut Budget,
     contract: Hash,
 ) -> Result<Target, HostErr>
-    ensures does { Steps result target (λ env. target_at_in env contract) storage.now storage.now budget.old budget.new }
+    ensures does { Steps result target (λ env. target_at_in env contract) storage.old storage.new budget.old budget.new }
     ensures held { IfOk result (λ t. IsHeld t.copy.storage) }
+    ensures read { IsRead storage.old storage.new }
 {
     match find_instance(storage, budget, contract) {
         Ok(copy) => with_module(alloc, storage, budget, contract, copy),
@@ -127,16 +130,18 @@ fn target_at<G: Ground>(
 pub(crate) fn target_of<G: Ground>(
     alloc: Global,
     open: &[Hash],
-    storage: &Storage<'_, G>,
+    storage: &mut Storage<'_, G>,
     budget: &mut Budget,
     address: ScAddress,
     named: bool,
 ) -> Result<Target, HostErr>
-    ensures does { (env : Env) → Serves env storage.now → (w : World) → w.entries ≡ storage.now.map → w.meter ≡ budget.old
+    ensures does { (env : Env) → Serves env storage.old → (w : World) → w.entries ≡ storage.old.map → w.meter ≡ budget.old
         → w.contracts ≡ reverse open.now
-        → Says any result target (target_of_in named address env w)
-        (λ trace. record w { trace = trace; meter = budget.new }) }
+        → Says result target (target_of_in named address env w)
+        (leaving storage.old storage.new w.trace
+        (λ trace. record w { entries = storage.new.map; trace = trace; meter = budget.new })) }
     ensures held { IfOk result (λ t. IsHeld t.copy.storage) }
+    ensures read { IsRead storage.old storage.new }
 {
     match admitted(open, address, named) {
         Ok(contract) => target_at(alloc, storage, budget, contract),
@@ -153,15 +158,17 @@ fn target_in<G: Ground>(
 ) -> Result<Target, HostErr>
     ensures does { (env : Env) → Serves env ledger.old.storage → (w : World) → w.entries ≡ ledger.old.storage.map
         → w.meter ≡ ledger.old.budget → w.contracts ≡ reverse open.now
-        → Says any result target (target_of_in named contract env w)
-        (λ trace. record w { trace = trace; meter = ledger.new.budget }) }
+        → Says result target (target_of_in named contract env w)
+        (leaving ledger.old.storage ledger.new.storage w.trace
+        (λ trace. record w { entries = ledger.new.storage.map; trace = trace; meter = ledger.new.budget })) }
     ensures held { IfOk result (λ t. IsHeld t.copy.storage) }
-    ensures stays { ledger.new ≡ record ledger.old { budget = ledger.new.budget } }
+    ensures read { IsRead ledger.old.storage ledger.new.storage }
+    ensures stays { ledger.new ≡ record ledger.old { storage = ledger.new.storage; budget = ledger.new.budget } }
 {
     target_of(
         ledger.objects.allocator(),
         open,
-        &ledger.storage,
+        &mut ledger.storage,
         &mut ledger.budget,
         contract,
         named,

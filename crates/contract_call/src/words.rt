@@ -12,10 +12,9 @@ ghost use Rattle.call_spec.specs.World.{World, Env};
 ghost use Rattle.call_spec.specs.Acts.{gives};
 ghost use Rattle.call_spec.specs.Creating.{only_hash, creates_by, create_contract, create_contract_with_constructor};
 ghost use Rattle.call_spec.specs.Frames.{Opener};
-ghost use Rattle.call_spec.specs.Outcomes.{Says};
+ghost use Rattle.call_spec.specs.Outcomes.{quiet, Says};
 ghost use Rattle.call_spec.specs.Rules.{Rule, answered};
 ghost use Rattle.object_store.specs.Shown.{shown_of, AreIndices};
-ghost use Rattle.host_ledger.specs.Answered.{any};
 ghost use Rattle.contract_call.specs.Creations.{creation_of, args_of, AreArgsHosted};
 ghost use Rattle.contract_call.specs.Worlds.{MayRun};
 ghost use Rattle.contract_call.specs.Running.{StaysIn};
@@ -84,7 +83,7 @@ pub(crate) fn call_args(
 
 /// The hash with these bytes, if there are 32.
 fn hash_of(bytes: &[u8]) -> Result<Hash, HostErr>
-    ensures { (w : World) → Says any result (λ h. h) (only_hash bytes.now (λ h. gives h) w) (λ trace. w) }
+    ensures { (w : World) → Says result (λ h. h) (only_hash bytes.now (λ h. gives h) w) (quiet w (λ trace. w)) }
 {
     let mut hash = Hash([0; 32]);
     if bytes.len() != 32 {

@@ -14,7 +14,7 @@ ghost use Rattle.host_ledger.specs.Worlds.{IsReady};
 ghost use Rattle.call_spec.specs.WholeRuns.{calling, uploading, creating, done_under};
 ghost use Rattle.contract_call.specs.Worlds.{DoesAround, MayRun};
 ghost use Rattle.contract_call.specs.Creations.{creation_of, AreArgsHosted};
-ghost use Rattle.contract_call.specs.Ended.{Ends};
+ghost use Rattle.contract_call.specs.Ended.{Ends, EndsRecorded};
 ghost use Rattle.contract_call.specs.Placed.{HasRoom};
 
 use crate::calls;
@@ -44,8 +44,10 @@ pub fn invoke<G: Ground>(
     requires path { HasRoom 64 host.old }
     requires args { AreHosted (datums args.items) }
     ensures does { DoesAround result datum
-        (λ env. done_under env.judge env.header env.authority (calling contract function.now (datums args.items))) host.old host.new }
+        (λ env. done_under env.judge env.header env.authority
+        (calling contract function.now (datums args.items))) host.old host.new }
     ensures ends { Ends (calling contract function.now (datums args.items)) result datum host.old host.new }
+    ensures recorded { EndsRecorded (calling contract function.now (datums args.items)) result datum host.old host.new }
     ensures base { host.new.ledger.storage.base ≡ host.old.ledger.storage.base }
     ensures hosted { IfOk result (λ value. IsHosted (datum value)) }
 {
@@ -89,6 +91,7 @@ pub fn upload<G: Ground>(host: &mut Host<'_, G>, code: &[u8]) -> Result<Hash, Ho
     ensures does { DoesAround result (λ hash. bytes hash.0)
         (λ env. done_under env.judge env.header env.authority (uploading code.now)) host.old host.new }
     ensures ends { Ends (uploading code.now) result (λ hash. bytes hash.0) host.old host.new }
+    ensures recorded { EndsRecorded (uploading code.now) result (λ hash. bytes hash.0) host.old host.new }
     ensures base { host.new.ledger.storage.base ≡ host.old.ledger.storage.base }
 {
     let mark = host.mark();
@@ -116,6 +119,8 @@ pub fn create<G: Ground>(host: &mut Host<'_, G>, contract: NewContract) -> Resul
     ensures does { DoesAround result (λ id. address_datum (addresses.Contract id))
         (λ env. done_under env.judge env.header env.authority (creating (creation_of contract))) host.old host.new }
     ensures ends { Ends (creating (creation_of contract)) result (λ id. address_datum (addresses.Contract id)) host.old host.new }
+    ensures recorded { EndsRecorded (creating (creation_of contract)) result
+        (λ id. address_datum (addresses.Contract id)) host.old host.new }
     ensures base { host.new.ledger.storage.base ≡ host.old.ledger.storage.base }
 {
     let mark = host.mark();

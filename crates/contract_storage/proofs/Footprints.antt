@@ -18,7 +18,7 @@ use Rattle.contract_storage.specs.declared.access.Access.TheVariants.{Read, Exte
 use Rattle.contract_storage.proofs.Laying.{lookup_put}
 
 -- two keys with XDR bytes tie if their bytes are the same
-ties : (key k : LedgerKey) → key_format.fits key → key_format.fits k → is_at (key_cmp key) k ≡ bytes_eq (key_bytes key) (key_bytes k)
+pub ties : (key k : LedgerKey) → key_format.fits key → key_format.fits k → is_at (key_cmp key) k ≡ bytes_eq (key_bytes key) (key_bytes k)
 ties key k f g = is_eq-slice_cmp (ranked_key key) (ranked_key k) ∙ ap₂ bytes_eq (key_ranked key f) (key_ranked k g)
 
 either : (a b : Bool) (w : Bool) (l : Option Bool) → cond b (Some w) (cond a (Some w) l) ≡ cond (a || b) (Some w) l

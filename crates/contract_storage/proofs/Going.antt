@@ -1,7 +1,7 @@
 -- States of a storage one after another.
 use Rattle.std.proofs.Common.{◌≡◌, ℕ, suc, ◌+◌, List, [], ◌∷◌, ◌++◌, length, take, refl, ap, ap₂, ◌∙◌, arith, append_assoc}
 use Rattle.ledger_spec.specs.LedgerMap.{LedgerMap}
-use Rattle.contract_storage.specs.Stored.{Stored, with_history, history, IsLater, IsRestored}
+use Rattle.contract_storage.specs.Stored.{Stored, with_history, with_maps, with_touched, history, IsLater, IsRestored}
 
 -- a list that ends in one more element
 record SameEnd (xs ys : List LedgerMap) (x y : LedgerMap) : Type 0 where
@@ -26,12 +26,12 @@ take_front (y ∷ xs) x more =
     let n : length (y ∷ xs) + 1 ≡ suc (length xs + 1) = omega arith in
     ap (λ (k : ℕ). take k (((y ∷ xs) ++ x ∷ []) ++ more)) n ∙ ap (λ (r : List LedgerMap). y ∷ r) (take_front xs x more)
 
-pub goes_back : (start later back : Stored) → IsLater start later → IsRestored (length start.past) later back → back ≡ start
+pub goes_back : (start later back : Stored) → IsLater start later → IsRestored (length start.past) later back → back ≡ with_touched start later.touched
 goes_back start later back l r =
     let h : history back ≡ history start = r.back ∙ ap (take (length start.past + 1)) l.later.1 ∙ take_front start.past start.map l.later.0 in
     let s = same_end back.past start.past back.map start.map h in
-    r.same ∙ ap (λ (x : Stored). with_history x back) l.same
-    ∙ ap₂ (λ (m : LedgerMap) (p : List LedgerMap). record start { map = m; past = p }) s.last s.front
+    r.same ∙ ap (λ (x : Stored). with_maps x back) l.same
+    ∙ ap₂ (λ (m : LedgerMap) (p : List LedgerMap). record (with_touched start later.touched) { map = m; past = p }) s.last s.front
 
 pub again : (s t u : Stored) → IsLater s t → IsLater t u → IsLater s u
 again s t u a b = record {

@@ -10,7 +10,7 @@ use Rattle.std.specs.declared.cmp.Ordering.TheVariants.{Less, Equal, Greater}
 use Rattle.std.specs.Ordering.{nat_cmp, is_eq, eq_by_cmp, match_ordering}
 use Rattle.std.specs.Cmp.Lexicographic.{slice_cmp, nat_list_cmp_total}
 use Rattle.std.specs.FinMap.{get, insert, get-insert, get-remove, same_map, slice_cmp-IsAntisymmetric, nat_cmp-IsAntisymmetric, IsAntisymmetric}
-use Rattle.std.proofs.Common.{◌≡◌, ℕ, suc, ◌+◌, ◌≤◌, Bool, true, false, List, [], ◌∷◌, ◌++◌, length, take, Option, Some, None, Result, Ok, Err, OnOk, OnErr, refl, sym, ap, ap₂, subst, ◌∙◌, arith}
+use Rattle.std.proofs.Common.{◌≡◌, ℕ, suc, ◌+◌, ◌≤◌, Bool, true, false, List, [], ◌∷◌, ◌++◌, length, take, Option, Some, None, refl, sym, ap, ap₂, subst, ◌∙◌, arith}
 use Rattle.std.proofs.lemmas.Cmp.{tied_itself}
 use Rattle.std.proofs.lemmas.List.{take-append-le}
 use Rattle.ledger_types.specs.Key.{key_format}
@@ -244,15 +244,6 @@ all_less es (v ∷ vs) u h = let r = all_less es vs u h.1 in ((h.0, r.0), r.1)
 pub all_wrote : (es : List (LedgerKey × Overlay)) (us : List Undo) (k : LedgerKey) (c b : Overlay) → AllByRecursion (IsThere es) us → AllByRecursion (IsThere (insert_entry key_cmp es k c)) (us ++ record { key = k; before = b } ∷ [])
 all_wrote es us k c b h = all_more (insert_entry key_cmp es k c) us (record { key = k; before = b }) (all_still k c es us h) (there_new k c es b)
 
--- what an insert at a key that is there gives
-pub went : {A E : Type 0} (r : Result A E) (o : Option Overlay) (P : Type 0) → OnErr r (o ≡ None) → is_some o ≡ true → OnOk r P → P
-went (Ok x) o P h i p = p
-went (Err e) o P h i p = absurd (none o h i)
-  where
-    none : (x : Option Overlay) → x ≡ None → is_some x ≡ true → ⊥
-    none None a b = cc
-    none (Some c) a b = cc
-
 -- ---- the same with names for what the code has
 
 pub wrote_as : (g : LedgerMap) (es fs : List (LedgerKey × Overlay)) (us ws : List Undo) (k named again : LedgerKey) (now : Option (Box Kept)) (c b : Overlay) (o : Option Overlay) → key_format.fits k
@@ -270,9 +261,6 @@ pub one_less : (es fs : List (LedgerKey × Overlay)) (us vs : List Undo) (u : Un
     → (m : LedgerMap) → take (mark + 1) (history (layered m fs vs)) ≡ take (mark + 1) (history (layered m es us))
 one_less es fs us vs u mark e le is m = ap (λ (x : List (LedgerKey × Overlay)). take (mark + 1) (history (layered m x vs))) is ∙ taken_back m es us vs u mark e le
 
-pub there_less : (es fs : List (LedgerKey × Overlay)) (us vs : List Undo) (u : Undo) → us ≡ vs ++ u ∷ [] → fs ≡ insert_entry key_cmp es u.key u.before → AllByRecursion (IsThere es) us → AllByRecursion (IsThere fs) vs
-there_less es fs us vs u e is h = rw is (all_still u.key u.before es vs (all_less es vs u (subst (AllByRecursion (IsThere es)) e h)).0)
-
 -- a change to what is there is none
 pub put_again : (m : LedgerMap) (k : List ℕ) (v : Kept) → get m k ≡ Some v → insert m k v ≡ m
 put_again m k v e =
@@ -284,15 +272,9 @@ put_again m k v e =
       | Greater ↦ λ p. refl
     ] refl)
 
--- a look-up over_entry an insertion
+-- a look-up over an insertion
 pub lookup_put : {X : Type 0} (q k : LedgerKey) (v : X) (es : List (LedgerKey × X))
     → lookup (is_at (key_cmp q)) (insert_entry key_cmp es k v) ≡ cond (is_at (key_cmp q) k) (Some v) (lookup (is_at (key_cmp q)) es)
 lookup_put {X} q k v es =
     at_lookup q (insert_entry key_cmp es k v) ∙ at_inserted k v es (ranked_key q)
     ∙ ap (λ (o : Option X). cond (is_at (key_cmp q) k) (Some v) o) (sym (at_lookup q es))
-
--- two keys that are as a third are as one another
-pub alike : (key k t : LedgerKey) → is_at (key_cmp key) t ≡ true → is_at (key_cmp key) k ≡ true → is_at (key_cmp k) t ≡ true
-alike key k t a b =
-    let same : ranked_key k ≡ ranked_key t = sym (antisymmetric (ranked_key key) (ranked_key k) (equal_from (order (ranked_key key) (ranked_key k)) b)) ∙ antisymmetric (ranked_key key) (ranked_key t) (equal_from (order (ranked_key key) (ranked_key t)) a) in
-    ap is_eq (ap (order (ranked_key k)) (sym same) ∙ tied_itself nat_list_cmp_total (ranked_key k))

@@ -4,3 +4,5 @@ pub mod Changing
 pub mod Doing
 pub mod Footprints
 pub mod Going
+pub mod Calling
+pub mod Touching

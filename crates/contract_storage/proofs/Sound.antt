@@ -75,9 +75,6 @@ fewer : {X : Type 0} (P : X → Type 0) (xs : List X) (x : X) → AllByRecursion
 fewer P [] x h = (tt, h.0)
 fewer P (y ∷ xs) x h = let r = fewer P xs x h.1 in ((h.0, r.0), r.1)
 
-pub sound_none : IsSound [] []
-sound_none = record { there = tt; laid = tt; earlier = tt }
-
 wrote_here : (es : List (LedgerKey × Overlay)) (us : List Undo) (k : LedgerKey) (now : Option (Box Kept)) (o : Option Overlay) → IsSound es us → key_format.fits k
     → IfSome now (λ kept. IsKeptAt (key_bytes k) kept.value) → o ≡ lookup (is_at (key_cmp k)) es
     → IsSound (insert_entry key_cmp es k (overlay_of now)) (us ++ record { key = k; before = or_same o } ∷ [])

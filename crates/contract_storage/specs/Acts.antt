@@ -1,5 +1,5 @@
 -- What the calls of a storage return and do (own, after CAP-0046-05 and CAP-0046-12).
-use Rattle.std.specs.Prelude.{◌≡◌, ℕ, List, Bool, true, false, Option, Some, None, Result, Ok, Err, IsTrue, is_ok, nat_lt, if◌then◌else◌}
+use Rattle.std.specs.Prelude.{◌≡◌, ℕ, List, Bool, true, false, Option, Some, None, Result, Ok, Err, IsTrue, is_ok, is_some, nat_lt, if◌then◌else◌}
 use Rattle.std.specs.Option.{option_map}
 use Rattle.std.specs.Borrow.{Bor}
 use Rattle.value_types.specs.declared.error.ScError.TheVariants as scerr
@@ -12,9 +12,10 @@ use Rattle.ledger_spec.specs.LedgerMap.{LedgerMap, IsKeptAt}
 use Rattle.ledger_spec.specs.Seen.{Seen, live, absent, archived, seen, seen_of}
 use Rattle.ledger_spec.specs.Changes.{put, delete, make, extend, first_life, Unextended, backward, missing, too_far, in_archive}
 use Rattle.entry_lookup.specs.Found.{kept_of}
-use Rattle.contract_storage.specs.Footprint.{allows}
-use Rattle.contract_storage.specs.Stored.{Stored, IsLater}
+use Rattle.contract_storage.specs.Touched.{admits, noted}
+use Rattle.contract_storage.specs.Stored.{Stored, IsLater, IsRead}
 use Rattle.entry_lookup.specs.declared.ground.Found.{Found}
+use Rattle.contract_storage.specs.declared.touched.Touch.{Touch}
 use Rattle.contract_storage.specs.declared.access.Access.{Access}
 use Rattle.contract_storage.specs.declared.access.Access.TheVariants.{Read, Extend, Write}
 use Rattle.contract_storage.specs.declared.access.StoErr.{StoErr}
@@ -24,7 +25,7 @@ use Rattle.contract_storage.specs.declared.sight.Sight.TheVariants as sights
 
 -- ---- acts
 
--- what a call returns, and the map afterwards
+-- what an access that is allowed returns, and the map afterwards
 abbrev pub Act : Type 0 → Type 0
 Act A = Stored → Result A StoErr × LedgerMap
 
@@ -32,19 +33,11 @@ Act A = Stored → Result A StoErr × LedgerMap
 abbrev pub returns : {A : Type 0} → Result A StoErr → Act A
 returns result s = (result, s.map)
 
--- The footprint decides first. The map is not looked at if it does not allow the access.
-abbrev pub judged : {A : Type 0} → Access → LedgerKey → Act A → Act A
-judged access key act s = if allows s.declared access key then act s else returns (Err err.Undeclared) s
-
 -- whether a live entry was found
 abbrev pub had : Seen → Result Bool StoErr
 had (live kept) = Ok true
 had absent = Ok false
 had archived = Err err.Archived
-
--- `has`: a Read
-abbrev pub has_act : LedgerKey → Act Bool
-has_act key = judged Read key (λ s. returns (had (seen s.n s.map key)) s)
 
 -- the live entry that was found
 abbrev pub got : Seen → Result LedgerEntry StoErr
@@ -52,31 +45,27 @@ got (live kept) = Ok kept.entry
 got absent = Err err.Missing
 got archived = Err err.Archived
 
--- `get`: a Read
-abbrev pub get_act : LedgerKey → Act LedgerEntry
-get_act key = judged Read key (λ s. returns (got (seen s.n s.map key)) s)
-
 -- the outcome of a change; there is none if the key is archived
 abbrev pub changed : Option LedgerMap → Act (Unit {0})
 changed None = returns (Err err.Archived)
 changed (Some map) = λ s. (Ok tt, map)
 
--- `put`: a Write
-abbrev pub put_act : LedgerEntry → Act (Unit {0})
-put_act entry = judged Write (key_of entry) (λ s. changed (put s.lives s.n s.map entry) s)
+-- a put that is allowed
+abbrev pub puts : LedgerEntry → Act (Unit {0})
+puts entry s = changed (put s.lives s.n s.map entry) s
 
--- `del`: a Write
-abbrev pub del_act : LedgerKey → Act (Unit {0})
-del_act key = judged Write key (λ s. changed (delete s.n s.map key) s)
+-- a deletion that is allowed
+abbrev pub deletes : LedgerKey → Act (Unit {0})
+deletes key s = changed (delete s.n s.map key) s
 
 -- the outcome of a make; there is none if the key is archived
 abbrev pub made : Option (Bool × LedgerMap) → Act Bool
 made None = returns (Err err.Archived)
 made (Some m) = λ s. (Ok m.0, m.1)
 
--- `make`: a Write
-abbrev pub make_act : LedgerEntry → ℕ → Act Bool
-make_act entry live_until = judged Write (key_of entry) (λ s. made (make s.n s.map entry live_until) s)
+-- a make that is allowed
+abbrev pub makes : LedgerEntry → ℕ → Act Bool
+makes entry live_until s = made (make s.n s.map entry live_until) s
 
 -- why an extension fails
 abbrev pub refusal : Unextended → StoErr
@@ -90,20 +79,71 @@ abbrev pub extended : Result LedgerMap Unextended → Act (Unit {0})
 extended (Ok map) = λ s. (Ok tt, map)
 extended (Err why) = returns (Err (refusal why))
 
--- `extend`: an Extend. The threshold is tested before the access.
-abbrev pub extend_act : LedgerKey → ℕ → ℕ → Act (Unit {0})
-extend_act key threshold extend_to s =
-    if nat_lt extend_to threshold then returns (Err (refusal backward)) s
-    else judged Extend key (λ s. extended (extend s.lives s.n s.map key threshold extend_to) s) s
+-- an extension that is allowed
+abbrev pub extends : LedgerKey → ℕ → ℕ → Act (Unit {0})
+extends key threshold extend_to s = extended (extend s.lives s.n s.map key threshold extend_to) s
 
 -- ---- calls
 
--- A call returns what its act says, and the map is the act's. Only running out of memory is left open: it changes nothing,
--- and it comes only if the act does not fail.
-abbrev pub Does : {A : Type 0} → Act A → Result A StoErr → Stored → Stored → Type 0
-Does act (Ok v) old new = (act old ≡ (Ok v, new.map)) × IsLater old new
-Does act (Err err.NoMemory) old new = IsTrue (is_ok (act old).0) × (new ≡ old)
-Does act (Err e) old new = (act old ≡ (Err e, old.map)) × (new ≡ old)
+-- the map and the touched keys
+abbrev pub Left : Type 0
+Left = LedgerMap × List Touch
+
+abbrev pub left : Stored → Left
+left s = (s.map, s.touched)
+
+-- what a call returns, with the map and the touched keys afterwards
+abbrev pub Call : Type 0 → Type 0
+Call A = Stored → Result A StoErr × Left
+
+-- the call that notes an access that is allowed
+abbrev pub noting : {A : Type 0} → Access → LedgerKey → Act A → Call A
+noting access key act s = ((act s).0, ((act s).1, noted s.declared access key s.touched))
+
+-- The footprint decides first. The map is not looked at if it does not allow the access. A storage without a footprint allows
+-- each access.
+abbrev pub judged : {A : Type 0} → Access → LedgerKey → Act A → Call A
+judged access key act s = if admits s.declared access key then noting access key act s else (Err err.Undeclared, left s)
+
+-- `has`: a Read
+abbrev pub has_act : LedgerKey → Call Bool
+has_act key = judged Read key (λ s. returns (had (seen s.n s.map key)) s)
+
+-- `get`: a Read
+abbrev pub get_act : LedgerKey → Call LedgerEntry
+get_act key = judged Read key (λ s. returns (got (seen s.n s.map key)) s)
+
+-- `put`: a Write
+abbrev pub put_act : LedgerEntry → Call (Unit {0})
+put_act entry = judged Write (key_of entry) (puts entry)
+
+-- `del`: a Write
+abbrev pub del_act : LedgerKey → Call (Unit {0})
+del_act key = judged Write key (deletes key)
+
+-- `make`: a Write
+abbrev pub make_act : LedgerEntry → ℕ → Call Bool
+make_act entry live_until = judged Write (key_of entry) (makes entry live_until)
+
+-- `extend`: an Extend. The threshold is tested before the access.
+abbrev pub extend_act : LedgerKey → ℕ → ℕ → Call (Unit {0})
+extend_act key threshold extend_to s =
+    if nat_lt extend_to threshold then (Err (refusal backward), left s)
+    else judged Extend key (extends key threshold extend_to) s
+
+-- A call returns what it has to, and leaves the map and the touched keys that it has to. After an error no entry has changed.
+-- Only running out of memory is left open: it changes nothing. If a footprint is enforced, it comes only if the call would not
+-- fail.
+abbrev pub Does : {A : Type 0} → Call A → Result A StoErr → Stored → Stored → Type 0
+Does call (Ok v) old new = (call old ≡ (Ok v, left new)) × IsLater old new
+Does call (Err err.NoMemory) old new = (is_some old.declared ≡ true → IsTrue (is_ok (call old).0)) × (new ≡ old)
+Does call (Err e) old new = (call old ≡ (Err e, left new)) × IsRead old new
+
+-- The same of a call that changes no entry. If a footprint is enforced, it does not run out of memory.
+abbrev pub Reads : {A : Type 0} → Call A → Result A StoErr → Stored → Stored → Type 0
+Reads call (Ok v) old new = (call old ≡ (Ok v, left new)) × IsRead old new
+Reads call (Err err.NoMemory) old new = (old.declared ≡ None) × (new ≡ old)
+Reads call (Err e) old new = (call old ≡ (Err e, left new)) × IsRead old new
 
 -- a lent entry as the entry itself
 abbrev pub lent : Result (Bor LedgerEntry) StoErr → Result LedgerEntry StoErr
@@ -133,3 +173,16 @@ abbrev pub life_of_put : Seen → Settings → ℕ → LedgerEntry → Option �
 life_of_put (live kept) settings n entry = Some kept.live_until
 life_of_put absent settings n entry = Some (first_life settings n entry)
 life_of_put archived settings n entry = None
+
+-- An allowed access does what its act says, and notes nothing. Only running out of memory is left open: it changes nothing, and
+-- it comes only if the act does not fail.
+abbrev pub Performs : {A : Type 0} → Act A → Result A StoErr → Stored → Stored → Type 0
+Performs act (Ok v) old new = (act old ≡ (Ok v, new.map)) × IsLater old new × (new.touched ≡ old.touched)
+Performs act (Err err.NoMemory) old new = IsTrue (is_ok (act old).0) × (new ≡ old)
+Performs act (Err e) old new = (act old ≡ (Err e, old.map)) × (new ≡ old)
+
+-- memory ran out
+abbrev pub ran_out : {A : Type 0} → Result A StoErr → Bool
+ran_out (Ok v) = false
+ran_out (Err err.NoMemory) = true
+ran_out (Err e) = false

@@ -1,6 +1,7 @@
 pub mod Layered
 pub mod Overlays
 pub mod Differences
-pub mod Stored
 pub mod Footprint
+pub mod Touched
+pub mod Stored
 pub mod Acts

@@ -1,28 +1,31 @@
 -- The state of a storage (own).
-use Rattle.std.specs.Prelude.{◌≡◌, ℕ, ◌+◌, ◌≤◌, Bool, List, [], ◌∷◌, ◌++◌, take, IsTrue, refl}
-use Rattle.std.specs.Coded.{Coded, code_by, coded×, coded_list, coded_ℕ, coded_bool}
+use Rattle.std.specs.Prelude.{◌≡◌, ℕ, ◌+◌, ◌≤◌, Bool, List, [], ◌∷◌, ◌++◌, Option, take, IsTrue, refl}
+use Rattle.std.specs.Coded.{Coded, code_by, coded×, coded_list, coded_option, coded_ℕ, coded_bool}
 use Rattle.ledger_types.specs.declared.key.LedgerKey.{LedgerKey}
 use Rattle.ledger_types.specs.declared.header.Settings.{Settings}
 use Rattle.ledger_spec.specs.LedgerMap.{LedgerMap}
 use Rattle.ledger_spec.specs.LedgerFile.{are_settings}
+use Rattle.contract_storage.specs.declared.touched.Touch.{Touch}
 
 -- The ground's map, the map as the storage shows it, and the maps before each write, the oldest first. Then the declared
--- keys, each with whether it is read-write, the number of the ledger that is made, and the settings.
+-- keys, each with whether it is read-write, or `None` if all accesses are allowed and the touched keys are recorded. Then the
+-- touched keys, the number of the ledger that is made, and the settings.
 pub record Stored : Type 0 where
   pub base : LedgerMap
   pub map : LedgerMap
   pub past : List LedgerMap
-  pub declared : List (LedgerKey × Bool)
+  pub declared : Option (List (LedgerKey × Bool))
+  pub touched : List Touch
   pub n : ℕ
   pub lives : Settings
 
 -- how the logic stores it
-abbrev pub stored_code : Coded LedgerMap → Coded Settings → Coded LedgerKey → Coded Stored
-stored_code c l k =
-    code_by (LedgerMap × (LedgerMap × (List LedgerMap × (List (LedgerKey × Bool) × (ℕ × Settings)))))
-    (coded× c (coded× c (coded× (coded_list c) (coded× (coded_list (coded× k coded_bool)) (coded× coded_ℕ l)))))
-    (λ s. (s.base, (s.map, (s.past, (s.declared, (s.n, s.lives))))))
-    (λ p. record { base = p.0; map = p.1.0; past = p.1.1.0; declared = p.1.1.1.0; n = p.1.1.1.1.0; lives = p.1.1.1.1.1 }) (λ _. refl)
+abbrev pub stored_code : Coded LedgerMap → Coded Settings → Coded LedgerKey → Coded Touch → Coded Stored
+stored_code c l k t =
+    code_by (LedgerMap × (LedgerMap × (List LedgerMap × (Option (List (LedgerKey × Bool)) × (List Touch × (ℕ × Settings))))))
+    (coded× c (coded× c (coded× (coded_list c) (coded× (coded_option (coded_list (coded× k coded_bool))) (coded× (coded_list t) (coded× coded_ℕ l))))))
+    (λ s. (s.base, (s.map, (s.past, (s.declared, (s.touched, (s.n, s.lives)))))))
+    (λ p. record { base = p.0; map = p.1.0; past = p.1.1.0; declared = p.1.1.1.0; touched = p.1.1.1.1.0; n = p.1.1.1.1.1.0; lives = p.1.1.1.1.1.1 }) (λ _. refl)
 
 -- the settings are valid, and the ledger's number is not too high
 pub record HasBounds (n : ℕ) (lives : Settings) : Type 0 where
@@ -38,19 +41,31 @@ abbrev pub with_map : Stored → LedgerMap → Stored
 with_map s map = record s { map = map; past = s.past ++ s.map ∷ [] }
 
 -- the same with the maps of another state
+abbrev pub with_maps : Stored → Stored → Stored
+with_maps s other = record s { map = other.map; past = other.past }
+
+-- the same with the maps and the touched keys of another state
 abbrev pub with_history : Stored → Stored → Stored
-with_history s other = record s { map = other.map; past = other.past }
+with_history s other = record s { map = other.map; past = other.past; touched = other.touched }
 
--- a storage without writes
-abbrev pub starting : LedgerMap → ℕ → Settings → List (LedgerKey × Bool) → Stored
-starting base n lives declared = record { base = base; map = base; past = []; declared = declared; n = n; lives = lives }
+-- the same with these touched keys
+abbrev pub with_touched : Stored → List Touch → Stored
+with_touched s touched = record s { touched = touched }
 
--- a later state: writes were added, and nothing else changed
+-- a storage without writes and touched keys
+abbrev pub starting : LedgerMap → ℕ → Settings → Option (List (LedgerKey × Bool)) → Stored
+starting base n lives declared = record { base = base; map = base; past = []; declared = declared; touched = []; n = n; lives = lives }
+
+-- a later state: writes were added, the touched keys may be others, and nothing else changed
 pub record IsLater (old new : Stored) : Type 0 where
   pub same : new ≡ with_history old new
   pub later : (more : List LedgerMap) × (history new ≡ history old ++ more)
 
--- the state after all writes but the first ones, as many as given, were undone
+-- a later state: the touched keys may be others, and nothing else changed
+abbrev pub IsRead : Stored → Stored → Type 0
+IsRead old new = new ≡ with_touched old new.touched
+
+-- The state after all writes but the first ones, as many as given, were undone. The touched keys stay.
 pub record IsRestored (writes : ℕ) (old new : Stored) : Type 0 where
-  pub same : new ≡ with_history old new
+  pub same : new ≡ with_maps old new
   pub back : history new ≡ take (writes + 1) (history old)

@@ -10,7 +10,8 @@ pub enum Access {
     Write,
 }
 
-/// Why a call of the storage fails. After an error the storage is as before the call.
+/// Why a call of the storage fails. After an error no entry has changed, and after `NoMemory` nothing has. A storage that records
+/// keeps the key of an access that found `Archived` or `Missing`, or a temporary entry that would live too long.
 #[derive(Debug, PartialEq, Eq, Drop)]
 pub enum StoErr {
     /// The footprint does not allow the access.

@@ -1,40 +1,33 @@
-//! The calls of a storage: look-ups, puts, deletes, makes and extensions.
+//! The calls of a storage: look-ups, puts, deletes, makes and extensions. Each judges its access and notes it.
 
-ghost use Rattle.std.specs.Prelude.{◌≡◌, IfOk};
+ghost use mir.Syntax.{named};
+ghost use Rattle.std.specs.Prelude.{◌≡◌, [], IfOk};
+ghost use Rattle.std.specs.Borrow.{sem};
+ghost use Rattle.std.specs.Io.BufRead.{Rests};
 ghost use Rattle.ledger_types.specs.Key.{key_format};
 ghost use Rattle.ledger_types.specs.Entry.{entry_format, key_of as key_of_entry};
 ghost use Rattle.ledger_spec.specs.LedgerMap.{HasCodeHash};
-ghost use Rattle.entry_lookup.specs.Found.{kept_of};
-ghost use Rattle.contract_storage.specs.Acts.{Does, has_act, get_act, put_act, del_act, make_act, extend_act, lent};
+ghost use Rattle.contract_storage.specs.Acts.{Does, Reads, has_act, get_act, put_act, del_act, make_act, extend_act, lent};
+ghost use Rattle.contract_storage.specs.contracts.storage.Storage.{the_row};
 
 use crate::access::{Access, StoErr};
 use crate::sight::Sight;
 use crate::storage::Storage;
-use entry_lookup::{Found, Ground};
-use ledger_spec::Kept;
+use entry_lookup::Ground;
 use ledger_types::{LedgerEntry, LedgerKey};
 use value_types::{ScError, ScErrorCode};
-use xdr_core::NoMemory;
-
-// Clones an entry that is found, with another live-until ledger.
-fn living_until(found: Found<'_>, live_until: u32) -> Result<Kept, NoMemory>
-    ensures { IfOk result (λ kept. kept ≡ record (kept_of found.entry) { live_until = live_until }) }
-{
-    Ok(Kept {
-        entry: found.entry.clone()?,
-        live_until,
-    })
-}
 
 impl<'a, G: Ground> Storage<'a, G> {
-    /// Whether there is a live entry at a key. It takes no memory.
+    /// Whether there is a live entry at a key. It takes memory only if the storage records.
     pub fn has(&mut self, key: &LedgerKey) -> Result<bool, StoErr>
         requires { key_format.fits key.now }
-        ensures answer { has_act key.now self.old ≡ (result, self.new.map) }
-        ensures stays { self.new ≡ self.old }
+        ensures { Reads (has_act key.now) result self.old self.new }
     {
         if !self.allows(Access::Read, key) {
             return Err(StoErr::Undeclared);
+        }
+        if self.note(Access::Read, key).is_err() {
+            return Err(StoErr::NoMemory);
         }
         match self.sight(key) {
             Sight::Live(_) => Ok(true),
@@ -43,14 +36,19 @@ impl<'a, G: Ground> Storage<'a, G> {
         }
     }
 
-    /// Borrows the live entry at a key. It takes no memory.
-    pub fn get(&self, key: &LedgerKey) -> Result<&LedgerEntry, StoErr>
+    /// Borrows the live entry at a key. It takes memory only if the storage records.
+    pub fn get(&mut self, key: &LedgerKey) -> Result<&LedgerEntry, StoErr>
         requires { key_format.fits key.now }
-        ensures answer { get_act key.now self.now ≡ (lent result, self.now.map) }
+        // Once the entry is no longer borrowed.
+        ensures* answer { sem 𝓛 (Rests (the_row (record { mir = named 1; lft = [] }) G.row G.Ground) self.entry
+            (λ new. Reads (get_act key.now) (lent result) self.old new)) }
         ensures fits { IfOk result (λ entry. entry_format.fits entry.now) }
     {
         if !self.allows(Access::Read, key) {
             return Err(StoErr::Undeclared);
+        }
+        if self.note(Access::Read, key).is_err() {
+            return Err(StoErr::NoMemory);
         }
         match self.sight(key) {
             Sight::Live(found) => Ok(found.entry),
@@ -69,10 +67,9 @@ impl<'a, G: Ground> Storage<'a, G> {
         if !self.allows(Access::Write, &key) {
             return Err(StoErr::Undeclared);
         }
-        let Some(live_until) = self.life_of_put(&key, &entry) else {
-            return Err(StoErr::Archived);
-        };
-        self.write(&key, entry, live_until)
+        let start = self.snapshot();
+        let answer = self.put_allowed(&key, entry);
+        self.ended(start, Access::Write, &key, answer)
     }
 
     /// Deletes the live entry at a key, if there is one.
@@ -83,12 +80,9 @@ impl<'a, G: Ground> Storage<'a, G> {
         if !self.allows(Access::Write, key) {
             return Err(StoErr::Undeclared);
         }
-        match self.sight(key) {
-            Sight::Live(_) => (),
-            Sight::Absent => return Ok(()),
-            Sight::Archived => return Err(StoErr::Archived),
-        }
-        self.settle(key, None)
+        let start = self.snapshot();
+        let answer = self.del_allowed(key);
+        self.ended(start, Access::Write, key, answer)
     }
 
     /// Makes an entry with a given live-until ledger, unless the key has a live entry. Returns whether it made one.
@@ -106,18 +100,13 @@ impl<'a, G: Ground> Storage<'a, G> {
         if !self.allows(Access::Write, &key) {
             return Err(StoErr::Undeclared);
         }
-        match self.sight(&key) {
-            Sight::Live(_) => return Ok(false),
-            Sight::Absent => (),
-            Sight::Archived => return Err(StoErr::Archived),
-        }
-        match self.write(&key, entry, live_until) {
-            Ok(()) => Ok(true),
-            Err(e) => Err(e),
-        }
+        let start = self.snapshot();
+        let answer = self.make_allowed(&key, entry, live_until);
+        self.ended(start, Access::Write, &key, answer)
     }
 
-    /// Extends the life of a live entry by `extend_to` ledgers from now, if at most `threshold` ledgers are left.
+    /// Extends the life of a live entry by `extend_to` ledgers from now, if at most `threshold` ledgers are left. A
+    /// threshold above `extend_to` fails before the access, so no key is recorded.
     pub fn extend(&mut self, key: &LedgerKey, threshold: u32, extend_to: u32) -> Result<(), StoErr>
         requires { key_format.fits key.now }
         ensures { Does (extend_act key.now threshold extend_to) result self.old self.new }
@@ -128,20 +117,8 @@ impl<'a, G: Ground> Storage<'a, G> {
         if !self.allows(Access::Extend, key) {
             return Err(StoErr::Undeclared);
         }
-        let found = match self.sight(key) {
-            Sight::Live(found) => found,
-            Sight::Absent => return Err(StoErr::Missing),
-            Sight::Archived => return Err(StoErr::Archived),
-        };
-        let Some(life) = self.life_asked(found.entry, extend_to) else {
-            return Err(StoErr::BadExtend(ScError::Storage(ScErrorCode::InvalidAction)));
-        };
-        if !self.is_longer(found.live_until, threshold, life) {
-            return Ok(());
-        }
-        let Ok(kept) = living_until(found, life) else {
-            return Err(StoErr::NoMemory);
-        };
-        self.settle(key, Some(kept))
+        let start = self.snapshot();
+        let answer = self.extend_allowed(key, threshold, extend_to);
+        self.ended(start, Access::Extend, key, answer)
     }
 }

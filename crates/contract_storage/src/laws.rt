@@ -1,11 +1,12 @@
 //! Laws of a storage's snapshots.
 
 ghost use Rattle.std.specs.Prelude.{◌≡◌, length};
-ghost use Rattle.contract_storage.specs.Stored.{Stored, IsLater, IsRestored};
+ghost use Rattle.contract_storage.specs.Stored.{Stored, with_touched, IsLater, IsRestored};
 
-/// A restore to a snapshot gives the state that the storage had at the snapshot.
+/// A restore to a snapshot gives the state that the storage had at the snapshot, but for the touched keys, which stay.
 pub fn restore_goes_back()
-    ensures { (start later back : Stored) → IsLater start later → IsRestored (length start.past) later back → back ≡ start }
+    ensures { (start later back : Stored) → IsLater start later → IsRestored (length start.past) later back
+        → back ≡ with_touched start later.touched }
 {}
 
 /// A state is later than those before it, through any number of calls.

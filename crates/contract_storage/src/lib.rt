@@ -1,7 +1,9 @@
-//! The storage of a contract's run: what a transaction sees and changes of the entries of a ledger, within its footprint.
+//! The storage of a contract's run: what a transaction sees and changes of the entries of a ledger, within its
+//! footprint, or while the keys that it touches are recorded.
 #![tactic(auto)]
 
 mod access;
+mod allowed;
 mod calls;
 mod changes;
 mod footprint;
@@ -9,8 +11,10 @@ mod laws;
 mod layer;
 mod sight;
 mod storage;
+mod touched;
 
 pub use access::{Access, StoErr};
 pub use changes::Change;
 pub use laws::{later_is_later, restore_goes_back};
 pub use storage::{Point, Storage};
+pub use touched::Touch;

@@ -1,6 +1,6 @@
-//! The storage: its footprint, its snapshots and what it changed. Its calls are in `calls`.
+//! The storage: the accesses that it allows, its snapshots, and what it changed and recorded. Its calls are in `calls`.
 
-ghost use Rattle.std.specs.Prelude.{◌≡◌, ◌≤◌, ◌<◌, ◌-◌, ◌^◌, ◌&&◌, All, Some, length, nat_lt, nat_le, IfOk, IfErr, IfSome, OnOk, OnErr};
+ghost use Rattle.std.specs.Prelude.{◌≡◌, ◌≤◌, ◌<◌, ◌-◌, ◌^◌, ◌&&◌, All, Some, None, length, nat_lt, nat_le, IfOk, IfErr, IfSome, IsSomeAnd, true, false, OnOk, OnErr};
 ghost use Rattle.std.specs.Option.{option_map};
 ghost use Rattle.ledger_types.specs.Key.{key_format};
 ghost use Rattle.ledger_types.specs.Entry.{entry_format, key_of as key_of_entry};
@@ -10,15 +10,17 @@ ghost use Rattle.ledger_spec.specs.Changes.{asked_life, furthest as furthest_in,
 ghost use Rattle.contract_storage.specs.Layered.{set_at};
 ghost use Rattle.contract_storage.specs.Overlays.{unboxed};
 ghost use Rattle.contract_storage.specs.Differences.{AreDifferences};
-ghost use Rattle.contract_storage.specs.Stored.{HasBounds, starting, with_map, IsRestored};
-ghost use Rattle.contract_storage.specs.Footprint.{allows as allows_in, IsFootprint};
-ghost use Rattle.contract_storage.specs.Acts.{sight_seen, life_of_put, IsSeenAt};
+ghost use Rattle.contract_storage.specs.Stored.{HasBounds, starting, with_map, with_touched, IsRestored};
+ghost use Rattle.contract_storage.specs.Footprint.{IsFootprint};
+ghost use Rattle.contract_storage.specs.Touched.{admits, noted, AreSpelled};
+ghost use Rattle.contract_storage.specs.Acts.{sight_seen, life_of_put, IsSeenAt, ran_out};
 
 use crate::access::{Access, StoErr};
 use crate::changes::Change;
 use crate::footprint::{allows, declared_keys};
 use crate::layer::Layer;
 use crate::sight::{Sight, sight_of};
+use crate::touched::{Touch, Touched};
 use entry_lookup::Ground;
 use ledger_spec::{Kept, first_life, is_temporary};
 use ledger_types::{LedgerEntry, LedgerKey, Settings};
@@ -34,12 +36,14 @@ pub struct Point {
     pub writes: usize,
 }
 
-/// The entries of a ledger as one transaction sees and changes them. The footprint of the transaction decides which accesses
-/// are allowed. Changes can be undone.
+/// The entries of a ledger as one transaction sees and changes them. Changes can be undone. Either the footprint of the
+/// transaction decides which accesses are allowed, or all are allowed and the touched keys are recorded.
 #[derive(Drop)]
 pub struct Storage<'a, G: Ground> {
     layer: Layer<'a, G>,
-    declared: BTreeMap<LedgerKey, bool>,
+    /// The declared keys, each with whether it is read-write. Without them all accesses are allowed and recorded.
+    declared: Option<BTreeMap<LedgerKey, bool>>,
+    touched: Touched,
     n: u32,
     lives: Settings,
     alloc: Global,
@@ -51,13 +55,25 @@ impl<'a, G: Ground> Model for Storage<'a, G> {
     ghost use Rattle.ledger_spec.specs.contracts.Kept as kept;
     ghost use Rattle.ledger_types.specs.contracts.header.Settings as settings;
     ghost use Rattle.ledger_types.specs.contracts.key.LedgerKey as key;
+    ghost use Rattle.contract_storage.specs.contracts.touched.Touch as touch;
     ghost use Rattle.contract_storage.specs.Stored.{Stored, stored_code, HasBounds};
 
     ghost Value = { Stored };
 
-    ghost coded = { stored_code (code (coded_list coded_ℕ) kept.the_row.coded) settings.the_row.coded key.the_row.coded };
+    ghost coded = { stored_code (code (coded_list coded_ℕ) kept.the_row.coded) settings.the_row.coded key.the_row.coded
+        touch.the_row.coded };
 
-    ghost view = { λ s. record { base = s.layer.base; map = s.layer.map; past = s.layer.past; declared = s.declared.entries; n = s.n; lives = s.lives } };
+    ghost use Rattle.std.specs.Option.{option_map};
+
+    ghost view = { λ s. record {
+      base = s.layer.base;
+      map = s.layer.map;
+      past = s.layer.past;
+      declared = option_map (λ d. d.entries) s.declared;
+      touched = s.touched;
+      n = s.n;
+      lives = s.lives;
+    } };
 
     ghost invariant = { λ s. HasBounds s.n s.lives };
 }
@@ -84,6 +100,19 @@ fn furthest(settings: &Settings, n: u32) -> u32
     (u64::from(n) + u64::from(settings.max_entry_ttl)).saturating_sub(1) as u32
 }
 
+// Whether memory ran out.
+fn ran_out<T>(answer: &Result<T, StoErr>) -> bool
+    ensures { result ≡ ran_out answer.now }
+{
+    match answer {
+        Ok(_) => false,
+        Err(e) => match e {
+            StoErr::NoMemory => true,
+            StoErr::Undeclared | StoErr::Archived | StoErr::Missing | StoErr::BadExtend(_) => false,
+        },
+    }
+}
+
 // Puts an entry into a box.
 fn boxed(alloc: Global, now: Option<Kept>) -> Result<Option<Box<Kept>>, NoMemory>
     ensures { IfOk result (λ made. option_map unboxed made ≡ now) }
@@ -108,23 +137,92 @@ impl<'a, G: Ground> Storage<'a, G> {
         requires read_only { All (λ key. key_format.fits key) read_only.now }
         requires read_write { All (λ key. key_format.fits key) read_write.now }
         ensures starts { IfOk result (λ s. s ≡ starting (G.map base.now) n lives.now s.declared) }
-        ensures declared { IfOk result (λ s. IsFootprint read_only.now read_write.now s.declared) }
+        ensures declared { IfOk result (λ s. IsSomeAnd s.declared (IsFootprint read_only.now read_write.now)) }
     {
         let declared = declared_keys(alloc, read_only, read_write)?;
         Ok(Storage {
             layer: Layer::new(alloc, base),
-            declared,
+            declared: Some(declared),
+            touched: Touched::new(alloc),
             n,
             lives: *lives,
             alloc,
         })
     }
 
-    /// Whether the footprint allows an access. It takes no memory.
-    pub(crate) fn allows(&self, access: Access, key: &LedgerKey) -> bool
-        ensures { result ≡ allows_in self.now.declared access key.now }
+    /// Makes the storage of a transaction in ledger `n`, which allows all accesses and records the keys that they touch.
+    pub fn recording(alloc: Global, base: &'a G, n: u32, lives: &Settings) -> Storage<'a, G>
+        requires bounds { HasBounds n lives.now }
+        ensures { result ≡ starting (G.map base.now) n lives.now None }
     {
-        allows(&self.declared, access, key)
+        Storage {
+            layer: Layer::new(alloc, base),
+            declared: None,
+            touched: Touched::new(alloc),
+            n,
+            lives: *lives,
+            alloc,
+        }
+    }
+
+    /// Returns the recorded keys in the order of their first access, each with its strongest access. Write is above Extend, and
+    /// Extend is above Read. A storage that enforces a footprint records none.
+    pub fn recorded(&self) -> &[Touch]
+        ensures keys { result.now ≡ self.now.touched }
+        ensures spelled { AreSpelled result.now }
+    {
+        self.touched.as_slice()
+    }
+
+    /// Whether an access is allowed: by the footprint, if one is enforced. It takes no memory.
+    pub(crate) fn allows(&self, access: Access, key: &LedgerKey) -> bool
+        ensures { result ≡ admits self.now.declared access key.now }
+    {
+        match &self.declared {
+            Some(declared) => allows(declared, access, key),
+            None => true,
+        }
+    }
+
+    /// Notes an access that is allowed. Only a storage that records takes memory for it. Running out of memory changes nothing.
+    pub(crate) fn note(&mut self, access: Access, key: &LedgerKey) -> Result<(), NoMemory>
+        requires { key_format.fits key.now }
+        ensures ok { OnOk result (self.new ≡ with_touched self.old (noted self.old.declared access key.now self.old.touched)) }
+        ensures err { OnErr result ((self.old.declared ≡ None) × (self.new ≡ self.old)) }
+    {
+        match &self.declared {
+            Some(_) => Ok(()),
+            None => self.touched.add(access, key),
+        }
+    }
+
+    /// Ends a call whose access returned `answer`: notes the access, unless `answer` says that memory ran out. If memory runs out
+    /// for the note, all writes since `start` are undone.
+    pub(crate) fn ended<T: Drop>(
+        &mut self,
+        start: Point,
+        access: Access,
+        key: &LedgerKey,
+        answer: Result<T, StoErr>,
+    ) -> Result<T, StoErr>
+        requires fits { key_format.fits key.now }
+        requires before { start.writes ≤ length self.old.past }
+        ensures out { ran_out answer ≡ true → (ran_out result ≡ true) × (self.new ≡ self.old) }
+        ensures ends { ran_out answer ≡ false → ran_out result ≡ false
+            → (result ≡ answer) × (self.new ≡ with_touched self.old (noted self.old.declared access key.now self.old.touched)) }
+        ensures undone { ran_out answer ≡ false → ran_out result ≡ true
+            → (self.old.declared ≡ None) × IsRestored start.writes self.old self.new }
+    {
+        if ran_out(&answer) {
+            return answer;
+        }
+        match self.note(access, key) {
+            Ok(()) => answer,
+            Err(_) => {
+                self.restore(start);
+                Err(StoErr::NoMemory)
+            }
+        }
     }
 
     /// Returns what an access finds at a key. It takes no memory.
@@ -180,7 +278,8 @@ impl<'a, G: Ground> Storage<'a, G> {
         requires key { key.now ≡ key_of_entry entry }
         requires fits { entry_format.fits entry }
         requires hashed { HasCodeHash entry.data }
-        ensures ok { OnOk result (self.new ≡ with_map self.old (set_at self.old.map (key_bytes key.now) (Some (record { entry = written_in self.old.n entry; live_until = live_until })))) }
+        ensures ok { OnOk result (self.new ≡ with_map self.old (set_at self.old.map (key_bytes key.now)
+            (Some (record { entry = written_in self.old.n entry; live_until = live_until })))) }
         ensures err { IfErr result (λ e. e ≡ StoErr.NoMemory) }
         ensures stays { OnErr result (self.new ≡ self.old) }
     {
@@ -214,7 +313,7 @@ impl<'a, G: Ground> Storage<'a, G> {
         }
     }
 
-    /// Undoes all writes since a snapshot, in O(log n) each. It takes no memory.
+    /// Undoes all writes since a snapshot, in O(log n) each. Recorded keys stay. It takes no memory.
     pub fn restore(&mut self, to: Point)
         requires { to.writes ≤ length self.old.past }
         ensures { IsRestored to.writes self.old self.new }

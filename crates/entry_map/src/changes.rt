@@ -136,7 +136,8 @@ impl EntryMap {
     ) -> Result<(), NoMemory>
         requires fits { entry_format.fits entry }
         requires hashed { HasCodeHash entry.data }
-        ensures ok { OnOk result (self.new ≡ insert_in self.old (key_bytes (key_of_entry entry)) (record { entry = written n entry; live_until = live_until })) }
+        ensures ok { OnOk result (self.new ≡ insert_in self.old (key_bytes (key_of_entry entry))
+            (record { entry = written n entry; live_until = live_until })) }
         ensures err { OnErr result (self.new ≡ self.old) }
     {
         let LedgerEntry { data, .. } = entry;

@@ -11,6 +11,7 @@ pub mod Holding
 pub mod Rows
 pub mod Stepping
 pub mod Emitting
+pub mod Tracing
 pub mod Composing
 pub mod Grouping
 pub mod Steps

@@ -17,23 +17,24 @@ use Rattle.call_spec.specs.World.{World, Env}
 use Rattle.call_spec.specs.Acts.{Act, Out, after, with_frame}
 use Rattle.call_spec.specs.Keys.{instance_key, code_key}
 use Rattle.call_spec.specs.Outcomes.{Says}
+use Rattle.host_ledger.specs.Traced.{leaving}
 use Rattle.call_spec.specs.Rules.{answered}
 use Rattle.call_spec.specs.Storage.{extending, unless_backward, extend_current_contract_instance_and_code_ttl}
 use Rattle.host_ledger.specs.Worlds.{Serves}
-use Rattle.host_ledger.specs.Answered.{any}
 use Rattle.host_ledger.specs.Accessed.{Accesses}
-use Rattle.host_ledger.proofs.Composing.{ends_then, goes_then, serves_later}
+use Rattle.host_ledger.proofs.Composing.{ends_then, goes_on, serves_later}
 
 -- an access that ends, and what would have come after it
 stops_first : (e : HostErr) (first second : Env → Act Answer) (old new : Stored) → (let r : Result Answer' HostErr = Err e in Accesses r answer_of first old new)
     → let q : Result Answer' HostErr = Err e in Accesses q answer_of (λ env. after (first env) (λ _. second env)) old new
-stops_first e first second old new h env serves w i = ends_then answer_of answer_of (first env w) (λ _. second env) (λ trace. record w { entries = new.map; trace = trace }) e (h env serves w i)
+stops_first e first second old new h env serves w i =
+    ends_then answer_of answer_of (first env w) (λ _. second env) (leaving old new w.trace (λ trace. record w { entries = new.map; trace = trace })) e (h env serves w i)
 
 -- one access after another
 goes_second : (a : Answer') (q : Result Answer' HostErr) (first second : Env → Act Answer) (old middle new : Stored) → (let r : Result Answer' HostErr = Ok a in Accesses r answer_of first old middle)
     → IsLater old middle → Accesses q answer_of second middle new → Accesses q answer_of (λ env. after (first env) (λ _. second env)) old new
 goes_second a q first second old middle new h later k env serves w i =
-    goes_then answer_of answer_of (first env w) (λ _. second env) (λ trace. record w { entries = middle.map; trace = trace }) (λ trace. record w { entries = new.map; trace = trace }) a q (h env serves w i)
+    goes_on answer_of answer_of (first env w) (λ _. second env) old middle new w.trace (λ trace. record w { entries = middle.map; trace = trace }) (λ trace. record w { entries = new.map; trace = trace }) a q (h env serves w i)
     (λ trace. k env (serves_later env old middle later serves) (record w { entries = middle.map; trace = trace }) refl)
 
 -- the extension at a key that is another
@@ -67,9 +68,9 @@ forward_is contract code threshold extend_to ahead env w j k = rw (ahead, j, k) 
 pub forward_lives : (q : Result Answer' HostErr) (contract code : Hash) (threshold extend_to : ℕ) (old new : Stored) → nat_lt extend_to threshold ≡ false
     → Accesses q answer_of (λ env. lives env contract code threshold extend_to) old new
     → (env : Env) → Serves env old → (w : World) → w.entries ≡ old.map → w.frame.contract ≡ contract → w.frame.code ≡ code
-    → Says any q answer_of (unless_backward threshold extend_to (with_frame (λ frame. lives env frame.contract frame.code threshold extend_to)) w) (λ trace. record w { entries = new.map; trace = trace })
+    → Says q answer_of (unless_backward threshold extend_to (with_frame (λ frame. lives env frame.contract frame.code threshold extend_to)) w) (leaving old new w.trace (λ trace. record w { entries = new.map; trace = trace }))
 forward_lives q contract code threshold extend_to old new ahead h env serves w i j k =
-    subst (λ (out : Out Answer). Says any q answer_of out (λ trace. record w { entries = new.map; trace = trace })) (sym (forward_is contract code threshold extend_to ahead env w j k)) (h env serves w i)
+    subst (λ (out : Out Answer). Says q answer_of out (leaving old new w.trace (λ trace. record w { entries = new.map; trace = trace }))) (sym (forward_is contract code threshold extend_to ahead env w j k)) (h env serves w i)
 
 lives_is : (env : Env) (w : World) (shown : List Datum) (a b threshold extend_to : ℕ) (before after' : Meter) → w.frame.shown ≡ shown → w.meter ≡ before
     → argument kinds.U32 shown a ≡ Ok threshold → argument kinds.U32 shown b ≡ Ok extend_to
@@ -82,9 +83,9 @@ pub lives_run : (q : Result Answer' HostErr) (shown : List Datum) (contract code
     → argument kinds.U32 shown a ≡ Ok threshold → argument kinds.U32 shown b ≡ Ok extend_to
     → ((memory : List ℕ) → dispatched (a ∷ b ∷ []) (values.state shown memory before) ≡ values.Good tt (values.state shown memory after'))
     → ((env : Env) → Serves env old → (w : World) → w.entries ≡ old.map → w.frame.contract ≡ contract → w.frame.code ≡ code
-    → Says any q answer_of (unless_backward threshold extend_to (with_frame (λ frame. lives env frame.contract frame.code threshold extend_to)) w) (λ trace. record w { entries = new.map; trace = trace }))
+    → Says q answer_of (unless_backward threshold extend_to (with_frame (λ frame. lives env frame.contract frame.code threshold extend_to)) w) (leaving old new w.trace (λ trace. record w { entries = new.map; trace = trace })))
     → (env : Env) → Serves env old → (w : World) → w.entries ≡ old.map → w.meter ≡ before → w.frame.shown ≡ shown → w.frame.contract ≡ contract → w.frame.code ≡ code
-    → Says any q answer_of (answered (kinds.U32 ∷ kinds.U32 ∷ []) (extend_current_contract_instance_and_code_ttl env) (a ∷ b ∷ []) w) (λ trace. record w { entries = new.map; trace = trace; meter = after' })
+    → Says q answer_of (answered (kinds.U32 ∷ kinds.U32 ∷ []) (extend_current_contract_instance_and_code_ttl env) (a ∷ b ∷ []) w) (leaving old new w.trace (λ trace. record w { entries = new.map; trace = trace; meter = after' }))
 lives_run q shown contract code a b threshold extend_to old new before after' h1 h2 paid h env serves w i j k l m =
-    subst (λ (out : Out Answer). Says any q answer_of out (λ trace. record w { entries = new.map; trace = trace; meter = after' }))
+    subst (λ (out : Out Answer). Says q answer_of out (leaving old new w.trace (λ trace. record w { entries = new.map; trace = trace; meter = after' })))
     (sym (lives_is env w shown a b threshold extend_to before after' k j h1 h2 paid)) (h env serves (record w { meter = after' }) i l m)

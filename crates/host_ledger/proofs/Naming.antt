@@ -23,9 +23,8 @@ use Rattle.call_spec.specs.Errors.{OTHER_SIZE}
 use Rattle.call_spec.specs.World.{World, Env}
 use Rattle.call_spec.specs.Acts.{Act, Out, gives, fails, paying}
 use Rattle.call_spec.specs.Creating.{get_contract_id}
-use Rattle.call_spec.specs.Outcomes.{Says}
+use Rattle.call_spec.specs.Outcomes.{quiet, Says}
 use Rattle.call_spec.specs.Rules.{answered, returning}
-use Rattle.host_ledger.specs.Answered.{any}
 
 -- ---- the deployer is an account or a contract
 
@@ -71,11 +70,11 @@ pub id_runs : (q : Result Answer' HostErr) (shown : List Datum) (network : Hash)
     → argument kinds.Address shown a ≡ Ok deployer → argument kinds.Bytes shown b ≡ Ok bs
     → ((memory : List ℕ) → dispatched (a ∷ b ∷ []) (values.state shown memory before) ≡ values.Good tt (values.state shown memory entered))
     → length bs == 32 ≡ true → salt ≡ hash_of bs
-    → ((w : World) → w.meter ≡ entered → Says any q answer_of (naming network deployer salt w) (λ trace. record w { trace = trace; meter = after }))
+    → ((w : World) → w.meter ≡ entered → Says q answer_of (naming network deployer salt w) (quiet w (λ trace. record w { trace = trace; meter = after })))
     → (env : Env) → env.header.network_id ≡ network → (w : World) → w.meter ≡ before → w.frame.shown ≡ shown
-    → Says any q answer_of (answered (kinds.Address ∷ kinds.Bytes ∷ []) (get_contract_id env) (a ∷ b ∷ []) w) (λ trace. record w { trace = trace; meter = after })
+    → Says q answer_of (answered (kinds.Address ∷ kinds.Bytes ∷ []) (get_contract_id env) (a ∷ b ∷ []) w) (quiet w (λ trace. record w { trace = trace; meter = after }))
 id_runs q shown network a b deployer bs salt before entered after h1 h2 paid sized is runs env n w j k =
-    subst (λ (out : Out Answer). Says any q answer_of out (λ trace. record w { trace = trace; meter = after }))
+    subst (λ (out : Out Answer). Says q answer_of out (quiet w (λ trace. record w { trace = trace; meter = after })))
     (sym (id_is env w shown a b deployer bs before entered k j h1 h2 paid ∙ sized_is env (record w { meter = entered }) network deployer bs salt n sized is))
     (runs (record w { meter = entered }) refl)
 
@@ -84,8 +83,8 @@ pub id_refuses : (e : HostErr) (shown : List Datum) (a b : ℕ) (deployer : ScAd
     → ((memory : List ℕ) → dispatched (a ∷ b ∷ []) (values.state shown memory before) ≡ values.Good tt (values.state shown memory entered))
     → length bs == 32 ≡ false → e ≡ ends.Failed OTHER_SIZE
     → (env : Env) (w : World) → w.meter ≡ before → w.frame.shown ≡ shown
-    → let q : Result Answer' HostErr = Err e in Says any q answer_of (answered (kinds.Address ∷ kinds.Bytes ∷ []) (get_contract_id env) (a ∷ b ∷ []) w) (λ trace. record w { trace = trace; meter = entered })
+    → let q : Result Answer' HostErr = Err e in Says q answer_of (answered (kinds.Address ∷ kinds.Bytes ∷ []) (get_contract_id env) (a ∷ b ∷ []) w) (quiet w (λ trace. record w { trace = trace; meter = entered }))
 id_refuses e shown a b deployer bs before entered h1 h2 paid sized is env w j k =
-    subst (λ (x : HostErr). let q : Result Answer' HostErr = Err x in Says any q answer_of (answered (kinds.Address ∷ kinds.Bytes ∷ []) (get_contract_id env) (a ∷ b ∷ []) w) (λ trace. record w { trace = trace; meter = entered })) (sym is)
-    (subst (λ (out : Out Answer). let q : Result Answer' HostErr = Err (ends.Failed OTHER_SIZE) in Says any q answer_of out (λ trace. record w { trace = trace; meter = entered }))
-    (sym (id_is env w shown a b deployer bs before entered k j h1 h2 paid ∙ missized_is env (record w { meter = entered }) deployer bs sized)) (tt, refl))
+    subst (λ (x : HostErr). let q : Result Answer' HostErr = Err x in Says q answer_of (answered (kinds.Address ∷ kinds.Bytes ∷ []) (get_contract_id env) (a ∷ b ∷ []) w) (quiet w (λ trace. record w { trace = trace; meter = entered }))) (sym is)
+    (subst (λ (out : Out Answer). let q : Result Answer' HostErr = Err (ends.Failed OTHER_SIZE) in Says q answer_of out (quiet w (λ trace. record w { trace = trace; meter = entered })))
+    (sym (id_is env w shown a b deployer bs before entered k j h1 h2 paid ∙ missized_is env (record w { meter = entered }) deployer bs sized)) (refl, refl))

@@ -19,23 +19,25 @@ use Rattle.call_spec.specs.World.{Access, World, Env, next_seq}
 use Rattle.call_spec.specs.Acts.{lift, lifted, with_state}
 use Rattle.call_spec.specs.Frames.{Opener}
 use Rattle.call_spec.specs.HostFunctions.{world_rule, either}
-use Rattle.call_spec.specs.Outcomes.{Says}
+use Rattle.call_spec.specs.Outcomes.{Leaves, quiet, Says}
+use Rattle.host_ledger.specs.Traced.{Tells, leaving}
 use Rattle.call_spec.specs.Rules.{Rule, answered, call_of}
 use Rattle.host_ledger.specs.Worlds.{IsHeld, world_at, IsReady, Stays, Shows}
-use Rattle.host_ledger.specs.Answered.{Answers, any}
+use Rattle.host_ledger.specs.Answered.{Answers}
 use Rattle.host_ledger.specs.Called.{Calls, Left}
 use Rattle.host_ledger.specs.Rows.{SaysBy, AnswersRow}
 use Rattle.host_ledger.specs.declared.state.HostLedger.{HostLedger}
 use Rattle.host_ledger.proofs.Composing.{ends_then, goes_then}
+use Rattle.host_ledger.proofs.Tracing.{afterwards}
 
 -- ---- rows
 
 -- what a function answers, as its row says
 pub row_at : {G : Type 0} (r : Result Answer' HostErr) (i : HostImport) (words : List ℕ) (old new : HostLedger G) {ks : List ArgKind} {rule : Env → Rule ks} → Answers r ks rule words old new
-    → ((env : Env) (opener : Opener) (w : World) (left : List Access → World) → Says any r answer_of (answered ks (rule env) words w) left → SaysBy r (arguments_of i) (world_rule env opener i) words w left)
+    → ((env : Env) (opener : Opener) (w : World) (left : Leaves) → Says r answer_of (answered ks (rule env) words w) left → SaysBy r (arguments_of i) (world_rule env opener i) words w left)
     → AnswersRow r i words old new
 row_at r i words old new h same = record {
-  does = λ env is opener rest trace. same env opener (world_at rest old trace) (world_at rest new) (h.does env is rest trace);
+  does = λ env is opener rest trace. same env opener (world_at rest old trace) (leaving old.storage new.storage trace (world_at rest new)) (h.does env is rest trace);
   made = h.made;
   stays = h.stays;
 }
@@ -79,29 +81,29 @@ answers_as r i ws vs old new e h = subst (λ (x : List ℕ). AnswersRow r i x ol
 
 -- a call over values that returned, as an act that is lifted
 pub lift_ok : (n : ℕ) (out : values.Out ℕ) (s : values.State) (w : World) → (let r : Result ℕ ValueErr = Ok n in values.Says r (λ n. n) out s)
-    → let q : Result ℕ HostErr = Ok n in Says any q (λ n. n) (lifted w out) (λ trace. record (with_state s w) { trace = trace })
+    → let q : Result ℕ HostErr = Ok n in Says q (λ n. n) (lifted w out) (quiet w (λ trace. record (with_state s w) { trace = trace }))
 lift_ok n out s w h =
-    subst (λ (o : values.Out ℕ). let q : Result ℕ HostErr = Ok n in Says any q (λ n. n) (lifted w o) (λ trace. record (with_state s w) { trace = trace })) (sym h) (tt, refl)
+    subst (λ (o : values.Out ℕ). let q : Result ℕ HostErr = Ok n in Says q (λ n. n) (lifted w o) (quiet w (λ trace. record (with_state s w) { trace = trace }))) (sym h) (refl, refl)
 
 -- a call over values that ended otherwise
 pub lift_err : (e : ValueErr) (out : values.Out ℕ) (s : values.State) (w : World) → (let r : Result ℕ ValueErr = Err e in values.Says r (λ n. n) out s)
-    → let q : Result ℕ HostErr = Err (host_end e) in Says any q (λ n. n) (lifted w out) (λ trace. record (with_state s w) { trace = trace })
+    → let q : Result ℕ HostErr = Err (host_end e) in Says q (λ n. n) (lifted w out) (quiet w (λ trace. record (with_state s w) { trace = trace }))
 lift_err (errs.Failed x) out s w h =
-    subst (λ (o : values.Out ℕ). let q : Result ℕ HostErr = Err (host_end (errs.Failed x)) in Says any q (λ n. n) (lifted w o) (λ trace. record (with_state s w) { trace = trace })) (sym h) (tt, refl)
+    subst (λ (o : values.Out ℕ). let q : Result ℕ HostErr = Err (host_end (errs.Failed x)) in Says q (λ n. n) (lifted w o) (quiet w (λ trace. record (with_state s w) { trace = trace }))) (sym h) (refl, refl)
 lift_err errs.Spent out s w h =
-    subst (λ (o : values.Out ℕ). let q : Result ℕ HostErr = Err (host_end errs.Spent) in Says any q (λ n. n) (lifted w o) (λ trace. record (with_state s w) { trace = trace })) (sym h) (tt, refl, refl)
+    subst (λ (o : values.Out ℕ). let q : Result ℕ HostErr = Err (host_end errs.Spent) in Says q (λ n. n) (lifted w o) (quiet w (λ trace. record (with_state s w) { trace = trace }))) (sym h) (refl, refl, refl)
 lift_err errs.NoMemory out s w h = tt
 
 -- ---- calls
 
-row_ends : (ks : List ArgKind) (o : Option (Rule ks)) (other : Option (List ℕ → values.Act ℕ)) (words : List ℕ) (w : World) (left : List Access → World) (e : HostErr)
-    → (let r : Result Answer' HostErr = Err e in SaysBy r ks o words w left) → let q : Result ℕ HostErr = Err e in Says any q (λ n. n) (either (option_map (call_of ks) o) other words w) left
+row_ends : (ks : List ArgKind) (o : Option (Rule ks)) (other : Option (List ℕ → values.Act ℕ)) (words : List ℕ) (w : World) (left : Leaves) (e : HostErr)
+    → (let r : Result Answer' HostErr = Err e in SaysBy r ks o words w left) → let q : Result ℕ HostErr = Err e in Says q (λ n. n) (either (option_map (call_of ks) o) other words w) left
 row_ends ks None other words w left e h = absurd h
 row_ends ks (Some rule) other words w left e h = ends_then answer_of (λ (n : ℕ). n) (answered ks rule words w) (λ answer. lift (given answer)) left e h
 
-row_goes : (ks : List ArgKind) (o : Option (Rule ks)) (other : Option (List ℕ → values.Act ℕ)) (words : List ℕ) (w : World) (left then : List Access → World) (a : Answer') (q : Result ℕ HostErr)
-    → (let r : Result Answer' HostErr = Ok a in SaysBy r ks o words w left) → ((trace : List Access) → Says any q (λ n. n) (lift (given (answer_of a)) (left trace)) then)
-    → Says any q (λ n. n) (either (option_map (call_of ks) o) other words w) then
+row_goes : (ks : List ArgKind) (o : Option (Rule ks)) (other : Option (List ℕ → values.Act ℕ)) (words : List ℕ) (w : World) (left then : Leaves) (a : Answer') (q : Result ℕ HostErr)
+    → (let r : Result Answer' HostErr = Ok a in SaysBy r ks o words w left) → ((trace : List Access) → left.told trace → Says q (λ n. n) (lift (given (answer_of a)) (left.world trace)) then)
+    → Says q (λ n. n) (either (option_map (call_of ks) o) other words w) then
 row_goes ks None other words w left then a q h k = absurd h
 row_goes ks (Some rule) other words w left then a q h k = goes_then answer_of (λ (n : ℕ). n) (answered ks rule words w) (λ answer. lift (given answer)) left then a q h k
 
@@ -129,7 +131,7 @@ pub call_ends : {G : Type 0} (e : HostErr) (i : HostImport) (words : List ℕ) (
     → let q : Result ℕ HostErr = Err e in Calls q i words old new
 call_ends e i words old new ready h = record {
   does = λ env is opener rest trace.
-      row_ends (arguments_of i) (world_rule env opener i) (value_function i) words (world_at rest old trace) (world_at rest new) e (h.does env is opener rest trace);
+      row_ends (arguments_of i) (world_rule env opener i) (value_function i) words (world_at rest old trace) (leaving old.storage new.storage trace (world_at rest new)) e (h.does env is opener rest trace);
   ready = ready_after old new ready h.stays;
   left = left_after old new h.stays;
 }
@@ -156,11 +158,13 @@ left_shown old middle new left shows = record {
 -- a function that answers, and the word of its answer
 pub call_goes_on : {G : Type 0} (a : Answer') (q : Result ℕ HostErr) (i : HostImport) (words : List ℕ) (old middle new : HostLedger G) → IsReady old
     → (let r : Result Answer' HostErr = Ok a in AnswersRow r i words old middle)
-    → ((rest : World) (trace : List Access) → Says any q (λ n. n) (lift (given (answer_of a)) (world_at rest middle trace)) (world_at rest new))
+    → ((rest : World) (trace : List Access) → Says q (λ n. n) (lift (given (answer_of a)) (world_at rest middle trace)) (quiet (world_at rest middle trace) (world_at rest new)))
     → AreIndices new.objects new.frame.shown → Shows middle new → Calls q i words old new
 call_goes_on a q i words old middle new ready h shown indices shows = record {
   does = λ env is opener rest trace.
-      row_goes (arguments_of i) (world_rule env opener i) (value_function i) words (world_at rest old trace) (world_at rest middle) (world_at rest new) a q (h.does env is opener rest trace) (shown rest);
+      row_goes (arguments_of i) (world_rule env opener i) (value_function i) words (world_at rest old trace) (leaving old.storage middle.storage trace (world_at rest middle)) (leaving old.storage new.storage trace (world_at rest new)) a q (h.does env is opener rest trace)
+      (λ between told. afterwards q (λ n. n) (lift (given (answer_of a)) (world_at rest middle between)) old.storage new.storage trace (world_at rest middle between) (world_at rest new)
+      (subst (λ (s : Stored). Tells old.storage s trace between) (sym shows.storage) told) (shown rest between));
   ready = ready_shown middle new (ready_after old middle ready h.stays) shows indices;
   left = left_shown old middle new (left_after old middle h.stays) shows;
 }

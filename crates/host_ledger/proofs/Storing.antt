@@ -18,8 +18,7 @@ use Rattle.host_frame.proofs.Making.{map_made, put_made}
 use Rattle.call_spec.specs.World.{Copied, World}
 use Rattle.call_spec.specs.Rules.{nothing}
 use Rattle.call_spec.specs.Storage.{members, put_in_copy}
-use Rattle.call_spec.specs.Outcomes.{Says}
-use Rattle.host_ledger.specs.Answered.{any}
+use Rattle.call_spec.specs.Outcomes.{quiet, Says}
 use Rattle.host_ledger.specs.Storing.{instance_with, PutsInCopy}
 
 pub empty_hosted : IsHosted (map (members_of []))
@@ -51,27 +50,27 @@ within_held code ms made h =
 -- ---- acts
 
 stored_at : (k v : Datum) (w : World) (a : Answer) → answer_of a ≡ nothing → is_within_limits (instance_with w.frame.copy.code (put k v (members w.frame.copy.storage))) ≡ true
-    → (let r : Result Answer HostErr = Ok a in Says any r answer_of (put_in_copy k v w)
-    (λ trace. record w { trace = trace; frame = record w.frame { copy = record { code = w.frame.copy.code; storage = Some (put k v (members w.frame.copy.storage)) } } }))
-stored_at k v w a void h = rw (h, void) (tt, refl)
+    → (let r : Result Answer HostErr = Ok a in Says r answer_of (put_in_copy k v w)
+    (quiet w (λ trace. record w { trace = trace; frame = record w.frame { copy = record { code = w.frame.copy.code; storage = Some (put k v (members w.frame.copy.storage)) } } })))
+stored_at k v w a void h = rw (h, void) (refl, refl)
 
 stored : (k v : Datum) (c : Copied) (a : Answer) → answer_of a ≡ nothing → is_within_limits (instance_with c.code (put k v (members c.storage))) ≡ true
     → (let r : Result Answer HostErr = Ok a in PutsInCopy r k v c (record { code = c.code; storage = Some (put k v (members c.storage)) }))
 stored k v c a void h w j =
     subst (λ (x : Copied). is_within_limits (instance_with x.code (put k v (members x.storage))) ≡ true
-    → (let r : Result Answer HostErr = Ok a in Says any r answer_of (put_in_copy k v w)
-    (λ trace. record w { trace = trace; frame = record w.frame { copy = record { code = x.code; storage = Some (put k v (members x.storage)) } } })))
+    → (let r : Result Answer HostErr = Ok a in Says r answer_of (put_in_copy k v w)
+    (quiet w (λ trace. record w { trace = trace; frame = record w.frame { copy = record { code = x.code; storage = Some (put k v (members x.storage)) } } }))))
     j (stored_at k v w a void) h
 
 refused_at : (k v : Datum) (w : World) → is_within_limits (instance_with w.frame.copy.code (put k v (members w.frame.copy.storage))) ≡ false
-    → (let r : Result Answer HostErr = Err (ends.Failed errors.TOO_LARGE) in Says any r answer_of (put_in_copy k v w) (λ trace. record w { trace = trace; frame = record w.frame { copy = w.frame.copy } }))
-refused_at k v w h = rw h (tt, refl)
+    → (let r : Result Answer HostErr = Err (ends.Failed errors.TOO_LARGE) in Says r answer_of (put_in_copy k v w) (quiet w (λ trace. record w { trace = trace; frame = record w.frame { copy = w.frame.copy } })))
+refused_at k v w h = rw h (refl, refl)
 
 refused : (k v : Datum) (c : Copied) → is_within_limits (instance_with c.code (put k v (members c.storage))) ≡ false
     → (let r : Result Answer HostErr = Err (ends.Failed errors.TOO_LARGE) in PutsInCopy r k v c c)
 refused k v c h w j =
     subst (λ (x : Copied). is_within_limits (instance_with x.code (put k v (members x.storage))) ≡ false
-    → (let r : Result Answer HostErr = Err (ends.Failed errors.TOO_LARGE) in Says any r answer_of (put_in_copy k v w) (λ trace. record w { trace = trace; frame = record w.frame { copy = x } })))
+    → (let r : Result Answer HostErr = Err (ends.Failed errors.TOO_LARGE) in Says r answer_of (put_in_copy k v w) (quiet w (λ trace. record w { trace = trace; frame = record w.frame { copy = x } }))))
     j (refused_at k v w) h
 
 -- ---- the calls of the program

@@ -23,7 +23,7 @@ use Rattle.call_spec.specs.Storage.{value_in}
 use Rattle.call_spec.specs.Rules.{Rule, answered}
 use Rattle.call_spec.specs.Outcomes.{Says}
 use Rattle.host_ledger.specs.Worlds.{Serves}
-use Rattle.host_ledger.specs.Answered.{any}
+use Rattle.host_ledger.specs.Traced.{leaving}
 
 -- the end of a call of the storage with this key
 abbrev pub end_of : LedgerKey → StoErr → HostErr
@@ -40,7 +40,8 @@ named key (Err e) = Err (end_of key e)
 -- A call does an act of every environment that the storage serves, in every world with its entries.
 abbrev pub Accesses : {A B : Type 0} → Result A HostErr → (A → B) → (Env → Act B) → Stored → Stored → Type 0
 Accesses r view act old new =
-    (env : Env) → Serves env old → (w : World) → w.entries ≡ old.map → Says any r view (act env w) (λ trace. record w { entries = new.map; trace = trace })
+    (env : Env) → Serves env old → (w : World) → w.entries ≡ old.map
+    → Says r view (act env w) (leaving old new w.trace (λ trace. record w { entries = new.map; trace = trace }))
 
 -- what the value of a live entry gives, after the charge for the entry
 abbrev pub opens : LedgerKey → LedgerEntry → Act Answer
@@ -50,11 +51,12 @@ opens key entry = effected key (costs ValDeser (entry_size entry) (value_in entr
 abbrev pub Pays : Result Answer' HostErr → (Env → Act Answer) → Stored → Stored → Meter → Meter → Type 0
 Pays r act old new before after =
     (env : Env) → Serves env old → (w : World) → w.entries ≡ old.map → w.meter ≡ before
-    → Says any r answer_of (act env w) (λ trace. record w { entries = new.map; trace = trace; meter = after })
+    → Says r answer_of (act env w) (leaving old new w.trace (λ trace. record w { entries = new.map; trace = trace; meter = after }))
 
 -- The body returns what the row's rule returns for these words. This holds for every environment of the storage, and every world with these entries,
 -- shown values, budget, contract and copy of its instance.
 abbrev pub Runs : Result Answer' HostErr → (ks : List ArgKind) → (Env → Rule ks) → List ℕ → List Datum → Hash → Stored → Stored → Meter → Meter → Copied → Copied → Type 0
 Runs r ks rule words shown contract old new before after copy changed =
     (env : Env) → Serves env old → (w : World) → w.entries ≡ old.map → w.meter ≡ before → w.frame.shown ≡ shown → w.frame.contract ≡ contract → w.frame.copy ≡ copy
-    → Says any r answer_of (answered ks (rule env) words w) (λ trace. record w { entries = new.map; trace = trace; meter = after; frame = record w.frame { copy = changed } })
+    → Says r answer_of (answered ks (rule env) words w)
+    (leaving old new w.trace (λ trace. record w { entries = new.map; trace = trace; meter = after; frame = record w.frame { copy = changed } }))

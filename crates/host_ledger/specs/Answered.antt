@@ -8,12 +8,9 @@ use Rattle.host_frame.specs.declared.answer.Answer.{Answer as Answer'}
 use Rattle.call_spec.specs.World.{Access, World, Env}
 use Rattle.call_spec.specs.Outcomes.{Says}
 use Rattle.call_spec.specs.Rules.{Rule, answered}
+use Rattle.host_ledger.specs.Traced.{leaving}
 use Rattle.host_ledger.specs.Worlds.{world_at, IsEnv, Stays}
 use Rattle.host_ledger.specs.declared.state.HostLedger.{HostLedger}
-
--- no fact about the trace, since a storage that enforces a footprint does not record accesses
-abbrev pub any : List Access → Type 0
-any trace = Unit {0}
 
 abbrev pub IsMadeIfOk : Result Answer' HostErr → Type 0
 IsMadeIfOk (Ok a) = IsAnswerMade (answer_of a)
@@ -21,6 +18,7 @@ IsMadeIfOk (Err e) = Unit {0}
 
 -- The body returns what the row's rule returns for these words. This holds for every environment and world of the state, and every earlier trace.
 pub record Answers {G : Type 0} (r : Result Answer' HostErr) (ks : List ArgKind) (rule : Env → Rule ks) (words : List ℕ) (old new : HostLedger G) : Type 0 where
-  pub does : (env : Env) → IsEnv env old → (rest : World) (trace : List Access) → Says any r answer_of (answered ks (rule env) words (world_at rest old trace)) (world_at rest new)
+  pub does : (env : Env) → IsEnv env old → (rest : World) (trace : List Access) → Says r answer_of (answered ks (rule env) words (world_at rest old trace))
+      (leaving old.storage new.storage trace (world_at rest new))
   pub made : IsMadeIfOk r
   pub stays : Stays old new

@@ -10,7 +10,7 @@ use Rattle.call_spec.specs.Frames.{Opener}
 use Rattle.call_spec.specs.HostFunctions.{host_function}
 use Rattle.call_spec.specs.Outcomes.{Says}
 use Rattle.host_ledger.specs.Worlds.{world_at, IsEnv, IsReady}
-use Rattle.host_ledger.specs.Answered.{any}
+use Rattle.host_ledger.specs.Traced.{leaving}
 use Rattle.host_ledger.specs.declared.state.HostLedger.{HostLedger}
 
 -- The functions of the modules x and l that act on the ledger or the running frame alone: all that neither upload, create nor call.
@@ -55,7 +55,7 @@ pub record Left {G : Type 0} (old new : HostLedger G) : Type 0 where
 -- A call does what the function does with these words, in each environment and world of the state, whatever its accesses were so far.
 pub record Calls {G : Type 0} (r : Result ℕ HostErr) (i : HostImport) (words : List ℕ) (old new : HostLedger G) : Type 0 where
   pub does : (env : Env) → IsEnv env old → (opener : Opener) (rest : World) (trace : List Access)
-      → Says any r (λ n. n) (host_function env opener i words (world_at rest old trace)) (world_at rest new)
+      → Says r (λ n. n) (host_function env opener i words (world_at rest old trace)) (leaving old.storage new.storage trace (world_at rest new))
   pub ready : IsReady new
   pub left : Left old new
 

@@ -1,4 +1,5 @@
 pub mod EventLists
+pub mod Traced
 pub mod Worlds
 pub mod Answered
 pub mod Accessed

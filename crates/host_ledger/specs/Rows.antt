@@ -10,21 +10,22 @@ use Rattle.host_frame.specs.declared.answer.Answer.{Answer}
 use Rattle.call_spec.specs.World.{Access, World, Env}
 use Rattle.call_spec.specs.Frames.{Opener}
 use Rattle.call_spec.specs.HostFunctions.{world_rule}
-use Rattle.call_spec.specs.Outcomes.{Says}
+use Rattle.call_spec.specs.Outcomes.{Leaves, Says}
 use Rattle.call_spec.specs.Rules.{Rule, answered}
+use Rattle.host_ledger.specs.Traced.{leaving}
 use Rattle.host_ledger.specs.Worlds.{world_at, IsEnv, Stays}
-use Rattle.host_ledger.specs.Answered.{any, IsMadeIfOk}
+use Rattle.host_ledger.specs.Answered.{IsMadeIfOk}
 use Rattle.host_ledger.specs.declared.state.HostLedger.{HostLedger}
 
 -- a body returns what this rule says for these words
-abbrev pub SaysBy : Result Answer HostErr → (ks : List ArgKind) → Option (Rule ks) → List ℕ → World → (List Access → World) → Type 0
+abbrev pub SaysBy : Result Answer HostErr → (ks : List ArgKind) → Option (Rule ks) → List ℕ → World → Leaves → Type 0
 SaysBy r ks None words w left = ⊥
-SaysBy r ks (Some rule) words w left = Says any r answer_of (answered ks rule words w) left
+SaysBy r ks (Some rule) words w left = Says r answer_of (answered ks rule words w) left
 
 -- A body returns what the rule of a function says for these words, in each environment and world of the state, whatever its accesses were so far.
 pub record AnswersRow {G : Type 0} (r : Result Answer HostErr) (i : HostImport) (words : List ℕ) (old new : HostLedger G) : Type 0 where
   pub does : (env : Env) → IsEnv env old → (opener : Opener) (rest : World) (trace : List Access)
-      → SaysBy r (arguments_of i) (world_rule env opener i) words (world_at rest old trace) (world_at rest new)
+      → SaysBy r (arguments_of i) (world_rule env opener i) words (world_at rest old trace) (leaving old.storage new.storage trace (world_at rest new))
   pub made : IsMadeIfOk r
   pub stays : Stays old new
 

@@ -10,8 +10,7 @@ use Rattle.host_frame.specs.Answered.{answer_of}
 use Rattle.host_frame.specs.declared.answer.Answer.{Answer}
 use Rattle.call_spec.specs.World.{Copied, World}
 use Rattle.call_spec.specs.Storage.{put_in_copy}
-use Rattle.call_spec.specs.Outcomes.{Says}
-use Rattle.host_ledger.specs.Answered.{any}
+use Rattle.call_spec.specs.Outcomes.{quiet, Says}
 use Rattle.host_ledger.specs.declared.puts.Unput.{Unput}
 use Rattle.host_ledger.specs.declared.puts.Unput.TheVariants as why
 
@@ -28,4 +27,4 @@ Puts (Err why.NoMemory) code key val old = Unit {0}
 -- A call puts a value at a key of the frame's copy, from one copy to the other.
 abbrev pub PutsInCopy : Result Answer HostErr → Datum → Datum → Copied → Copied → Type 0
 PutsInCopy r key val old new =
-    (w : World) → w.frame.copy ≡ old → Says any r answer_of (put_in_copy key val w) (λ trace. record w { trace = trace; frame = record w.frame { copy = new } })
+    (w : World) → w.frame.copy ≡ old → Says r answer_of (put_in_copy key val w) (quiet w (λ trace. record w { trace = trace; frame = record w.frame { copy = new } }))

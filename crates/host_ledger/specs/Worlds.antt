@@ -12,10 +12,9 @@ use Rattle.ledger_types.specs.Key.{key_format}
 use Rattle.ledger_types.specs.declared.key.LedgerKey.{LedgerKey}
 use Rattle.ledger_spec.specs.LedgerMap.{key_bytes}
 use Rattle.contract_storage.specs.Stored.{Stored, HasBounds, IsLater}
-use Rattle.contract_storage.specs.Footprint.{allows}
-use Rattle.contract_storage.specs.declared.access.Access.{Access as Access'}
-use Rattle.contract_storage.specs.declared.access.Access.TheVariants as kinds
-use Rattle.call_spec.specs.World.{AccessKind, Read, Extend, Write, Access, Copied, World, Env, next_seq, made_seq}
+use Rattle.contract_storage.specs.Touched.{admits}
+use Rattle.call_spec.specs.World.{AccessKind, Access, Copied, World, Env, next_seq, made_seq}
+use Rattle.host_ledger.specs.Traced.{kind_of}
 use Rattle.host_ledger.specs.declared.state.InstanceCopy.{InstanceCopy}
 use Rattle.host_ledger.specs.declared.state.HostLedger.{HostLedger}
 
@@ -40,17 +39,11 @@ world_at rest h trace = record rest {
 
 -- ---- environments
 
--- how the storage names a kind of access
-abbrev pub kind_of : AccessKind → Access'
-kind_of Read = kinds.Read
-kind_of Extend = kinds.Extend
-kind_of Write = kinds.Write
-
--- A storage makes the accesses of an environment: in its ledger, with its settings, and its judge allows what the declared keys allow.
+-- A storage makes the accesses of an environment: in its ledger, with its settings, and its judge allows what the storage allows.
 pub record Serves (env : Env) (s : Stored) : Type 0 where
   pub number : s.n ≡ made_seq env
   pub lives : s.lives ≡ env.header.settings
-  pub judge : (kind : AccessKind) (key : LedgerKey) → key_format.fits key → allows s.declared (kind_of kind) key ≡ env.judge kind (key_bytes key)
+  pub judge : (kind : AccessKind) (key : LedgerKey) → key_format.fits key → admits s.declared (kind_of kind) key ≡ env.judge kind (key_bytes key)
 
 -- an environment of the program's state
 pub record IsEnv {G : Type 0} (env : Env) (h : HostLedger G) : Type 0 where

@@ -6,15 +6,15 @@ ghost use Rattle.ledger_types.specs.Entry.{entry_format, key_of};
 ghost use Rattle.ledger_spec.specs.LedgerMap.{LedgerMap, HasCodeHash};
 ghost use Rattle.ledger_types.specs.declared.key.LedgerKey.{LedgerKey as LedgerKeyData};
 ghost use Rattle.host_frame.specs.Answered.{answer_of};
-ghost use Rattle.contract_storage.specs.Stored.{IsLater};
+ghost use Rattle.contract_storage.specs.Stored.{IsRead, IsLater};
 ghost use Rattle.call_spec.specs.World.{Read, Write, World};
 ghost use Rattle.call_spec.specs.Acts.{paying, sets};
 ghost use Rattle.call_spec.specs.Changed.{with_entries};
 ghost use Rattle.call_spec.specs.Rules.{nothing};
 ghost use Rattle.call_spec.specs.Accesses.{access, puts, entry_size};
 ghost use Rattle.call_spec.specs.Storage.{has, gets, deletes, extending};
-ghost use Rattle.call_spec.specs.Outcomes.{Says};
-ghost use Rattle.host_ledger.specs.Answered.{IsMadeIfOk, any};
+ghost use Rattle.call_spec.specs.Outcomes.{Says, quiet};
+ghost use Rattle.host_ledger.specs.Answered.{IsMadeIfOk};
 ghost use Rattle.host_ledger.specs.Accessed.{Accesses, Pays, opens, end_of};
 
 use crate::errors::NO_ENTRY;
@@ -41,7 +41,7 @@ pub fn end_of(key: LedgerKey, error: StoErr) -> HostErr
 }
 
 /// Whether there is a live entry at a key.
-#[tactic(auto, using(crate::proofs::Linking::has_yields))]
+#[tactic(auto, using(crate::proofs::Linking::has_yields, crate::proofs::Linking::reads_read))]
 pub(crate) fn has<G: Ground>(
     storage: &mut Storage<'_, G>,
     key: LedgerKey,
@@ -49,7 +49,7 @@ pub(crate) fn has<G: Ground>(
     requires { key_format.fits key }
     ensures does { Accesses result answer_of (λ env. access env Read key has) storage.old storage.new }
     ensures made { IsMadeIfOk result }
-    ensures stays { storage.new ≡ storage.old }
+    ensures read { IsRead storage.old storage.new }
 {
     match storage.has(&key) {
         Ok(found) => Ok(Answer::boolean(found)),
@@ -106,7 +106,7 @@ pub(crate) fn extend<G: Ground>(
 fn opened(budget: &mut Budget, found: &LedgerEntry) -> Result<Answer, HostErr>
     requires { entry_format.fits found.now }
     ensures does { (key : LedgerKeyData) (w : World) → w.meter ≡ budget.old
-        → Says any result answer_of (opens key found.now w) (λ trace. record w { trace = trace; meter = budget.new }) }
+        → Says result answer_of (opens key found.now w) (quiet w (λ trace. record w { trace = trace; meter = budget.new })) }
     ensures made { IsMadeIfOk result }
 {
     charge(budget, Kind::ValDeser, found.size())?;
@@ -123,13 +123,14 @@ fn opened(budget: &mut Budget, found: &LedgerEntry) -> Result<Answer, HostErr>
 /// The value of the live entry at a key.
 #[tactic(auto, using(crate::proofs::Linking::get_refused, crate::proofs::Linking::get_opened))]
 pub(crate) fn get<G: Ground>(
-    storage: &Storage<'_, G>,
+    storage: &mut Storage<'_, G>,
     budget: &mut Budget,
     key: LedgerKey,
 ) -> Result<Answer, HostErr>
     requires { key_format.fits key }
-    ensures does { Pays result (λ env. access env Read key gets) storage.now storage.now budget.old budget.new }
+    ensures does { Pays result (λ env. access env Read key gets) storage.old storage.new budget.old budget.new }
     ensures made { IsMadeIfOk result }
+    ensures read { IsRead storage.old storage.new }
 {
     match storage.get(&key) {
         Ok(found) => opened(budget, found),
@@ -141,8 +142,8 @@ pub(crate) fn get<G: Ground>(
 #[tactic(auto, using(crate::proofs::Putting::paid_good, crate::proofs::Putting::paid_spent))]
 fn paid(budget: &mut Budget, size: u64) -> Result<Answer, HostErr>
     ensures does { (w : World) (map : LedgerMap) → w.meter ≡ budget.old
-        → Says any result answer_of (paying Kind.ValSer size (sets (with_entries map) nothing) w)
-        (λ trace. record w { entries = map; trace = trace; meter = budget.new }) }
+        → Says result answer_of (paying Kind.ValSer size (sets (with_entries map) nothing) w)
+        (quiet w (λ trace. record w { entries = map; trace = trace; meter = budget.new })) }
     ensures made { IsMadeIfOk result }
 {
     match budget.charge(Kind::ValSer, size) {

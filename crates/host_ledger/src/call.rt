@@ -7,9 +7,8 @@ ghost use Rattle.host_frame.specs.Answered.{answer_of};
 ghost use Rattle.host_frame.specs.Made.{IsAnswerMade};
 ghost use Rattle.call_spec.specs.World.{Access, World};
 ghost use Rattle.call_spec.specs.Acts.{lift};
-ghost use Rattle.call_spec.specs.Outcomes.{Says};
+ghost use Rattle.call_spec.specs.Outcomes.{Says, quiet};
 ghost use Rattle.host_ledger.specs.Worlds.{world_at, IsReady, Shows};
-ghost use Rattle.host_ledger.specs.Answered.{any};
 ghost use Rattle.host_interface.specs.Named.{import_named};
 ghost use Rattle.host_ledger.specs.Called.{IsLedgerCall, Calls, IsNamedCall, CallsNamed};
 ghost use Rattle.host_ledger.specs.Rows.{AnswersRow};
@@ -47,7 +46,8 @@ fn show<G: Ground>(host: &mut HostLedger<'_, G>, answer: Answer) -> Result<u64, 
     requires made { IsAnswerMade (answer_of answer) }
     requires indices { AreIndices host.old.objects host.old.frame.shown }
     ensures does { (rest : World) (trace : List Access)
-        → Says any result (λ n. n) (lift (given (answer_of answer)) (world_at rest host.old trace)) (world_at rest host.new) }
+        → Says result (λ n. n) (lift (given (answer_of answer)) (world_at rest host.old trace))
+        (quiet (world_at rest host.old trace) (world_at rest host.new)) }
     ensures indices { AreIndices host.new.objects host.new.frame.shown }
     ensures shows { Shows host.old host.new }
 {

@@ -8,10 +8,10 @@ ghost use Rattle.host_spec.specs.MapRows.{value_at as value_in};
 ghost use Rattle.host_spec.specs.declared.error.ValueErr.TheVariants as errs;
 ghost use Rattle.host_frame.specs.Answered.{answer_of};
 ghost use Rattle.call_spec.specs.World.{World};
-ghost use Rattle.call_spec.specs.Outcomes.{Says};
+ghost use Rattle.call_spec.specs.Outcomes.{quiet, Says};
 ghost use Rattle.call_spec.specs.Storage.{members, get_in_copy, storage_without};
 ghost use Rattle.host_ledger.specs.Worlds.{IsHeld, copied};
-ghost use Rattle.host_ledger.specs.Answered.{IsMadeIfOk, any};
+ghost use Rattle.host_ledger.specs.Answered.{IsMadeIfOk};
 ghost use Rattle.host_ledger.specs.Storing.{PutsInCopy};
 
 use crate::errors::{NO_ENTRY, TOO_LARGE};
@@ -57,7 +57,7 @@ pub(crate) fn in_copy<'a>(copy: &'a InstanceCopy, key: &ScVal) -> Option<&'a ScV
 pub(crate) fn get_in_copy(copy: &InstanceCopy, key: &ScVal) -> Result<Answer, HostErr>
     requires { IsHeld copy.now.storage }
     ensures does { (w : World) → w.frame.copy ≡ copied copy.now
-        → Says any result answer_of (get_in_copy (datum key.now) w) (λ trace. record w { trace = trace }) }
+        → Says result answer_of (get_in_copy (datum key.now) w) (quiet w (λ trace. record w { trace = trace })) }
     ensures made { IsMadeIfOk result }
 {
     match in_copy(copy, key) {

@@ -8,10 +8,11 @@ ghost use Rattle.ledger_spec.specs.LedgerMap.{HasCodeHash};
 ghost use Rattle.host_interface.specs.declared.kinds.ArgKind.TheVariants as kinds;
 ghost use Rattle.host_spec.specs.Hosted.{IsHosted};
 ghost use Rattle.host_spec.specs.declared.error.ValueErr.TheVariants as errs;
-ghost use Rattle.contract_storage.specs.Stored.{IsLater};
+ghost use Rattle.contract_storage.specs.Stored.{IsRead, IsLater};
 ghost use Rattle.call_spec.specs.World.{Write, Copied, World, Env, made_seq as made_in};
 ghost use Rattle.call_spec.specs.Acts.{with_frame};
 ghost use Rattle.call_spec.specs.Outcomes.{Says};
+ghost use Rattle.host_ledger.specs.Traced.{leaving};
 ghost use Rattle.call_spec.specs.Keys.{data_key as data_key_at, data_entry as data_entry_at};
 ghost use Rattle.call_spec.specs.Accesses.{access, puts};
 ghost use Rattle.call_spec.specs.Rules.{nothing};
@@ -19,7 +20,7 @@ ghost use Rattle.call_spec.specs.Storage.{put_contract_data, del_contract_data, 
 ghost use Rattle.value_types.specs.Address.{address_format};
 ghost use Rattle.host_frame.specs.Answered.{answer_of};
 ghost use Rattle.host_ledger.specs.Worlds.{IsReady, IsHeld, Serves, copied};
-ghost use Rattle.host_ledger.specs.Answered.{Answers, IsMadeIfOk, any};
+ghost use Rattle.host_ledger.specs.Answered.{Answers, IsMadeIfOk};
 ghost use Rattle.host_ledger.specs.Accessed.{Runs};
 
 use crate::accesses::{del, extend, get, has, is_backward, put};
@@ -82,9 +83,10 @@ fn put_entry<G: Ground>(
     requires number { storage.old.n ≡ n }
     ensures does { (env : Env) → Serves env storage.old → (w : World) → w.entries ≡ storage.old.map → w.meter ≡ budget.old
         → w.frame.contract ≡ contract
-        → Says any result answer_of (with_frame (λ frame. access env Write (data_key_at frame.contract (datum key.now) durability)
+        → Says result answer_of (with_frame (λ frame. access env Write (data_key_at frame.contract (datum key.now) durability)
         (puts env (data_entry_at (made_in env) frame.contract (datum key.now) durability (datum val.now)) nothing)) w)
-        (λ trace. record w { entries = storage.new.map; trace = trace; meter = budget.new }) }
+        (leaving storage.old storage.new w.trace
+        (λ trace. record w { entries = storage.new.map; trace = trace; meter = budget.new })) }
     ensures made { IsMadeIfOk result }
     ensures later { IsLater storage.old storage.new }
 {
@@ -166,9 +168,9 @@ fn del_entry<G: Ground>(
 ) -> Result<Answer, HostErr>
     requires { IsHosted (datum key.now) }
     ensures does { (env : Env) → Serves env storage.old → (w : World) → w.entries ≡ storage.old.map → w.frame.contract ≡ contract
-        → Says any result answer_of (with_frame
+        → Says result answer_of (with_frame
         (λ frame. access env Write (data_key_at frame.contract (datum key.now) durability) deletes) w)
-        (λ trace. record w { entries = storage.new.map; trace = trace }) }
+        (leaving storage.old storage.new w.trace (λ trace. record w { entries = storage.new.map; trace = trace })) }
     ensures made { IsMadeIfOk result }
     ensures later { IsLater storage.old storage.new }
 {
@@ -215,7 +217,7 @@ fn has_data<G: Ground>(
     ensures does { Runs result (kinds.Value ∷ kinds.Unsigned ∷ []) has_contract_data
         (a ∷ b ∷ []) values.now contract storage.old storage.new budget.old budget.new (copied copy.now) (copied copy.now) }
     ensures made { IsMadeIfOk result }
-    ensures stays { storage.new ≡ storage.old }
+    ensures read { IsRead storage.old storage.new }
 {
     let key = values.value(a)?;
     enter(budget, &[a])?;
@@ -260,9 +262,9 @@ fn extend_entry<G: Ground>(
 ) -> Result<Answer, HostErr>
     requires { IsHosted (datum key.now) }
     ensures does { (env : Env) → Serves env storage.old → (w : World) → w.entries ≡ storage.old.map → w.frame.contract ≡ contract
-        → Says any result answer_of (unless_backward threshold extend_to
+        → Says result answer_of (unless_backward threshold extend_to
         (with_frame (λ frame. extending env (data_key_at frame.contract (datum key.now) durability) threshold extend_to)) w)
-        (λ trace. record w { entries = storage.new.map; trace = trace }) }
+        (leaving storage.old storage.new w.trace (λ trace. record w { entries = storage.new.map; trace = trace })) }
     ensures made { IsMadeIfOk result }
     ensures later { IsLater storage.old storage.new }
 {
@@ -336,7 +338,7 @@ pub fn extend_contract_data_ttl<G: Ground>(
 
 /// The body of `get_contract_data`.
 fn get_data<G: Ground>(
-    storage: &Storage<'_, G>,
+    storage: &mut Storage<'_, G>,
     budget: &mut Budget,
     values: &Values<'_>,
     contract: Hash,
@@ -346,8 +348,9 @@ fn get_data<G: Ground>(
 ) -> Result<Answer, HostErr>
     requires { IsHeld copy.now.storage }
     ensures does { Runs result (kinds.Value ∷ kinds.Unsigned ∷ []) get_contract_data
-        (a ∷ b ∷ []) values.now contract storage.now storage.now budget.old budget.new (copied copy.now) (copied copy.now) }
+        (a ∷ b ∷ []) values.now contract storage.old storage.new budget.old budget.new (copied copy.now) (copied copy.now) }
     ensures made { IsMadeIfOk result }
+    ensures read { IsRead storage.old storage.new }
 {
     let key = values.value(a)?;
     enter(budget, &[a])?;
@@ -371,7 +374,7 @@ pub fn get_contract_data<G: Ground>(
 {
     let values = Values::new(&host.objects, &host.frame.shown);
     get_data(
-        &host.storage,
+        &mut host.storage,
         &mut host.budget,
         &values,
         host.frame.contract,

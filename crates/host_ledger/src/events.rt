@@ -11,11 +11,11 @@ ghost use Rattle.host_spec.specs.Hosted.{IsHosted};
 ghost use Rattle.host_spec.specs.declared.error.ValueErr.TheVariants as errs;
 ghost use Rattle.host_frame.specs.Answered.{answer_of};
 ghost use Rattle.call_spec.specs.World.{World, Env};
-ghost use Rattle.call_spec.specs.Outcomes.{Says};
+ghost use Rattle.call_spec.specs.Outcomes.{quiet, Says};
 ghost use Rattle.call_spec.specs.Rules.{answered};
 ghost use Rattle.call_spec.specs.Events.{event_of as event_with, emits, contract_event};
 ghost use Rattle.host_ledger.specs.Worlds.{IsReady};
-ghost use Rattle.host_ledger.specs.Answered.{Answers, IsMadeIfOk, any};
+ghost use Rattle.host_ledger.specs.Answered.{Answers, IsMadeIfOk};
 
 use crate::event_list::Events;
 use crate::state::HostLedger;
@@ -71,8 +71,8 @@ pub(crate) fn emit(
 ) -> Result<Answer, HostErr>
     requires { event_format.fits event }
     ensures does { (w : World) → w.events ≡ events.old → w.meter ≡ budget.old
-        → Says any result answer_of (emits event w)
-        (λ trace. record w { events = events.new; trace = trace; meter = budget.new }) }
+        → Says result answer_of (emits event w)
+        (quiet w (λ trace. record w { events = events.new; trace = trace; meter = budget.new })) }
     ensures made { IsMadeIfOk result }
     ensures later { (more : List _) × (events.new ≡ events.old ++ more) }
 {
@@ -92,8 +92,8 @@ fn emit_event(
 ) -> Result<Answer, HostErr>
     ensures does { (env : Env) (w : World) → w.events ≡ events.old → w.meter ≡ budget.old → w.frame.shown ≡ values.now
         → w.frame.contract ≡ contract
-        → Says any result answer_of (answered (kinds.Vec ∷ kinds.Value ∷ []) contract_event (a ∷ b ∷ []) w)
-        (λ trace. record w { events = events.new; trace = trace; meter = budget.new }) }
+        → Says result answer_of (answered (kinds.Vec ∷ kinds.Value ∷ []) contract_event (a ∷ b ∷ []) w)
+        (quiet w (λ trace. record w { events = events.new; trace = trace; meter = budget.new })) }
     ensures made { IsMadeIfOk result }
     ensures later { (more : List _) × (events.new ≡ events.old ++ more) }
 {

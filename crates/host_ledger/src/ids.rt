@@ -16,10 +16,10 @@ ghost use Rattle.call_spec.specs.Errors.{OTHER_SIZE as OTHER_SIZE_ERROR};
 ghost use Rattle.call_spec.specs.World.{World, Env};
 ghost use Rattle.call_spec.specs.Acts.{gives, paying};
 ghost use Rattle.call_spec.specs.Creating.{get_contract_id};
-ghost use Rattle.call_spec.specs.Outcomes.{Says};
+ghost use Rattle.call_spec.specs.Outcomes.{quiet, Says};
 ghost use Rattle.call_spec.specs.Rules.{answered, returning};
 ghost use Rattle.host_ledger.specs.Worlds.{IsReady};
-ghost use Rattle.host_ledger.specs.Answered.{Answers, IsMadeIfOk, any};
+ghost use Rattle.host_ledger.specs.Answered.{Answers, IsMadeIfOk};
 
 use crate::context::address_of;
 use crate::errors::OTHER_SIZE;
@@ -115,10 +115,10 @@ fn paid_id(
 ) -> Result<Answer, HostErr>
     requires { as_plain deployer ≡ Some deployer }
     ensures does { (w : World) → w.meter ≡ budget.old
-        → Says any result answer_of (paying Kind.ComputeSha256Hash
+        → Says result answer_of (paying Kind.ComputeSha256Hash
         (length (contract_id_payload network.now (Preimage.FromAddress deployer salt)))
         (returning (gives (contract_id_of network.now (Preimage.FromAddress deployer salt)))
-        (λ id. address (ScAddress.Contract id))) w) (λ trace. record w { trace = trace; meter = budget.new }) }
+        (λ id. address (ScAddress.Contract id))) w) (quiet w (λ trace. record w { trace = trace; meter = budget.new })) }
     ensures made { IsMadeIfOk result }
 {
     let size = payload_size(*network, deployer, salt);
@@ -137,8 +137,8 @@ fn id_of_words(
 ) -> Result<Answer, HostErr>
     ensures does { (env : Env) → env.header.network_id ≡ network.now → (w : World) → w.meter ≡ budget.old
         → w.frame.shown ≡ values.now
-        → Says any result answer_of (answered (kinds.Address ∷ kinds.Bytes ∷ []) (get_contract_id env) (a ∷ b ∷ []) w)
-        (λ trace. record w { trace = trace; meter = budget.new }) }
+        → Says result answer_of (answered (kinds.Address ∷ kinds.Bytes ∷ []) (get_contract_id env) (a ∷ b ∷ []) w)
+        (quiet w (λ trace. record w { trace = trace; meter = budget.new })) }
     ensures made { IsMadeIfOk result }
 {
     let deployer = values.address(a)?;

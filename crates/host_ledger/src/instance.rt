@@ -9,10 +9,11 @@ ghost use Rattle.call_spec.specs.World.{World, Env};
 ghost use Rattle.call_spec.specs.Acts.{after, with_frame};
 ghost use Rattle.call_spec.specs.Keys.{instance_key as instance_key_of, code_key as code_key_of};
 ghost use Rattle.call_spec.specs.Outcomes.{Says};
+ghost use Rattle.host_ledger.specs.Traced.{leaving};
 ghost use Rattle.call_spec.specs.Rules.{answered};
 ghost use Rattle.call_spec.specs.Storage.{extending, unless_backward, extend_current_contract_instance_and_code_ttl};
 ghost use Rattle.host_ledger.specs.Worlds.{IsReady, Serves};
-ghost use Rattle.host_ledger.specs.Answered.{Answers, IsMadeIfOk, any};
+ghost use Rattle.host_ledger.specs.Answered.{Answers, IsMadeIfOk};
 ghost use Rattle.host_ledger.specs.Accessed.{Accesses};
 
 use crate::accesses::{extend, is_backward};
@@ -83,10 +84,10 @@ fn extend_lives<G: Ground>(
 ) -> Result<Answer, HostErr>
     ensures does { (env : Env) → Serves env storage.old → (w : World) → w.entries ≡ storage.old.map → w.frame.contract ≡ contract
         → w.frame.code ≡ code
-        → Says any result answer_of (unless_backward threshold extend_to (with_frame (λ frame.
+        → Says result answer_of (unless_backward threshold extend_to (with_frame (λ frame.
         after (extending env (instance_key_of frame.contract) threshold extend_to)
         (λ _. extending env (code_key_of frame.code) threshold extend_to))) w)
-        (λ trace. record w { entries = storage.new.map; trace = trace }) }
+        (leaving storage.old storage.new w.trace (λ trace. record w { entries = storage.new.map; trace = trace })) }
     ensures made { IsMadeIfOk result }
     ensures later { IsLater storage.old storage.new }
 {
@@ -108,9 +109,10 @@ fn extend_instance<G: Ground>(
 ) -> Result<Answer, HostErr>
     ensures does { (env : Env) → Serves env storage.old → (w : World) → w.entries ≡ storage.old.map → w.meter ≡ budget.old
         → w.frame.shown ≡ values.now → w.frame.contract ≡ contract → w.frame.code ≡ code
-        → Says any result answer_of (answered (kinds.U32 ∷ kinds.U32 ∷ []) (extend_current_contract_instance_and_code_ttl env)
+        → Says result answer_of (answered (kinds.U32 ∷ kinds.U32 ∷ []) (extend_current_contract_instance_and_code_ttl env)
         (a ∷ b ∷ []) w)
-        (λ trace. record w { entries = storage.new.map; trace = trace; meter = budget.new }) }
+        (leaving storage.old storage.new w.trace
+        (λ trace. record w { entries = storage.new.map; trace = trace; meter = budget.new })) }
     ensures made { IsMadeIfOk result }
     ensures later { IsLater storage.old storage.new }
 {

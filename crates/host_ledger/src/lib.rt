@@ -5,8 +5,10 @@
 //! `HostLedger` has what a transaction's run changes: storage, events, budget and values, and the running frame. `world_at` shows
 //! it as a world of call_spec. What the state does not hold is left open and quantified: the accesses so far, the authorisations
 //! that were used, the open contracts, and the frame's other fields (its function and arguments, path and linear memory). `IsEnv`
-//! says which environments fit the state: those with its header, whose judge allows the keys of a spelling that the storage
-//! declares. So a row holds over each ground, and for each footprint.
+//! says which environments fit the state: those with its header, whose judge allows what the storage allows. So a row holds over
+//! each ground, for each footprint, and if the storage records. A clause says what an act leaves: `leaving` (specs/Traced) if the
+//! act may access the ledger, else `quiet` of call_spec. By `leaving`, a storage that has recorded the accesses before the act has
+//! recorded those after it. `proofs/Tracing` leads from one act to the next.
 //!
 //! How a row is written
 //!
@@ -21,7 +23,8 @@
 //!    call whose clause has the branch's act of call_spec, word for word (`extend_entry`). Then the body proves itself, or by a
 //!    lemma of `proofs/Stepping`.
 //! 5. An access of the ledger is a call of `accesses`. Its clause is `Accesses`, or `Pays` if it charges. The lemmas are those of
-//!    `proofs/Linking` and `proofs/Putting`: what a call of the storage returns is how the access of call_spec ends.
+//!    `proofs/Linking` and `proofs/Putting`: what a call of the storage returns is how the access of call_spec ends, and what it
+//!    notes is that access.
 //! 6. A charge that comes before a write may be made after it: a run that the charge ends shows nothing but its budget.
 //! 7. Two acts in a row are two calls and a `match` on the first result: `proofs/Composing` has the lemmas (`extend_both`).
 //!

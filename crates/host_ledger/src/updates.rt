@@ -1,5 +1,8 @@
 //! Module l: updates of the contract's code.
 
+ghost use mir.Syntax.{named};
+ghost use Rattle.std.specs.Borrow.{sem};
+ghost use Rattle.std.specs.Io.BufRead.{Rests};
 ghost use Rattle.std.specs.Prelude.{◌≡◌, ◌++◌, List, [], ◌∷◌, IfOk, IfErr};
 ghost use Rattle.value_types.specs.Views.{scval};
 ghost use Rattle.ledger_types.specs.declared.key.LedgerKey.{LedgerKey as LedgerKeyData};
@@ -7,27 +10,30 @@ ghost use Rattle.invoke_types.specs.Event.{event_format};
 ghost use Rattle.host_interface.specs.declared.kinds.ArgKind.TheVariants as kinds;
 ghost use Rattle.host_spec.specs.declared.error.ValueErr.TheVariants as errs;
 ghost use Rattle.host_frame.specs.Answered.{answer_of};
+ghost use Rattle.contract_storage.specs.Stored.{IsRead};
+ghost use Rattle.contract_storage.specs.contracts.storage.Storage.{the_row};
 ghost use Rattle.call_spec.specs.World.{World, Env};
 ghost use Rattle.call_spec.specs.Acts.{after, with_frame, sets};
 ghost use Rattle.call_spec.specs.Accesses.{effected};
 ghost use Rattle.call_spec.specs.Creating.{update_current_contract_wasm, with_code};
 ghost use Rattle.call_spec.specs.Events.{executable_topic as topic_of, update_event as event_of, emits};
 ghost use Rattle.call_spec.specs.Found.{code_at as code_in, code_of_data};
-ghost use Rattle.call_spec.specs.Outcomes.{Says};
+ghost use Rattle.call_spec.specs.Keys.{code_key as code_key_of};
+ghost use Rattle.call_spec.specs.Outcomes.{quiet, Says};
+ghost use Rattle.host_ledger.specs.Traced.{leaving};
 ghost use Rattle.call_spec.specs.Rules.{answered, nothing};
 ghost use Rattle.host_ledger.specs.Worlds.{IsReady, Serves, copied};
-ghost use Rattle.host_ledger.specs.Answered.{Answers, IsMadeIfOk, any};
-ghost use Rattle.host_ledger.specs.Accessed.{Accesses};
+ghost use Rattle.host_ledger.specs.Answered.{Answers, IsMadeIfOk};
+ghost use Rattle.host_ledger.specs.Accessed.{Accesses, named as named_by};
 
 use crate::accesses::end_of;
-use crate::errors::NO_ENTRY;
 use crate::event_list::Events;
 use crate::events::{emit, hold_hash};
 use crate::ids::hash_of;
 use crate::instance::code_key;
 use crate::state::{HostLedger, InstanceCopy};
 use budget_meter::Budget;
-use contract_storage::Storage;
+use contract_storage::{StoErr, Storage};
 use entry_lookup::Ground;
 use host_frame::{Answer, Values, enter};
 use host_spec::{HostErr, ValueErr};
@@ -37,25 +43,28 @@ use std::alloc::Global;
 use value_types::{Blob, Hash, Items, ScVal, ScVals};
 
 /// The code of a live entry.
-fn code_of(found: &LedgerEntry) -> Result<&[u8], HostErr>
+fn code_of(found: &LedgerEntry) -> Result<&[u8], StoErr>
     ensures { (key : LedgerKeyData) (w : World)
-        → Says any result (λ code. code.now) (effected key (code_of_data found.now.data) w)
-        (λ trace. record w { trace = trace }) }
+        → Says (named_by key result) (λ code. code.now) (effected key (code_of_data found.now.data) w)
+        (quiet w (λ trace. record w { trace = trace })) }
 {
     match &found.data {
         LedgerEntryData::ContractCode(entry) => Ok(entry.code.as_slice()),
-        LedgerEntryData::ContractData(_) => Err(NO_ENTRY),
+        LedgerEntryData::ContractData(_) => Err(StoErr::Missing),
     }
 }
 
 /// The code with a hash.
-fn code_at<'s, G: Ground>(storage: &'s Storage<'_, G>, hash: Hash) -> Result<&'s [u8], HostErr>
-    ensures { Accesses result (λ code. code.now) (λ env. code_in env hash) storage.now storage.now }
+fn code_at<'s, G: Ground>(storage: &'s mut Storage<'_, G>, hash: Hash) -> Result<&'s [u8], StoErr>
+    // Once the entry is no longer borrowed.
+    ensures* lent { sem 𝓛 (Rests (the_row (record { mir = named 1; lft = [] }) G.row G.Ground) storage.entry
+        (λ new. (Accesses (named_by (code_key_of hash) result) (λ code. code.now) (λ env. code_in env hash) storage.old new)
+        × IsRead storage.old new)) }
 {
     let key = code_key(hash);
     match storage.get(&key) {
         Ok(found) => code_of(found),
-        Err(error) => Err(end_of(key, error)),
+        Err(error) => Err(error),
     }
 }
 
@@ -112,8 +121,8 @@ fn emit_update(
     new: Hash,
 ) -> Result<Answer, HostErr>
     ensures does { (w : World) → w.events ≡ events.old → w.meter ≡ budget.old
-        → Says any result answer_of (emits (event_of contract old new) w)
-        (λ trace. record w { events = events.new; trace = trace; meter = budget.new }) }
+        → Says result answer_of (emits (event_of contract old new) w)
+        (quiet w (λ trace. record w { events = events.new; trace = trace; meter = budget.new })) }
     ensures made { IsMadeIfOk result }
     ensures later { (more : List _) × (events.new ≡ events.old ++ more) }
 {
@@ -135,9 +144,14 @@ fn replace_code(
 ) -> Result<Answer, HostErr>
     ensures does { (w : World) → w.events ≡ events.old → w.meter ≡ budget.old → w.frame.contract ≡ contract
         → w.frame.copy ≡ copied copy.old
-        → Says any result answer_of (with_frame
+        → Says result answer_of (with_frame
         (λ frame. after (emits (event_of frame.contract frame.copy.code code)) (λ _. sets (with_code code) nothing)) w)
-        (λ trace. record w { events = events.new; trace = trace; meter = budget.new; frame = record w.frame { copy = copied copy.new } }) }
+        (quiet w (λ trace. record w {
+          events = events.new;
+          trace = trace;
+          meter = budget.new;
+          frame = record w.frame { copy = copied copy.new };
+        })) }
     ensures made { IsMadeIfOk result }
     ensures later { (more : List _) × (events.new ≡ events.old ++ more) }
     ensures storage { copy.new.storage ≡ copy.old.storage }
@@ -153,7 +167,7 @@ fn replace_code(
 
 /// Updates the code of the frame's copy to one that is in the ledger.
 fn update_to<G: Ground>(
-    storage: &Storage<'_, G>,
+    storage: &mut Storage<'_, G>,
     events: &mut Events,
     budget: &mut Budget,
     alloc: Global,
@@ -161,25 +175,32 @@ fn update_to<G: Ground>(
     copy: &mut InstanceCopy,
     code: Hash,
 ) -> Result<Answer, HostErr>
-    ensures does { (env : Env) → Serves env storage.now → (w : World) → w.entries ≡ storage.now.map → w.events ≡ events.old
+    ensures does { (env : Env) → Serves env storage.old → (w : World) → w.entries ≡ storage.old.map → w.events ≡ events.old
         → w.meter ≡ budget.old → w.frame.contract ≡ contract → w.frame.copy ≡ copied copy.old
-        → Says any result answer_of (after (code_in env code)
+        → Says result answer_of (after (code_in env code)
         (λ _. with_frame (λ frame. after (emits (event_of frame.contract frame.copy.code code))
         (λ _. sets (with_code code) nothing))) w)
-        (λ trace. record w { events = events.new; trace = trace; meter = budget.new; frame = record w.frame { copy = copied copy.new } }) }
+        (leaving storage.old storage.new w.trace (λ trace. record w {
+          entries = storage.new.map;
+          events = events.new;
+          trace = trace;
+          meter = budget.new;
+          frame = record w.frame { copy = copied copy.new };
+        })) }
     ensures made { IsMadeIfOk result }
     ensures later { (more : List _) × (events.new ≡ events.old ++ more) }
     ensures storage { copy.new.storage ≡ copy.old.storage }
+    ensures read { IsRead storage.old storage.new }
 {
     match code_at(storage, code) {
         Ok(_) => replace_code(events, budget, alloc, contract, copy, code),
-        Err(error) => Err(error),
+        Err(error) => Err(end_of(code_key(code), error)),
     }
 }
 
 /// The body of `update_current_contract_wasm`.
 fn update_code<G: Ground>(
-    storage: &Storage<'_, G>,
+    storage: &mut Storage<'_, G>,
     events: &mut Events,
     budget: &mut Budget,
     values: &Values<'_>,
@@ -187,13 +208,20 @@ fn update_code<G: Ground>(
     copy: &mut InstanceCopy,
     a: u64,
 ) -> Result<Answer, HostErr>
-    ensures does { (env : Env) → Serves env storage.now → (w : World) → w.entries ≡ storage.now.map → w.events ≡ events.old
+    ensures does { (env : Env) → Serves env storage.old → (w : World) → w.entries ≡ storage.old.map → w.events ≡ events.old
         → w.meter ≡ budget.old → w.frame.shown ≡ values.now → w.frame.contract ≡ contract → w.frame.copy ≡ copied copy.old
-        → Says any result answer_of (answered (kinds.Bytes ∷ []) (update_current_contract_wasm env) (a ∷ []) w)
-        (λ trace. record w { events = events.new; trace = trace; meter = budget.new; frame = record w.frame { copy = copied copy.new } }) }
+        → Says result answer_of (answered (kinds.Bytes ∷ []) (update_current_contract_wasm env) (a ∷ []) w)
+        (leaving storage.old storage.new w.trace (λ trace. record w {
+          entries = storage.new.map;
+          events = events.new;
+          trace = trace;
+          meter = budget.new;
+          frame = record w.frame { copy = copied copy.new };
+        })) }
     ensures made { IsMadeIfOk result }
     ensures later { (more : List _) × (events.new ≡ events.old ++ more) }
     ensures storage { copy.new.storage ≡ copy.old.storage }
+    ensures read { IsRead storage.old storage.new }
 {
     let bytes = values.bytes(a)?;
     enter(budget, &[a])?;
@@ -221,7 +249,7 @@ pub fn update_current_contract_wasm<G: Ground>(
 {
     let values = Values::new(&host.objects, &host.frame.shown);
     update_code(
-        &host.storage,
+        &mut host.storage,
         &mut host.events,
         &mut host.budget,
         &values,

@@ -31,7 +31,8 @@ pub fn two_words(
 ) -> Result<Answer, ValueErr>
     requires from { 5 ≤ group_of «import» }
     requires to { group_of «import» ≤ 8 }
-    ensures { AnswersRow result «import» (a ∷ b ∷ []) (state values.now memory.now budget.old) (state values.now memory.now budget.new) }
+    ensures { AnswersRow result «import» (a ∷ b ∷ []) (state values.now memory.now budget.old)
+        (state values.now memory.now budget.new) }
 {
     match import {
         HostImport::ObjFromU128Pieces => obj_from_u128_pieces(values, budget, a, b),
@@ -53,7 +54,8 @@ fn two_collection(
 ) -> Result<Answer, ValueErr>
     requires from { 6 ≤ group_of «import» }
     requires to { group_of «import» ≤ 8 }
-    ensures { AnswersRow result «import» (a ∷ b ∷ []) (state values.now memory.now budget.old) (state values.now memory.now budget.new) }
+    ensures { AnswersRow result «import» (a ∷ b ∷ []) (state values.now memory.now budget.old)
+        (state values.now memory.now budget.new) }
 {
     match import {
         HostImport::MapGet => map_get(values, budget, a, b),
@@ -84,7 +86,8 @@ fn two_bytes(
 ) -> Result<Answer, ValueErr>
     requires from { 7 ≤ group_of «import» }
     requires to { group_of «import» ≤ 8 }
-    ensures { AnswersRow result «import» (a ∷ b ∷ []) (state values.now memory.now budget.old) (state values.now memory.now budget.new) }
+    ensures { AnswersRow result «import» (a ∷ b ∷ []) (state values.now memory.now budget.old)
+        (state values.now memory.now budget.new) }
 {
     match import {
         HostImport::BytesGet => bytes_get(values, budget, a, b),
@@ -107,7 +110,8 @@ fn two_from_memory(
 ) -> Result<Answer, ValueErr>
     requires from { 8 ≤ group_of «import» }
     requires to { group_of «import» ≤ 8 }
-    ensures { AnswersRow result «import» (a ∷ b ∷ []) (state values.now memory.now budget.old) (state values.now memory.now budget.new) }
+    ensures { AnswersRow result «import» (a ∷ b ∷ []) (state values.now memory.now budget.old)
+        (state values.now memory.now budget.new) }
 {
     match import {
         HostImport::VecNewFromLinearMemory => vec_new_from_linear_memory(

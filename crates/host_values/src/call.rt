@@ -33,7 +33,8 @@ fn plain_answer(
     requires call { IsValueCall «import» words.now }
     requires plain { group_of «import» ≤ 10 }
     requires memory { IsMemory memory.old }
-    ensures { AnswersRow result «import» words.now (state values.now memory.old budget.old) (state values.now memory.new budget.new) }
+    ensures { AnswersRow result «import» words.now (state values.now memory.old budget.old)
+        (state values.now memory.new budget.new) }
 {
     match words {
         [] => without_words(import, values, budget),
@@ -55,7 +56,9 @@ fn unpacked(
 ) -> Result<Answer, ValueErr>
     requires words { length words.now ≡ 3 }
     requires indices { AreIndices objects.old shown.old }
-    ensures answers { AnswersRow result imports.VecUnpackToLinearMemory words.now (state (shown_of objects.old shown.old) memory.old budget.old) (state (shown_of objects.new shown.new) memory.new budget.new) }
+    ensures answers { AnswersRow result imports.VecUnpackToLinearMemory words.now
+        (state (shown_of objects.old shown.old) memory.old budget.old)
+        (state (shown_of objects.new shown.new) memory.new budget.new) }
     ensures indices { AreIndices objects.new shown.new }
 {
     match words {
@@ -77,7 +80,8 @@ fn answer(
     requires call { IsValueCall «import» words.now }
     requires indices { AreIndices objects.old shown.old }
     requires memory { IsMemory memory.old }
-    ensures answers { AnswersRow result «import» words.now (state (shown_of objects.old shown.old) memory.old budget.old) (state (shown_of objects.new shown.new) memory.new budget.new) }
+    ensures answers { AnswersRow result «import» words.now (state (shown_of objects.old shown.old) memory.old budget.old)
+        (state (shown_of objects.new shown.new) memory.new budget.new) }
     ensures indices { AreIndices objects.new shown.new }
 {
     match import {
@@ -101,7 +105,8 @@ pub fn call_function(
     requires call { IsValueCall «import» words.now }
     requires indices { AreIndices objects.old shown.old }
     requires memory { IsMemory memory.old }
-    ensures does { Calls result (value_function «import») words.now (state (shown_of objects.old shown.old) memory.old budget.old) (state (shown_of objects.new shown.new) memory.new budget.new) }
+    ensures does { Calls result (value_function «import») words.now (state (shown_of objects.old shown.old) memory.old budget.old)
+        (state (shown_of objects.new shown.new) memory.new budget.new) }
     ensures indices { AreIndices objects.new shown.new }
 {
     let made = answer(objects, shown, memory, budget, import, words)?;

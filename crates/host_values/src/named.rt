@@ -37,7 +37,8 @@ pub fn value_call(
     ensures same_shown { host.new.shown.ghost_name ≡ host.old.shown.ghost_name }
     ensures same_memory { host.new.memory.ghost_name ≡ host.old.memory.ghost_name }
     ensures same_budget { host.new.budget.ghost_name ≡ host.old.budget.ghost_name }
-    ensures does { HostCalls result (function_named «module».now name.now) args.now (state (shown_of host.old.objects.now host.old.shown.now) host.old.memory.now host.old.budget.now)
+    ensures does { HostCalls result (function_named «module».now name.now) args.now
+        (state (shown_of host.old.objects.now host.old.shown.now) host.old.memory.now host.old.budget.now)
         (state (shown_of host.new.objects.now host.new.shown.now) host.new.memory.now host.new.budget.now) }
     ensures indices { AreIndices host.new.objects.now host.new.shown.now }
 {

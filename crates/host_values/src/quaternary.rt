@@ -29,7 +29,8 @@ pub fn four_words(
     requires from { 10 ≤ group_of «import» }
     requires to { group_of «import» ≤ 10 }
     requires memory { IsMemory memory.old }
-    ensures { AnswersRow result «import» (a ∷ b ∷ c ∷ d ∷ []) (state values.now memory.old budget.old) (state values.now memory.new budget.new) }
+    ensures { AnswersRow result «import» (a ∷ b ∷ c ∷ d ∷ []) (state values.now memory.old budget.old)
+        (state values.now memory.new budget.new) }
 {
     match import {
         HostImport::BytesCopyToLinearMemory => bytes_copy_to_linear_memory(

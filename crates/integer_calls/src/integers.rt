@@ -54,7 +54,8 @@ pub fn obj_from_u128_pieces(
     a: u64,
     b: u64,
 ) -> Result<Answer, ValueErr>
-    ensures { Answers result (kinds.Unsigned ∷ kinds.Unsigned ∷ []) obj_from_u128_pieces (a ∷ b ∷ []) values.now budget.old budget.new }
+    ensures { Answers result (kinds.Unsigned ∷ kinds.Unsigned ∷ []) obj_from_u128_pieces
+        (a ∷ b ∷ []) values.now budget.old budget.new }
 {
     enter(budget, &[])?;
     Ok(Answer::object(ScVal::U128(UInt128Parts { hi: a, lo: b })))
@@ -94,7 +95,8 @@ pub fn obj_from_i128_pieces(
     a: u64,
     b: u64,
 ) -> Result<Answer, ValueErr>
-    ensures { Answers result (kinds.Signed ∷ kinds.Unsigned ∷ []) obj_from_i128_pieces (a ∷ b ∷ []) values.now budget.old budget.new }
+    ensures { Answers result (kinds.Signed ∷ kinds.Unsigned ∷ []) obj_from_i128_pieces
+        (a ∷ b ∷ []) values.now budget.old budget.new }
 {
     enter(budget, &[])?;
     Ok(Answer::object(ScVal::I128(Int128Parts {

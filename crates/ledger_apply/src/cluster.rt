@@ -31,7 +31,8 @@ fn run_all<E: Entries>(
     requires settings { IsTrue (are_settings header.now.settings) }
     requires next { IsTrue (has_next header.now) }
     ensures run { IfOk result (λ r. running_in (E.own entries.new) r
-        ≡ run_all_in (shown_step (E.shown entries.old) (enforced header.now verdicts.now)) (running_in (E.own entries.old) running) envelopes.now) }
+        ≡ run_all_in (shown_step (E.shown entries.old) (enforced header.now verdicts.now))
+        (running_in (E.own entries.old) running) envelopes.now) }
     ensures shown { IfOk result (λ _. E.shown entries.new ≡ E.shown entries.old) }
 {
     let mut running = running;
@@ -55,7 +56,8 @@ pub fn run_cluster<E: Entries>(
     requires settings { IsTrue (are_settings header.now.settings) }
     requires next { IsTrue (has_next header.now) }
     ensures run { IfOk result (λ d. done_in (E.own entries.new) d
-        ≡ run_cluster_in (shown_step (E.shown entries.old) (enforced header.now verdicts.now)) (E.own entries.old) envelopes.now) }
+        ≡ run_cluster_in (shown_step (E.shown entries.old) (enforced header.now verdicts.now))
+        (E.own entries.old) envelopes.now) }
     ensures keyed { IfOk result IsKeyed }
     ensures shown { IfOk result (λ _. E.shown entries.new ≡ E.shown entries.old) }
 {

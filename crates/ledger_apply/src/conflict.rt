@@ -23,7 +23,8 @@ pub struct SetConflict<'a> {
 /// Finds the least conflict of a stage. A component has only one cluster.
 fn conflict_in<'a>(alloc: Global, stage: SetStage<'a>) -> Result<Option<Conflict<'a>>, NoMemory>
     requires { IsSpelled stage }
-    ensures some { IfOk result (λ o. IfSome o (λ f. IsLeastConflict (clusters_in (stage_of stage.entry)) f.a f.b (key_bytes f.key.now))) }
+    ensures some { IfOk result (λ o. IfSome o
+        (λ f. IsLeastConflict (clusters_in (stage_of stage.entry)) f.a f.b (key_bytes f.key.now))) }
     ensures none { IfOk result (λ o. IfNone o (HasNoConflict (clusters_in (stage_of stage.entry)))) }
     ensures key { IfOk result (λ o. IfSome o (λ f. key_format.fits f.key.now)) }
 {
@@ -39,7 +40,8 @@ pub fn first_conflict<'a>(
     stages: &[SetStage<'a>],
 ) -> Result<Option<SetConflict<'a>>, NoMemory>
     requires { All IsSpelled stages.now }
-    ensures some { IfOk result (λ o. IfSome o (λ c. IsFirstConflict (clusters_of stages.now) c.stage c.found.a c.found.b (key_bytes c.found.key.now))) }
+    ensures some { IfOk result (λ o. IfSome o
+        (λ c. IsFirstConflict (clusters_of stages.now) c.stage c.found.a c.found.b (key_bytes c.found.key.now))) }
     ensures none { IfOk result (λ o. IfNone o (AllByRecursion HasNoConflict (clusters_of stages.now))) }
     ensures key { IfOk result (λ o. IfSome o (λ c. key_format.fits c.found.key.now)) }
 {

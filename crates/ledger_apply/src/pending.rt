@@ -127,7 +127,8 @@ impl Pending {
         key: &LedgerKey,
     ) -> Result<(), NoMemory>
         requires { key_format.fits key.now }
-        ensures entries { OnOk result (E.own entries.new ≡ put_all_in (E.own entries.old) (filter (has_bytes (key_bytes key.now)) self.old)) }
+        ensures entries { OnOk result (E.own entries.new ≡ put_all_in (E.own entries.old)
+            (filter (has_bytes (key_bytes key.now)) self.old)) }
         ensures pending { OnOk result (self.new ≡ filter (λ e. not (has_bytes (key_bytes key.now) e)) self.old) }
         ensures shown { E.shown entries.new ≡ E.shown entries.old }
     {

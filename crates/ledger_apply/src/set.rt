@@ -58,7 +58,8 @@ fn run_one<E: Entries>(
     requires settings { IsTrue (are_settings header.now.settings) }
     requires next { IsTrue (has_next header.now) }
     ensures run { OnOk result (between (E.own entries.new) reports.new
-        ≡ run_stage_in (shown_step (E.shown entries.old) (enforced header.now verdicts.now)) (between (E.own entries.old) reports.old) (clusters_in (stage_of stage.entry))) }
+        ≡ run_stage_in (shown_step (E.shown entries.old) (enforced header.now verdicts.now))
+        (between (E.own entries.old) reports.old) (clusters_in (stage_of stage.entry))) }
     ensures shown { OnOk result (E.shown entries.new ≡ E.shown entries.old) }
 {
     match stage {
@@ -82,7 +83,8 @@ fn run_stages<E: Entries>(
     requires settings { IsTrue (are_settings header.now.settings) }
     requires next { IsTrue (has_next header.now) }
     ensures run { OnOk result (between (E.own entries.new) reports.new
-        ≡ run_stages_in (shown_step (E.shown entries.old) (enforced header.now verdicts.now)) (between (E.own entries.old) reports.old) (clusters_of stages.now)) }
+        ≡ run_stages_in (shown_step (E.shown entries.old) (enforced header.now verdicts.now))
+        (between (E.own entries.old) reports.old) (clusters_of stages.now)) }
     ensures shown { OnOk result (E.shown entries.new ≡ E.shown entries.old) }
 {
     for stage in stages {
@@ -103,9 +105,12 @@ fn run_on(
     requires settings { IsTrue (are_settings ledger.header.settings) }
     requires next { IsTrue (has_next ledger.header) }
     ensures header { IfOk result (λ a. a.ledger.header ≡ new_header ledger.header close_time) }
-    ensures entries { IfOk result (λ a. a.ledger.entries ≡ (run_stages_over ledger.header verdicts.now ledger.entries (clusters_of stages.now) close_time).entries) }
-    ensures results { IfOk result (λ a. a.results.pairs ≡ results_of (run_stages_over ledger.header verdicts.now ledger.entries (clusters_of stages.now) close_time)) }
-    ensures successes { IfOk result (λ a. a.successes ≡ preimages_of (run_stages_over ledger.header verdicts.now ledger.entries (clusters_of stages.now) close_time)) }
+    ensures entries { IfOk result (λ a. a.ledger.entries ≡ (run_stages_over ledger.header verdicts.now ledger.entries
+        (clusters_of stages.now) close_time).entries) }
+    ensures results { IfOk result (λ a. a.results.pairs ≡ results_of
+        (run_stages_over ledger.header verdicts.now ledger.entries (clusters_of stages.now) close_time)) }
+    ensures successes { IfOk result (λ a. a.successes ≡ preimages_of
+        (run_stages_over ledger.header verdicts.now ledger.entries (clusters_of stages.now) close_time)) }
     ensures spelled { IfOk result (λ a. result_set_format.fits a.results) }
     ensures successes_spelled { IfOk result (λ a. All (λ s. (optional success_format).fits s) a.successes) }
     ensures each { IfOk result (λ a. length a.successes ≡ length a.results.pairs) }
@@ -158,9 +163,12 @@ pub fn apply_set<'a, R: Threads + Sync, T: Gate + Sync>(
     ensures free { IfOk result (λ _. AllByRecursion HasNoConflict (map clusters_in (stages_of_set set.now))) }
 
     ensures header { IfOk result (λ a. a.ledger.header ≡ new_header ledger.header close_time) }
-    ensures entries { IfOk result (λ a. a.ledger.entries ≡ (run_set ledger.header verdicts.now ledger.entries set.now close_time).entries) }
-    ensures results { IfOk result (λ a. a.results.pairs ≡ results_of (run_set ledger.header verdicts.now ledger.entries set.now close_time)) }
-    ensures successes { IfOk result (λ a. a.successes ≡ preimages_of (run_set ledger.header verdicts.now ledger.entries set.now close_time)) }
+    ensures entries { IfOk result (λ a. a.ledger.entries
+        ≡ (run_set ledger.header verdicts.now ledger.entries set.now close_time).entries) }
+    ensures results { IfOk result (λ a. a.results.pairs ≡ results_of
+        (run_set ledger.header verdicts.now ledger.entries set.now close_time)) }
+    ensures successes { IfOk result (λ a. a.successes ≡ preimages_of
+        (run_set ledger.header verdicts.now ledger.entries set.now close_time)) }
 
     // The results and the success preimages can be written.
     ensures spelled { IfOk result (λ a. result_set_format.fits a.results) }

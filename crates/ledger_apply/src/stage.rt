@@ -40,7 +40,8 @@ fn run_clusters<E: Entries>(
     requires next { IsTrue (has_next header.now) }
     // The state of the stage, whatever was reported before it.
     ensures run { IfOk result (λ done. (before : List Reported) → stage_in (E.own entries.new) before done.items
-        ≡ run_clusters_in (shown_step (E.shown entries.old) (enforced header.now verdicts.now)) (between (E.own entries.old) before) (map (λ c. c.envelopes) clusters.now)) }
+        ≡ run_clusters_in (shown_step (E.shown entries.old) (enforced header.now verdicts.now))
+        (between (E.own entries.old) before) (map (λ c. c.envelopes) clusters.now)) }
     ensures keyed { IfOk result (λ done. All IsKeyed done.items) }
     ensures shown { IfOk result (λ _. E.shown entries.new ≡ E.shown entries.old) }
 {
@@ -90,7 +91,8 @@ pub fn run_stage<E: Entries>(
     requires settings { IsTrue (are_settings header.now.settings) }
     requires next { IsTrue (has_next header.now) }
     ensures run { OnOk result (between (E.own entries.new) reports.new
-        ≡ run_stage_in (shown_step (E.shown entries.old) (enforced header.now verdicts.now)) (between (E.own entries.old) reports.old) (clusters_in stage.now)) }
+        ≡ run_stage_in (shown_step (E.shown entries.old) (enforced header.now verdicts.now))
+        (between (E.own entries.old) reports.old) (clusters_in stage.now)) }
     ensures shown { OnOk result (E.shown entries.new ≡ E.shown entries.old) }
 {
     let clusters = stage.clusters.as_slice();
@@ -112,7 +114,8 @@ pub fn run_component<E: Entries>(
     requires settings { IsTrue (are_settings header.now.settings) }
     requires next { IsTrue (has_next header.now) }
     ensures run { OnOk result (between (E.own entries.new) reports.new
-        ≡ run_stage_in (shown_step (E.shown entries.old) (enforced header.now verdicts.now)) (between (E.own entries.old) reports.old) (clusters_in (component_stage component.now))) }
+        ≡ run_stage_in (shown_step (E.shown entries.old) (enforced header.now verdicts.now))
+        (between (E.own entries.old) reports.old) (clusters_in (component_stage component.now))) }
     ensures shown { OnOk result (E.shown entries.new ≡ E.shown entries.old) }
 {
     let envelopes = component.envelopes.as_slice();

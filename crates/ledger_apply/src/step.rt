@@ -26,7 +26,8 @@ fn put_written<E: Entries>(
     envelope: &Envelope,
 ) -> Result<(), NoMemory>
     requires { envelope_format.fits envelope.now }
-    ensures entries { OnOk result (E.own entries.new ≡ put_all_in (E.own entries.old) (filter (is_written envelope.now) pending.old)) }
+    ensures entries { OnOk result (E.own entries.new ≡ put_all_in (E.own entries.old)
+        (filter (is_written envelope.now) pending.old)) }
     ensures pending { OnOk result (pending.new ≡ filter (λ e. not (is_written envelope.now e)) pending.old) }
     ensures shown { OnOk result (E.shown entries.new ≡ E.shown entries.old) }
 {
@@ -45,7 +46,8 @@ fn after<E: Entries>(
     done: TxDone,
 ) -> Result<ClusterRun, NoMemory>
     requires within { IsWithin done }
-    ensures run { IfOk result (λ r. running_in (E.own entries.new) r ≡ after_in (effect_of done) (running_in (E.own entries.old) running)) }
+    ensures run { IfOk result (λ r. running_in (E.own entries.new) r ≡ after_in (effect_of done)
+        (running_in (E.own entries.old) running)) }
     ensures shown { IfOk result (λ _. E.shown entries.new ≡ E.shown entries.old) }
 {
     let ClusterRun {
@@ -75,7 +77,8 @@ pub fn run_transaction<E: Entries>(
     requires settings { IsTrue (are_settings header.now.settings) }
     requires next { IsTrue (has_next header.now) }
     ensures run { IfOk result (λ r. running_in (E.own entries.new) r
-        ≡ run_transaction_in (shown_step (E.shown entries.old) (enforced header.now verdicts.now)) (running_in (E.own entries.old) running) envelope.now) }
+        ≡ run_transaction_in (shown_step (E.shown entries.old) (enforced header.now verdicts.now))
+        (running_in (E.own entries.old) running) envelope.now) }
     ensures shown { IfOk result (λ _. E.shown entries.new ≡ E.shown entries.old) }
 {
     let mut running = running;

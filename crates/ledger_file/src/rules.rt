@@ -72,7 +72,8 @@ fn has_code_hash(body: &LedgerEntryData) -> bool
 /// before it.
 pub fn record_fault(is_above: bool, hash: &Hash, item: &LedgerRecord) -> Option<LedgerWhy>
     requires { hash.now.0 ≡ sha256 (record_key item.now) }
-    ensures { (before : Option (List ℕ)) → is_above ≡ is_above_key before (record_key item.now) → result ≡ fault_of before item.now }
+    ensures { (before : Option (List ℕ)) → is_above ≡ is_above_key before (record_key item.now)
+        → result ≡ fault_of before item.now }
 {
     if !is_above {
         return Some(LedgerWhy::Order);

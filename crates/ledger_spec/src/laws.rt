@@ -22,7 +22,8 @@ pub fn seen_by_life()
         → (seen n map key ≡ live kept) ↔ ((find map key ≡ Some kept) × (n ≤ kept.live_until)) }
     // after that ledger it is archived, unless it is temporary
     ensures is_archived { (n : ℕ) (map : LedgerMap) (key : LedgerKey)
-        → (seen n map key ≡ archived) ↔ IsSomeAnd (find map key) (λ kept. (kept.live_until < n) × ¬ (IsTemporary kept.entry.data)) }
+        → (seen n map key ≡ archived) ↔ IsSomeAnd (find map key)
+        (λ kept. (kept.live_until < n) × ¬ (IsTemporary kept.entry.data)) }
 {}
 
 /// An entry that is put in ledger n is live there, with n as its last modified ledger.
@@ -68,7 +69,8 @@ pub fn make_is_seen()
     // the entry is live in ledger n, unless the given live-until ledger is below n
     ensures lives { (n : ℕ) (map after : LedgerMap) (made : Bool) (entry : LedgerEntry) (live_until : ℕ) → n ≤ live_until
         → seen n map (key_of entry) ≡ absent → make n map entry live_until ≡ Some (made, after)
-        → seen n after (key_of entry) ≡ live (record { entry = record entry { last_modified_ledger_seq = n }; live_until = live_until }) }
+        → seen n after (key_of entry) ≡ live
+        (record { entry = record entry { last_modified_ledger_seq = n }; live_until = live_until }) }
     // a live entry stays as it is
     ensures stays { (n : ℕ) (map : LedgerMap) (entry : LedgerEntry) (live_until : ℕ) (kept : Kept)
         → seen n map (key_of entry) ≡ live kept → make n map entry live_until ≡ Some (false, map) }
@@ -94,7 +96,8 @@ pub fn changes_keep_ledger_maps()
         → IsLedgerMap map → delete n map key ≡ Some after → IsLedgerMap after }
     ensures make { (n : ℕ) (map after : LedgerMap) (made : Bool) (entry : LedgerEntry) (live_until : ℕ) → CanGet n map entry
         → live_until < 2 ^ 32 → make n map entry live_until ≡ Some (made, after) → IsLedgerMap after }
-    ensures extend { (settings : Settings) (n : ℕ) (map after : LedgerMap) (key : LedgerKey) (threshold extend_to : ℕ) → IsLedgerMap map
+    ensures extend { (settings : Settings) (n : ℕ) (map after : LedgerMap) (key : LedgerKey) (threshold extend_to : ℕ)
+        → IsLedgerMap map
         → furthest settings n < 2 ^ 32 → extend settings n map key threshold extend_to ≡ Ok after → IsLedgerMap after }
     ensures raise { (map : LedgerMap) (key : LedgerKey) (live_until : ℕ)
         → IsLedgerMap map → live_until < 2 ^ 32 → IsLedgerMap (raise map key live_until) }
@@ -104,21 +107,26 @@ pub fn changes_keep_ledger_maps()
 pub fn extend_is_longer()
     // if at most `threshold` ledgers were left, the entry lives until the later of two ledgers: its own live-until ledger,
     // and the requested one, capped at the furthest
-    ensures little_left { (settings : Settings) (n : ℕ) (map after : LedgerMap) (key : LedgerKey) (threshold extend_to : ℕ) (kept : Kept)
+    ensures little_left { (settings : Settings) (n : ℕ) (map after : LedgerMap) (key : LedgerKey) (threshold extend_to : ℕ)
+        (kept : Kept)
         → extend settings n map key threshold extend_to ≡ Ok after → seen n map key ≡ live kept → kept.live_until ≤ n + threshold
-        → find after key ≡ Some (living_until (max kept.live_until (min (n + extend_to) (last_of n settings.max_entry_ttl))) kept) }
+        → find after key ≡ Some (living_until
+        (max kept.live_until (min (n + extend_to) (last_of n settings.max_entry_ttl))) kept) }
     // if more ledgers were left, the entry stays as it is
-    ensures much_left { (settings : Settings) (n : ℕ) (map after : LedgerMap) (key : LedgerKey) (threshold extend_to : ℕ) (kept : Kept)
+    ensures much_left { (settings : Settings) (n : ℕ) (map after : LedgerMap) (key : LedgerKey) (threshold extend_to : ℕ)
+        (kept : Kept)
         → extend settings n map key threshold extend_to ≡ Ok after → seen n map key ≡ live kept → n + threshold < kept.live_until
         → find after key ≡ Some kept }
     // in both cases the entry itself stays, and its live-until ledger does not fall; it is beyond the furthest only if it
     // was before
-    ensures bounded { (settings : Settings) (n : ℕ) (map after : LedgerMap) (key : LedgerKey) (threshold extend_to : ℕ) (kept : Kept)
+    ensures bounded { (settings : Settings) (n : ℕ) (map after : LedgerMap) (key : LedgerKey) (threshold extend_to : ℕ)
+        (kept : Kept)
         → extend settings n map key threshold extend_to ≡ Ok after → seen n map key ≡ live kept
         → IsSomeAnd (find after key) (λ later. (later.entry ≡ kept.entry) × (kept.live_until ≤ later.live_until)
         × (later.live_until ≤ max kept.live_until (last_of n settings.max_entry_ttl))) }
     // an extension fails for a reason exactly if that reason holds
-    ensures refused { (why : Unextended) (settings : Settings) (n : ℕ) (map : LedgerMap) (key : LedgerKey) (threshold extend_to : ℕ)
+    ensures refused { (why : Unextended) (settings : Settings) (n : ℕ) (map : LedgerMap) (key : LedgerKey)
+        (threshold extend_to : ℕ)
         → (extend settings n map key threshold extend_to ≡ Err why) ↔ IsReason why settings n map key threshold extend_to }
     // the entries at other keys stay
     ensures others { (settings : Settings) (n : ℕ) (map after : LedgerMap) (key : LedgerKey) (threshold extend_to : ℕ)
@@ -129,7 +137,8 @@ pub fn extend_is_longer()
 pub fn raise_is_longest()
     // the entry itself stays, and an absent key stays absent
     ensures later { (map : LedgerMap) (key : LedgerKey) (live_until : ℕ)
-        → find (raise map key live_until) key ≡ option_map (λ (kept : Kept). living_until (max kept.live_until live_until) kept) (find map key) }
+        → find (raise map key live_until) key ≡ option_map (λ (kept : Kept). living_until (max kept.live_until live_until) kept)
+        (find map key) }
     // the entries at other keys stay
     ensures others { (map : LedgerMap) (key : LedgerKey) (live_until : ℕ) → OthersStay key map (raise map key live_until) }
 {}

@@ -69,7 +69,8 @@ fn cmp_asset_rests(one: &TrustLineAsset, other: &TrustLineAsset) -> Ordering
 
 /// Compares the XDR bytes of two assets.
 fn cmp_assets(one: &TrustLineAsset, other: &TrustLineAsset) -> Ordering
-    ensures { Against (word (asset_number (asset_kind one.now)) ++ asset_rest one.now) (word (asset_number (asset_kind other.now)) ++ asset_rest other.now) result }
+    ensures { Against (word (asset_number (asset_kind one.now)) ++ asset_rest one.now)
+        (word (asset_number (asset_kind other.now)) ++ asset_rest other.now) result }
 {
     let (number, another) = (one.kind().number(), other.kind().number());
     if number == another {
@@ -93,7 +94,8 @@ fn cmp_data_rests(
     other_key: &ScVal,
     other_durability: &Durability,
 ) -> Ordering
-    ensures { Against (ranked_value key.now ++ durability_format.spell durability.now) (ranked_value other_key.now ++ durability_format.spell other_durability.now) result }
+    ensures { Against (ranked_value key.now ++ durability_format.spell durability.now)
+        (ranked_value other_key.now ++ durability_format.spell other_durability.now) result }
 {
     match cmp_value(key, other_key) {
         Ordering::Equal => durability.rank(other_durability),

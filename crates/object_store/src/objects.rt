@@ -115,7 +115,8 @@ impl Objects {
     }
 
     fn get(&self, index: usize) -> Option<&ScVal>
-        ensures { MatchOption result (slice_get self.now index ≡ None) (λ v. (slice_get self.now index ≡ Some (datum v.now)) × IsHosted (datum v.now)) }
+        ensures { MatchOption result (slice_get self.now index ≡ None)
+            (λ v. (slice_get self.now index ≡ Some (datum v.now)) × IsHosted (datum v.now)) }
     {
         self.values.get(index)
     }
@@ -169,7 +170,8 @@ impl Objects {
         requires hosted { IsHosted (datum value) }
         requires indices { AreIndices self.old shown.old }
         ensures ok { IfOk result (λ w. w.0 ≡ shown_word (small_word (datum value)) (datum value) (length shown.old)) }
-        ensures shown { OnOk result (shown_of self.new shown.new ≡ shown_with (small_word (datum value)) (datum value) (shown_of self.old shown.old)) }
+        ensures shown { OnOk result (shown_of self.new shown.new ≡ shown_with (small_word (datum value)) (datum value)
+            (shown_of self.old shown.old)) }
         ensures grown { OnOk result (self.new ≡ shown_with (small_word (datum value)) (datum value) self.old) }
         ensures full { IsFull result (small_word (datum value)) shown.old }
         ensures indices { AreIndices self.new shown.new }

@@ -17,7 +17,8 @@ use value_types::{Blob, ScVal};
 /// Writes the text of a word with the tag of small symbols, and returns its length.
 fn symbol_text(val: Val, buffer: &mut [u8; 9]) -> Option<usize>
     requires { tag_of (tag_bits val.0) ≡ Some Tag.SymbolSmall }
-    ensures means { MatchOption result (small_meaning val.0 ≡ None) (λ n. (n ≤ 9) × (small_meaning val.0 ≡ Some (symbol (take n buffer.new)))) }
+    ensures means { MatchOption result (small_meaning val.0 ≡ None)
+        (λ n. (n ≤ 9) × (small_meaning val.0 ≡ Some (symbol (take n buffer.new)))) }
     ensures exists { is_some result ≡ is_some (small_meaning val.0) }
 {
     val.symbol_text(buffer)

@@ -61,7 +61,8 @@ impl Objects {
     #[tactic(auto, using(crate::proofs::Resolving::meaning_object, crate::proofs::Resolving::meaning_small))]
     pub fn resolve(&self, shown: &Shown, word: Val) -> Result<Ref<'_>, Bad>
         requires { AreIndices self.now shown.now }
-        ensures { MatchResult result (IsMeant (meaning (shown_of self.now shown.now) word.0)) (λ _. meaning (shown_of self.now shown.now) word.0 ≡ None) }
+        ensures { MatchResult result (IsMeant (meaning (shown_of self.now shown.now) word.0))
+            (λ _. meaning (shown_of self.now shown.now) word.0 ≡ None) }
     {
         if word.is_object() {
             match self.object(shown, word) {
@@ -79,7 +80,8 @@ impl Objects {
     #[tactic(auto, using(crate::proofs::Resolving::meaning_object, crate::proofs::Resolving::meaning_small))]
     pub fn take(&self, shown: &Shown, word: Val) -> Result<ScVal, TakeErr>
         requires { AreIndices self.now shown.now }
-        ensures means { MatchResult result (λ v. meaning (shown_of self.now shown.now) word.0 ≡ Some (datum v)) (IsBadOnly (meaning (shown_of self.now shown.now) word.0)) }
+        ensures means { MatchResult result (λ v. meaning (shown_of self.now shown.now) word.0 ≡ Some (datum v))
+            (IsBadOnly (meaning (shown_of self.now shown.now) word.0)) }
         ensures hosted { IfOk result (λ v. IsHosted (datum v)) }
     {
         match self.resolve(shown, word) {

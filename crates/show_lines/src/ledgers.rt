@@ -58,7 +58,8 @@ fn push_records(alloc: Global, lines: &mut Vec<u8>, entries: &EntryMap) -> Resul
 }
 
 fn push_record(alloc: Global, lines: &mut Vec<u8>, stored: &StoredEntry) -> Result<(), AllocError>
-    ensures { OnOk result (lines.new.items ≡ lines.old.items ++ record_line (key_bytes (key_of stored.now.kept.entry), stored.now.kept)) }
+    ensures { OnOk result (lines.new.items ≡ lines.old.items ++ record_line
+        (key_bytes (key_of stored.now.kept.entry), stored.now.kept)) }
 {
     push_hex(alloc, lines, &stored.key_hash.0, b" ")?;
     push_number(lines, stored.kept.live_until as u64, b"\n")

@@ -17,7 +17,8 @@ pub fn read_file<F: Files>(alloc: Global, files: &mut F, file: &FileArg<'_>) -> 
     ensures same { F.contents files.new ≡ F.contents files.old }
     ensures counts { NoLower (F.faults files.old) (F.faults files.new) }
     ensures cause { IfErr result (HasCause (file_of file.now ∷ []) (F.faults files.old) (F.faults files.new)) }
-    ensures steady { F.steady files.old → IfSome (F.contents files.old) (λ m. UnlessFault (status_of (content_of m file.now.name.now))
+    ensures steady { F.steady files.old
+        → IfSome (F.contents files.old) (λ m. UnlessFault (status_of (content_of m file.now.name.now))
         (F.steady files.new × SameCounts (F.faults files.old) (F.faults files.new))) }
     ensures steady_exact { F.steady files.old → IfSome (F.contents files.old) (λ m.
         GivesExactly (λ b. b) result (content_of m file.now.name.now)) }

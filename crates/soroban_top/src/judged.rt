@@ -118,7 +118,8 @@ pub fn read_envelope<F: Files>(
     ensures same { F.contents files.new ≡ F.contents files.old }
     ensures counts { NoLower (F.faults files.old) (F.faults files.new) }
     ensures cause { IfErr result (HasCause (file option name.now ∷ []) (F.faults files.old) (F.faults files.new)) }
-    ensures steady { F.steady files.old → IfSome (F.contents files.old) (λ m. UnlessFault (status_of (envelope_at m base64 name.now))
+    ensures steady { F.steady files.old
+        → IfSome (F.contents files.old) (λ m. UnlessFault (status_of (envelope_at m base64 name.now))
         (F.steady files.new × SameCounts (F.faults files.old) (F.faults files.new))) }
     ensures steady_exact { F.steady files.old → IfSome (F.contents files.old) (λ m.
         GivesExactly (λ e. e) result (envelope_at m base64 name.now)) }

@@ -109,8 +109,10 @@ fn perform<R: Threads + Sync, F: Files, G: Gate + Sync>(
 ) -> Result<Vec<u8>, Status>
     ensures usage_only { status_of result ≡ Status.Usage → asked_of words.now ≡ None }
     ensures usage { asked_of words.now ≡ None → UnlessFree (status_of result) (status_of result ≡ Status.Usage) }
-    ensures cause { FaultHasCause (files_named (asked_of words.now)) (F.faults files.old) (F.faults files.new) (status_of result) }
-    ensures given { IfSome (F.contents files.old) (λ m. Gives (λ v. v.items) result (says_of (outcome_if (asked_of words.now) m))) }
+    ensures cause { FaultHasCause (files_named (asked_of words.now)) (F.faults files.old) (F.faults files.new)
+        (status_of result) }
+    ensures given { IfSome (F.contents files.old)
+        (λ m. Gives (λ v. v.items) result (says_of (outcome_if (asked_of words.now) m))) }
     ensures left { IfSome (F.contents files.old) (λ m. Leaves (status_of result) (reads_named (asked_of words.now))
         (outcome_if (asked_of words.now) m) (F.contents files.old) (F.contents files.new)) }
     ensures refused { OnRefused (status_of result) (F.contents files.new ≡ F.contents files.old) }

@@ -35,7 +35,8 @@ pub fn migrate<'a, F: Files>(
     ensures same { F.contents files.new ≡ F.contents files.old }
     ensures counts { NoLower (F.faults files.old) (F.faults files.new) }
     ensures cause { IfErr result (HasCause (reads_of (Asked request.now)) (F.faults files.old) (F.faults files.new)) }
-    ensures steady { F.steady files.old → IfSome (F.contents files.old) (λ m. UnlessFault (status_of (outcome_of (Asked request.now) m))
+    ensures steady { F.steady files.old
+        → IfSome (F.contents files.old) (λ m. UnlessFault (status_of (outcome_of (Asked request.now) m))
         (F.steady files.new × SameCounts (F.faults files.old) (F.faults files.new))) }
     ensures steady_exact { F.steady files.old → IfSome (F.contents files.old) (λ m.
         GivesExactly made_of result (outcome_of (Asked request.now) m)) }
@@ -60,7 +61,8 @@ fn read_any_ledger<F: Files>(
     ensures same { F.contents files.new ≡ F.contents files.old }
     ensures counts { NoLower (F.faults files.old) (F.faults files.new) }
     ensures cause { IfErr result (HasCause (file_of file.now ∷ []) (F.faults files.old) (F.faults files.new)) }
-    ensures steady { F.steady files.old → IfSome (F.contents files.old) (λ m. UnlessFault (status_of (any_ledger_at m file.now.name.now))
+    ensures steady { F.steady files.old
+        → IfSome (F.contents files.old) (λ m. UnlessFault (status_of (any_ledger_at m file.now.name.now))
         (F.steady files.new × SameCounts (F.faults files.old) (F.faults files.new))) }
     ensures steady_exact { F.steady files.old → IfSome (F.contents files.old) (λ m.
         GivesExactly seen result (any_ledger_at m file.now.name.now)) }

@@ -62,7 +62,8 @@ pub fn make_outputs<R: Threads + Sync, G: Gate + Sync>(
     requires next { IsTrue (has_next ledger.header) }
     requires workers { (1 ≤ run.now.workers) × (run.now.workers ≤ 64) }
     ensures free { IfOk result (λ _. free_of_conflict run.now.set.now ≡ Ok tt) }
-    ensures outputs { IfOk result (λ o. outputs_in o ≡ outputs_of (seen ledger) run.now.verdicts.now run.now.set.now run.now.close_time) }
+    ensures outputs { IfOk result (λ o. outputs_in o ≡ outputs_of
+        (seen ledger) run.now.verdicts.now run.now.set.now run.now.close_time) }
     ensures refused { IfErr result (λ status. UnlessNoMemory status (free_of_conflict run.now.set.now ≡ Err status)) }
     ensures cause { IfErr result IsOfBytes }
 {

@@ -24,7 +24,6 @@ use tx_results::{
     EnvelopeOutcome, ExtendResult, InnerResult, InvokeResult, OperationResult, TransactionOutcome,
 };
 use tx_xdr::{Envelope, Footprint, SorobanData, TransactionExt};
-use value_types::Items;
 use value_xdr::Xdr;
 use xdr_core::{NoMemory, Out};
 
@@ -100,10 +99,7 @@ fn no_data(alloc: Global) -> SorobanData
     ensures fits { soroban_format.fits result }
 {
     SorobanData {
-        footprint: Footprint {
-            read_only: Items::from_vec(Vec::new(alloc)),
-            read_write: Items::from_vec(Vec::new(alloc)),
-        },
+        footprint: Footprint::empty(alloc),
         instructions: 0,
         disk_read_bytes: 0,
         write_bytes: 0,

@@ -53,7 +53,8 @@ fn least_of<'a>(
     first: &Cluster,
     second: &Cluster,
 ) -> Option<&'a LedgerKey>
-    ensures { option_copied result ≡ fold (lesser_met first.now.envelopes second.now.envelopes) (option_copied best.entry) keys.now }
+    ensures { option_copied result ≡ fold (lesser_met first.now.envelopes second.now.envelopes)
+        (option_copied best.entry) keys.now }
 {
     let mut least = best;
     for key in keys {

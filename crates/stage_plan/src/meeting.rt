@@ -188,7 +188,8 @@ fn least<'a>(met: &KeyMap<'a, Meeting>) -> Option<Conflict<'a>>
 /// and O(n log n) comparisons of keys, where n is how many keys its transactions declare.
 pub fn find_conflict<'a>(alloc: Global, stage: &'a Stage) -> Result<Option<Conflict<'a>>, NoMemory>
     requires spelled { IsStage stage.now }
-    ensures some { IfOk result (λ found. IfSome found (λ f. IsLeastConflict (clusters_in stage.now) f.a f.b (key_bytes f.key.now))) }
+    ensures some { IfOk result (λ found. IfSome found
+        (λ f. IsLeastConflict (clusters_in stage.now) f.a f.b (key_bytes f.key.now))) }
     ensures none { IfOk result (λ found. IfNone found (HasNoConflict (clusters_in stage.now))) }
     ensures key { IfOk result (λ found. IfSome found (λ f. key_format.fits f.key.now)) }
 {

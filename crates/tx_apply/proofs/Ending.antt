@@ -19,11 +19,12 @@ use Rattle.call_spec.specs.World.{Judge, Access, World}
 use Rattle.call_spec.specs.Acts.{Failed, Spent, Archived, Out, Good, Bad, Undeclared, world_of, then_do, gives, lifted, paying}
 use Rattle.call_spec.specs.Footprints.{by_footprint, first_rejected}
 use Rattle.call_spec.specs.WholeRuns.{Work, all_allowed, done_under}
+use Rattle.host_ledger.specs.Traced.{touches_of}
 use Rattle.contract_call.specs.Worlds.{authority_of, world_around}
-use Rattle.contract_call.specs.Ended.{IsEnd, EndsBy, Ends}
+use Rattle.contract_call.specs.Ended.{IsEnd, EndsBy, Ends, UnlessMemory, EndsRecorded}
 use Rattle.contract_call.specs.declared.host.Host.{Host}
 use Rattle.auth_parts.specs.Entering.{with_meter, Enters}
-use Rattle.tx_apply.specs.Running.{charging, Charges, EndsCharged}
+use Rattle.tx_apply.specs.Running.{charging, Charges, EndsCharged, EndsChargedRecorded}
 use Rattle.tx_apply.proofs.Running.{charged_traced}
 
 module _ {A B G : Type 0} (f : A → Datum) (g : B → Datum) (may : Judge) (m : LedgerMap) (old new : Host G) where
@@ -70,6 +71,22 @@ memory_by g may m old new None (Bad Spent w) = tt
 memory_by g may m old new None (Bad (Archived key) w) = tt
 memory_by g may m old new None (Undeclared a w) = tt
 
+-- what holds holds if memory did not run out
+unless_memory : {A : Type 0} (r : Result A HostErr) (P : Type 0) → P → UnlessMemory r P
+unless_memory (Ok a) P p = p
+unless_memory (Err (ends.Failed e)) P p = p
+unless_memory (Err ends.Spent) P p = p
+unless_memory (Err (ends.Undeclared key)) P p = p
+unless_memory (Err (ends.Archived key)) P p = p
+unless_memory (Err ends.NoMemory) P p = tt
+
+failed_unless : (A B : Type 0) (e : HostErr) (P : Type 0) → (let r : Result A HostErr = Err e in UnlessMemory r P) → let r : Result B HostErr = Err e in UnlessMemory r P
+failed_unless A B (ends.Failed e) P p = p
+failed_unless A B ends.Spent P p = p
+failed_unless A B (ends.Undeclared key) P p = p
+failed_unless A B (ends.Archived key) P p = p
+failed_unless A B ends.NoMemory P p = tt
+
 -- ---- the calls of the program
 
 module _ {A B G : Type 0} (work : Work) (f : A → Datum) (g : B → Datum) (old new : Host G) where
@@ -79,8 +96,24 @@ module _ {A B G : Type 0} (work : Work) (f : A → Datum) (g : B → Datum) (old
   pub ends_viewed : (a : A) (b : B) → f a ≡ g b → (let r : Result A HostErr = Ok a in Ends work r f old new) → let r : Result B HostErr = Ok b in Ends work r g old new
   ends_viewed a b e h footprint is m agree rest = viewed_by f g (by_footprint footprint) m old new _ _ a b e (h footprint is m agree rest)
 
+  -- the same over a storage that records
+  pub recorded_failed : (e : HostErr) → (let r : Result A HostErr = Err e in EndsRecorded work r f old new) → let r : Result B HostErr = Err e in EndsRecorded work r g old new
+  recorded_failed e h free rest trace told =
+      let out = done_under all_allowed old.ledger.header.now (authority_of old) work (world_around rest old trace) in
+      let p = h free rest trace told in
+      (failed_by f g all_allowed old.ledger.storage.map old new None out e p.0, failed_unless A B e (new.ledger.storage.touched ≡ touches_of (world_of out).trace) p.1)
+
+  pub recorded_viewed : (a : A) (b : B) → f a ≡ g b → (let r : Result A HostErr = Ok a in EndsRecorded work r f old new) → let r : Result B HostErr = Ok b in EndsRecorded work r g old new
+  recorded_viewed a b e h free rest trace told =
+      let out = done_under all_allowed old.ledger.header.now (authority_of old) work (world_around rest old trace) in
+      let p = h free rest trace told in
+      (viewed_by f g all_allowed old.ledger.storage.map old new None out a b e p.0, p.1)
+
 pub ends_memory : {B G : Type 0} (work : Work) (g : B → Datum) (old new : Host G) → (let none : Result B HostErr = Err ends.NoMemory in Ends work none g old new)
 ends_memory work g old new footprint is m agree rest = memory_by g (by_footprint footprint) m old new _ _
+
+pub recorded_memory : {B G : Type 0} (work : Work) (g : B → Datum) (old new : Host G) → (let none : Result B HostErr = Err ends.NoMemory in EndsRecorded work none g old new)
+recorded_memory work g old new free rest trace told = (memory_by g all_allowed old.ledger.storage.map old new None _, tt)
 
 -- ---- the charge for the value
 
@@ -151,3 +184,20 @@ module _ {G : Type 0} (work : Work) (old mid : Host G) where
       let out = done_under all_allowed old.ledger.header.now (authority_of old) work (world_around rest old []) in
       subst (λ (t : List Access). let none : Result ScVal HostErr = Err e in EndsBy may old.ledger.storage.map (first_rejected may t) (then_do out charging) none datum old mid) (sym (charged_traced out))
       (failed_charged_by may old.ledger.storage.map (first_rejected may (world_of out).trace) out e (h footprint is old.ledger.storage.map (λ k e. refl) rest))
+
+  -- the same over a storage that records: the charge makes no access
+  pub charged_recorded : (after : Meter) (value : ScVal) (r : Result ScVal HostErr) → (let given : Result ScVal HostErr = Ok value in EndsRecorded work given datum old mid)
+      → Charges r value mid.ledger.budget after → EndsChargedRecorded work r old (paid after)
+  charged_recorded after value r h c free rest trace told =
+      let out = done_under all_allowed old.ledger.header.now (authority_of old) work (world_around rest old trace) in
+      let p = h free rest trace told in
+      (charged_by all_allowed old.ledger.storage.map after value None out r p.0 c, unless_memory r _ (p.1 ∙ ap touches_of (sym (charged_traced out))))
+
+  pub failed_recorded : (e : HostErr) → (let none : Result ScVal HostErr = Err e in EndsRecorded work none datum old mid) → let none : Result ScVal HostErr = Err e in EndsChargedRecorded work none old mid
+  failed_recorded e h free rest trace told =
+      let none : Result ScVal HostErr = Err e in
+      let out = done_under all_allowed old.ledger.header.now (authority_of old) work (world_around rest old trace) in
+      let p = h free rest trace told in (
+        failed_charged_by all_allowed old.ledger.storage.map None out e p.0,
+        subst (λ (t : List Access). UnlessMemory none (mid.ledger.storage.touched ≡ touches_of t)) (sym (charged_traced out)) p.1,
+      )

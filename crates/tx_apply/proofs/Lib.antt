@@ -13,7 +13,6 @@ pub mod Mapped
 pub mod Adding
 pub mod Making
 pub mod Arguments
-pub mod Bounding
-pub mod Needing
-pub mod Turning
 pub mod Simulation
+pub mod Recorded
+pub mod Needing

@@ -1,4 +1,5 @@
 -- The run of a host function with the charge for its value, and what becomes of the operation.
+use Rattle.std.specs.Prelude.{IsSomeAnd}
 use Rattle.std.specs.FinMap.{get, same_map}
 use Rattle.std.specs.Cmp.Lexicographic.{nat_list_cmp_total}
 use Rattle.std.proofs.Common.{◌≡◌, ℕ, Bool, true, false, List, [], reverse, Option, Some, None, Result, Ok, Err, IfSome, refl, sym, ap, subst, ◌∙◌}
@@ -174,7 +175,7 @@ module _ {G : Type 0} (n : ℕ) (resources : SorobanData) (old new : Host G) whe
 
   pub started_comes : (header : Header) (authority : Authority) (meter : Meter) (entries : LedgerMap) (work : Work) (r : Result ScVal HostErr)
       → Starts old header authority meter entries
-      → IsFootprint resources.footprint.read_only resources.footprint.read_write old.ledger.storage.declared → EndsCharged work r old new
+      → IsSomeAnd old.ledger.storage.declared (IsFootprint resources.footprint.read_only resources.footprint.read_write) → EndsCharged work r old new
       → Comes entries r (by_run n resources entries (entered_run header authority meter work entries))
   started_comes header authority meter entries work r is declared h =
       let start = start_of header 0 entries in

@@ -1,5 +1,5 @@
 -- How a host function ends after the charge for its value, as the code has it (own).
-use Rattle.std.specs.Prelude.{◌≡◌, ℕ, List, [], Result, Ok, Err, Option, Some, None, nat_lt, if◌then◌else◌}
+use Rattle.std.specs.Prelude.{◌≡◌, ℕ, List, [], Result, Ok, Err, Option, Some, None, IsSomeAnd, nat_lt, if◌then◌else◌}
 use Rattle.sha2.specs.Sha256.{sha256}
 use Rattle.budget_meter.specs.Meter.{Meter}
 use Rattle.budget_meter.specs.declared.budget.Used.{Used}
@@ -21,13 +21,14 @@ use Rattle.host_spec.specs.Hosted.{size_of}
 use Rattle.host_spec.specs.declared.error.HostErr.{HostErr}
 use Rattle.host_spec.specs.declared.error.HostErr.TheVariants as ends
 use Rattle.contract_storage.specs.Footprint.{IsFootprint}
-use Rattle.call_spec.specs.World.{World, Authority}
+use Rattle.call_spec.specs.World.{Access, World, Authority}
 use Rattle.call_spec.specs.Acts.{Failed, Spent, Out, Act, after, gives, paying, world_of}
 use Rattle.call_spec.specs.Footprints.{by_footprint, first_rejected}
 use Rattle.call_spec.specs.WholeRuns.{Work, start_of, all_allowed, done_under}
 use Rattle.call_spec.specs.Invoked.{Invoked, written_bytes, unsuccessful}
+use Rattle.host_ledger.specs.Traced.{touches_of}
 use Rattle.contract_call.specs.Worlds.{authority_of, world_around}
-use Rattle.contract_call.specs.Ended.{EndsBy}
+use Rattle.contract_call.specs.Ended.{IsEnd, EndsBy, UnlessMemory}
 use Rattle.contract_call.specs.declared.host.Host.{Host}
 use Rattle.auth_parts.specs.Entering.{with_meter, Passes, Stops}
 
@@ -46,9 +47,15 @@ Charges (Err (ends.Archived key)) value before after = ⊥
 
 -- `Ends` for a work followed by the charge for its value, over the storage's own map
 abbrev pub EndsCharged : {G : Type 0} → Work → Result ScVal HostErr → Host G → Host G → Type 0
-EndsCharged work r old new = (footprint : Footprint) → IsFootprint footprint.read_only footprint.read_write old.ledger.storage.declared → (rest : World)
+EndsCharged work r old new = (footprint : Footprint) → IsSomeAnd old.ledger.storage.declared (IsFootprint footprint.read_only footprint.read_write) → (rest : World)
     → (let out = after (done_under all_allowed old.ledger.header.now (authority_of old) work) charging (world_around rest old []) in
     EndsBy (by_footprint footprint) old.ledger.storage.map (first_rejected (by_footprint footprint) (world_of out).trace) out r datum old new)
+
+-- `EndsRecorded` for a work followed by the charge for its value
+abbrev pub EndsChargedRecorded : {G : Type 0} → Work → Result ScVal HostErr → Host G → Host G → Type 0
+EndsChargedRecorded work r old new = old.ledger.storage.declared ≡ None → (rest : World) (trace : List Access) → old.ledger.storage.touched ≡ touches_of trace
+    → (let out = after (done_under all_allowed old.ledger.header.now (authority_of old) work) charging (world_around rest old trace) in
+    IsEnd all_allowed old.ledger.storage.map out r datum old new × UnlessMemory r (new.ledger.storage.touched ≡ touches_of (world_of out).trace))
 
 -- the whole run after its arguments have entered the host, with this budget then
 abbrev pub entered_run : Header → Authority → Meter → Work → LedgerMap → Out Datum

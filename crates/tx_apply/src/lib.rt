@@ -16,7 +16,6 @@ mod recording;
 mod results;
 mod run;
 mod simulating;
-mod spelled;
 mod success;
 mod transaction;
 mod writing;

@@ -9,6 +9,7 @@ ghost use Rattle.tx_xdr.specs.Soroban.{footprint_format};
 ghost use Rattle.tx_xdr.specs.Transaction.{transaction_format};
 ghost use Rattle.call_spec.specs.WholeRuns.{work_of};
 ghost use Rattle.apply_spec.specs.Checks.{footprint_of};
+ghost use Rattle.apply_spec.specs.Recorded.{no_footprint};
 ghost use Rattle.apply_spec.specs.Simulated.{needs_nothing, work_needs, body_needs, acts_on_footprint, keeps_footprint, needs};
 ghost use Rattle.tx_apply.specs.Authorities.{authority_in};
 ghost use Rattle.tx_apply.specs.Needed.{needs_in};
@@ -24,7 +25,6 @@ use invoke_types::HostFunction;
 use ledger_types::{Header, Verdicts};
 use std::alloc::Global;
 use tx_xdr::{Footprint, Operation, OperationBody, Transaction, TransactionExt};
-use value_types::Items;
 use xdr_core::NoMemory;
 
 /// The footprint that a transaction needs, and the sums of the run that needs it.
@@ -34,19 +34,23 @@ pub(crate) struct Needs {
     pub used: Used,
 }
 
+/// The needs of a run that accesses no key.
+pub(crate) fn no_keys(alloc: Global, used: Used) -> Needs
+    ensures needs { needs_in result ≡ record { footprint = no_footprint; used = used } }
+    ensures fits { footprint_format.fits result.footprint }
+{
+    Needs {
+        footprint: Footprint::empty(alloc),
+        used,
+    }
+}
+
 /// The needs of a transaction that runs nothing.
-#[tactic(auto, unfolding(tx_xdr::specs::Soroban::footprint_format, xdr_spec::specs::Format::list))]
 fn nothing(alloc: Global) -> Needs
     ensures needs { needs_in result ≡ needs_nothing }
     ensures fits { footprint_format.fits result.footprint }
 {
-    Needs {
-        footprint: Footprint {
-            read_only: Items::from_vec(Vec::new(alloc)),
-            read_write: Items::from_vec(Vec::new(alloc)),
-        },
-        used: nothing_used(),
-    }
+    no_keys(alloc, nothing_used())
 }
 
 // ---- the operation

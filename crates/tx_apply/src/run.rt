@@ -3,21 +3,21 @@
 ghost use Rattle.std.specs.Prelude.{◌≡◌, ◌<◌, ◌^◌, length, IfOk, IfErr};
 ghost use Rattle.std.specs.Option.{option_map};
 ghost use Rattle.value_types.specs.Datum.{Datum, bytes, address as address_datum};
+ghost use Rattle.value_types.specs.Hash.{hash_format};
 ghost use Rattle.value_types.specs.Views.{datum, datums};
 ghost use Rattle.value_types.specs.declared.address.ScAddress.TheVariants as addresses;
 ghost use Rattle.host_spec.specs.Hosted.{IsHosted, AreHosted, size_of as size_in};
 ghost use Rattle.call_spec.specs.Acts.{paying};
 ghost use Rattle.call_spec.specs.WholeRuns.{calling, uploading, creating};
 ghost use Rattle.contract_call.specs.Creations.{args_of, creation_of, AreArgsHosted};
-ghost use Rattle.contract_call.specs.Ended.{Ends};
+ghost use Rattle.contract_call.specs.Ended.{Ends, EndsRecorded};
 ghost use Rattle.contract_call.specs.Placed.{HasRoom};
 ghost use Rattle.contract_call.specs.Worlds.{MayRun};
 ghost use Rattle.tx_apply.specs.Jobs.{work_in, values_in, datums_in, IsSpelled};
 ghost use Rattle.auth_parts.specs.Entering.{Enters};
-ghost use Rattle.tx_apply.specs.Running.{Charges, EndsCharged};
+ghost use Rattle.tx_apply.specs.Running.{Charges, EndsCharged, EndsChargedRecorded};
 
 use crate::job::Job;
-use crate::spelled::hold_hash;
 use budget_meter::{Budget, Kind};
 use contract_call::{Host, NewContract, create, invoke, upload};
 use entry_lookup::Ground;
@@ -26,6 +26,14 @@ use host_ledger::clone_values;
 use host_spec::{HostErr, ValueErr};
 use std::alloc::Global;
 use value_types::{Blob, Hash, ScAddress, ScVal};
+
+/// Says that a hash has a spelling.
+#[tactic(auto, unfolding(value_types::specs::Hash::hash_format))]
+fn hold_hash(hash: Hash)
+    ensures { hash_format.fits hash }
+{
+    let _ = hash;
+}
 
 /// A hash as a value of bytes.
 fn hash_value(alloc: Global, hash: Hash) -> Result<ScVal, ValueErr>
@@ -59,6 +67,7 @@ fn call<G: Ground>(
     requires path { HasRoom 64 host.old }
     requires args { AreHosted (datums args.now) }
     ensures ends { Ends (calling contract function.now (datums args.now)) result datum host.old host.new }
+    ensures recorded { EndsRecorded (calling contract function.now (datums args.now)) result datum host.old host.new }
     ensures base { host.new.ledger.storage.base ≡ host.old.ledger.storage.base }
     ensures hosted { IfOk result (λ value. IsHosted (datum value)) }
 {
@@ -75,6 +84,7 @@ fn upload_code<G: Ground>(
     requires ready { MayRun host.old }
     requires size { length code.now < 2 ^ 32 }
     ensures ends { Ends (uploading code.now) result datum host.old host.new }
+    ensures recorded { EndsRecorded (uploading code.now) result datum host.old host.new }
     ensures base { host.new.ledger.storage.base ≡ host.old.ledger.storage.base }
     ensures hosted { IfOk result (λ value. IsHosted (datum value)) }
 {
@@ -104,6 +114,7 @@ fn create_contract<G: Ground>(
     requires path { HasRoom 64 host.old }
     requires args { AreArgsHosted contract.args }
     ensures ends { Ends (creating (creation_of contract)) result datum host.old host.new }
+    ensures recorded { EndsRecorded (creating (creation_of contract)) result datum host.old host.new }
     ensures base { host.new.ledger.storage.base ≡ host.old.ledger.storage.base }
     ensures hosted { IfOk result (λ value. IsHosted (datum value)) }
 {
@@ -124,6 +135,7 @@ fn perform<G: Ground>(
     requires spelled { IsSpelled job.now }
     requires hosted { AreHosted (datums (values_in job.now)) }
     ensures ends { Ends (work_in job.now) result datum host.old host.new }
+    ensures recorded { EndsRecorded (work_in job.now) result datum host.old host.new }
     ensures base { host.new.ledger.storage.base ≡ host.old.ledger.storage.base }
     ensures hosted { IfOk result (λ value. IsHosted (datum value)) }
 {
@@ -182,6 +194,7 @@ pub(crate) fn run_job<G: Ground>(
     requires spelled { IsSpelled job.now }
     requires hosted { AreHosted (datums (values_in job.now)) }
     ensures ends { EndsCharged (work_in job.now) result host.old host.new }
+    ensures recorded { EndsChargedRecorded (work_in job.now) result host.old host.new }
     ensures base { host.new.ledger.storage.base ≡ host.old.ledger.storage.base }
     ensures hosted { IfOk result (λ value. IsHosted (datum value)) }
 {

@@ -1,12 +1,14 @@
 //! Transactions with their operations, footprints and resources.
 
-ghost use Rattle.std.specs.Prelude.{◌≡◌};
+ghost use Rattle.std.specs.Prelude.{◌≡◌, []};
 ghost use Rattle.tx_xdr.specs.Operation as operations;
 ghost use Rattle.tx_xdr.specs.Ext as exts;
+ghost use Rattle.tx_xdr.specs.Soroban.{footprint_format};
 
 use auth_types::AuthEntry;
 use invoke_types::HostFunction;
 use ledger_types::LedgerKey;
+use std::alloc::Global;
 use tx_parts::{Memo, MuxedAccount, Preconditions};
 use value_types::Items;
 
@@ -86,6 +88,20 @@ pub struct Operation {
 pub struct Footprint {
     pub read_only: Items<LedgerKey, 4294967295>,
     pub read_write: Items<LedgerKey, 4294967295>,
+}
+
+impl Footprint {
+    /// The footprint without keys. It takes no memory.
+    #[tactic(auto, unfolding(crate::specs::Soroban::footprint_format, xdr_spec::specs::Format::list))]
+    pub fn empty(alloc: Global) -> Footprint
+        ensures keys { result ≡ record { read_only = []; read_write = [] } }
+        ensures fits { footprint_format.fits result }
+    {
+        Footprint {
+            read_only: Items::from_vec(Vec::new(alloc)),
+            read_write: Items::from_vec(Vec::new(alloc)),
+        }
+    }
 }
 
 /// The footprint and the resources that a transaction declares (`SorobanTransactionData`).

@@ -10,10 +10,10 @@ use Rattle.contract_call.proofs.targets.with_module.Goals as goal
 pub returns-in-Ok-clause-does : goal.returns-in-Ok-clause-does
 returns-in-Ok-clause-does g c =
     let found : Target' = record { contract = c.args.contract; copy = c.args.copy; «module» = c.in-Ok.module } in
-    steps_view c.in-Ok.module found (λ (x : Module). x) target (λ env. module_at env c.args.copy.code) (λ m. record { contract = c.args.contract; instance = copied c.args.copy; module_ = m }) c.args.storage.now c.args.storage.now
-    c.args.budget.now c.call_module.new.budget refl c.in-Ok.ensures
+    steps_view c.in-Ok.module found (λ (x : Module). x) target (λ env. module_at env c.args.copy.code) (λ m. record { contract = c.args.contract; instance = copied c.args.copy; module_ = m }) c.args.storage.now c.call_module.new.storage
+    c.args.budget.now c.call_module.new.budget refl c.in-Ok.ensures.does
 
 pub returns-in-Err-clause-does : goal.returns-in-Err-clause-does
 returns-in-Err-clause-does g c =
-    steps_stop c.in-Err.error (λ (x : Module). x) target (λ env. module_at env c.args.copy.code) (λ env m. gives (record { contract = c.args.contract; instance = copied c.args.copy; module_ = m })) c.args.storage.now c.args.storage.now
-    c.args.budget.now c.call_module.new.budget c.in-Err.ensures
+    steps_stop c.in-Err.error (λ (x : Module). x) target (λ env. module_at env c.args.copy.code) (λ env m. gives (record { contract = c.args.contract; instance = copied c.args.copy; module_ = m })) c.args.storage.now c.call_module.new.storage
+    c.args.budget.now c.call_module.new.budget c.in-Err.ensures.does

@@ -10,8 +10,8 @@ use Rattle.call_spec.specs.WholeRuns.{creating}
 use Rattle.contract_call.specs.Creations.{creation_of}
 use Rattle.contract_call.proofs.Calling.{around_stop}
 use Rattle.contract_call.proofs.Undoing.{may_undo}
-use Rattle.contract_call.proofs.Working.{has_room, viewed, work_good, work_end, same_base, undone_base}
-use Rattle.contract_call.proofs.Ending.{ends_so}
+use Rattle.contract_call.proofs.Working.{has_room, viewed, work_good, work_end, same_base, undone_base, same_declared, undone_declared}
+use Rattle.contract_call.proofs.Ending.{ends_so, recorded_so}
 use Rattle.contract_call.proofs.works.create.Goals as goal
 
 pub returns-in-Ok-clause-does : goal.returns-in-Ok-clause-does
@@ -47,3 +47,15 @@ returns-in-Err-clause-base g c = undone_base c.mark-mark.result c.in-Err.error c
 
 pub create-requires-clause-path : goal.create-requires-clause-path
 create-requires-clause-path g c = has_room c.most_frames.result c.args.host.now c.most_frames.ensures c.requires.path
+
+pub returns-in-Ok-clause-recorded : goal.returns-in-Ok-clause-recorded
+returns-in-Ok-clause-recorded g c =
+    let r : Result Hash HostErr = Ok c.in-Ok.id in
+    recorded_so (creating (creation_of c.args.contract)) r (λ id. address (Contract id)) c.args.host.now c.create.new.host c.requires.ready (same_declared c.args.host.now c.create.new.host c.in-Ok.ensures.stays)
+    (returns-in-Ok-clause-does g c)
+
+pub returns-in-Err-clause-recorded : goal.returns-in-Err-clause-recorded
+returns-in-Err-clause-recorded g c =
+    let r : Result Hash HostErr = Err c.undo.result in
+    recorded_so (creating (creation_of c.args.contract)) r (λ id. address (Contract id)) c.args.host.now c.undo.new.host c.requires.ready (undone_declared c.mark-mark.result c.in-Err.error c.args.host.now c.create.new.host c.undo.new.host c.in-Err.ensures.stays c.undo.ensures.undoes)
+    (returns-in-Err-clause-does g c)

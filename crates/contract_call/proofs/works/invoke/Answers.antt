@@ -4,8 +4,8 @@ use Rattle.value_types.specs.Views.{datum, datums}
 use Rattle.host_spec.specs.declared.error.HostErr.{HostErr}
 use Rattle.call_spec.specs.WholeRuns.{calling}
 use Rattle.contract_call.proofs.Undoing.{may_undo}
-use Rattle.contract_call.proofs.Working.{has_room, hosted_made, work_good, work_end, same_base, undone_base}
-use Rattle.contract_call.proofs.Ending.{ends_so}
+use Rattle.contract_call.proofs.Working.{has_room, hosted_made, work_good, work_end, same_base, undone_base, same_declared, undone_declared}
+use Rattle.contract_call.proofs.Ending.{ends_so, recorded_so}
 use Rattle.contract_call.proofs.works.invoke.Goals as goal
 
 pub call-requires-clause-args : goal.call-requires-clause-args
@@ -41,3 +41,15 @@ returns-in-Err-clause-base g c = undone_base c.mark-mark.result c.in-Err.error c
 
 pub call-requires-clause-path : goal.call-requires-clause-path
 call-requires-clause-path g c = has_room c.most_frames.result c.args.host.now c.most_frames.ensures c.requires.path
+
+pub returns-in-Ok-clause-recorded : goal.returns-in-Ok-clause-recorded
+returns-in-Ok-clause-recorded g c =
+    let r : Result ScVal HostErr = Ok c.in-Ok.value in
+    recorded_so (calling c.args.contract c.args.function.now (datums c.args.args.items)) r datum c.args.host.now c.call.new.host c.requires.ready (same_declared c.args.host.now c.call.new.host c.in-Ok.ensures.stays)
+    (returns-in-Ok-clause-does g c)
+
+pub returns-in-Err-clause-recorded : goal.returns-in-Err-clause-recorded
+returns-in-Err-clause-recorded g c =
+    let r : Result ScVal HostErr = Err c.undo.result in
+    recorded_so (calling c.args.contract c.args.function.now (datums c.args.args.items)) r datum c.args.host.now c.undo.new.host c.requires.ready (undone_declared c.mark-mark.result c.in-Err.error c.args.host.now c.call.new.host c.undo.new.host c.in-Err.ensures.stays c.undo.ensures.undoes)
+    (returns-in-Err-clause-does g c)

@@ -8,8 +8,8 @@ use Rattle.call_spec.specs.HostFunctions.{MOST_FRAMES}
 use Rattle.call_spec.specs.WholeRuns.{uploading}
 use Rattle.contract_call.proofs.Calling.{around_stop}
 use Rattle.contract_call.proofs.Undoing.{may_undo}
-use Rattle.contract_call.proofs.Working.{steps_around, steps_stay, viewed, work_good, work_end, same_base, undone_base}
-use Rattle.contract_call.proofs.Ending.{ends_so}
+use Rattle.contract_call.proofs.Working.{steps_around, steps_stay, viewed, work_good, work_end, same_base, undone_base, same_declared, undone_declared}
+use Rattle.contract_call.proofs.Ending.{ends_so, recorded_so}
 use Rattle.contract_call.proofs.works.upload.Goals as goal
 
 pub returns-in-Ok-clause-does : goal.returns-in-Ok-clause-does
@@ -59,3 +59,19 @@ returns-in-Err-clause-base g c =
     let old = c.args.host.now in
     let ledger = c.upload_in.new.ledger in
     undone_base c.mark-mark.result c.in-Err.error old (record old { ledger = ledger }) c.undo.new.host (steps_stay old ledger c.in-Err.ensures.stays c.in-Err.ensures.later) c.undo.ensures.undoes
+
+pub returns-in-Ok-clause-recorded : goal.returns-in-Ok-clause-recorded
+returns-in-Ok-clause-recorded g c =
+    let r : Result Hash HostErr = Ok c.in-Ok.hash in
+    let old = c.args.host.now in
+    let ledger = c.upload_in.new.ledger in
+    recorded_so (uploading c.args.code.now) r (λ hash. bytes hash.0) old (record old { ledger = ledger }) c.requires.ready (same_declared old (record old { ledger = ledger }) (steps_stay old ledger c.in-Ok.ensures.stays c.in-Ok.ensures.later))
+    (returns-in-Ok-clause-does g c)
+
+pub returns-in-Err-clause-recorded : goal.returns-in-Err-clause-recorded
+returns-in-Err-clause-recorded g c =
+    let r : Result Hash HostErr = Err c.undo.result in
+    let old = c.args.host.now in
+    let ledger = c.upload_in.new.ledger in
+    recorded_so (uploading c.args.code.now) r (λ hash. bytes hash.0) old c.undo.new.host c.requires.ready (undone_declared c.mark-mark.result c.in-Err.error old (record old { ledger = ledger }) c.undo.new.host (steps_stay old ledger c.in-Err.ensures.stays c.in-Err.ensures.later) c.undo.ensures.undoes)
+    (returns-in-Err-clause-does g c)

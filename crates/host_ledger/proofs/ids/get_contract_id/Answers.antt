@@ -2,12 +2,16 @@ use Rattle.std.proofs.Common.{[], ap, refl, sym, arith}
 use Rattle.std.proofs.lemmas.Grind.{common_steps}
 use Rattle.ledger_types.specs.declared.header.Header.{Header}
 use Rattle.host_ledger.specs.Worlds.{world_at}
+use Rattle.host_frame.specs.Answered.{answer_of}
+use Rattle.host_ledger.proofs.Tracing.{quietly}
 use Rattle.host_ledger.proofs.Rows.{later_same}
 use Rattle.host_ledger.proofs.ids.get_contract_id.Goals as goal
 
 pub returns : goal.returns
 returns g c = record {
-  does = λ env is rest trace. c.id_of_words.ensures.does env (ap (λ (h : Header). h.network_id) is.header) (world_at rest c.args.host.now trace) refl (sym c.new-values.ensures);
+  does = λ env is rest trace.
+      quietly c.id_of_words.result answer_of _ c.args.host.now.storage (world_at rest c.args.host.now trace) _
+      (c.id_of_words.ensures.does env (ap (λ (h : Header). h.network_id) is.header) (world_at rest c.args.host.now trace) refl (sym c.new-values.ensures));
   made = c.id_of_words.ensures.made;
   stays = record {
     header = refl;

@@ -1,6 +1,6 @@
 use Rattle.std.proofs.Common.{refl, sym, subst}
 use Rattle.host_ledger.specs.Worlds.{IsHeld, world_at}
-use Rattle.host_ledger.proofs.Rows.{later_same}
+use Rattle.host_ledger.proofs.Rows.{later_read}
 use Rattle.host_ledger.proofs.updates.update_current_contract_wasm.Goals as goal
 
 pub returns : goal.returns
@@ -9,7 +9,7 @@ returns g c = record {
   made = c.update_code.ensures.made;
   stays = record {
     header = refl;
-    storage = later_same _ _ refl;
+    storage = later_read _ _ c.update_code.ensures.read;
     events = c.update_code.ensures.later;
     objects = refl;
     shown = refl;

@@ -1,4 +1,4 @@
-use Rattle.std.specs.Prelude.{IfSome}
+use Rattle.std.specs.Prelude.{IfSome, IsSomeAnd}
 use Rattle.std.proofs.Common.{◌≡◌, ℕ, List, [], All, Result, Ok, Err, ap, sym, subst, ◌∙◌, arith}
 use Rattle.budget_meter.specs.declared.budget.Used.{Used}
 use Rattle.value_types.specs.declared.value.ScVal.{ScVal}
@@ -40,9 +40,9 @@ returns-in-Ok-clause-done g c =
     let old = c.new-host.result in
     let marks : old.marks ≡ record { entries = authority.entries; source = authority.source; pairs = [] } = c.new-host.ensures.marks ∙ c.in_ok-marks.ensures in
     let stored = c.new-host.ensures.storage ∙ c.in_ok-storage.ensures.starts in
-    let one = subst (λ (keys : List LedgerKey). IsFootprint keys c.as_slice-2.result.now c.in_ok-storage.storage.declared) c.as_slice.ensures c.in_ok-storage.ensures.declared in
-    let two = subst (λ (keys : List LedgerKey). IsFootprint resources.footprint.read_only keys c.in_ok-storage.storage.declared) c.as_slice-2.ensures one in
-    let declared = subst (λ (s : Stored). IsFootprint resources.footprint.read_only resources.footprint.read_write s.declared) (sym c.new-host.ensures.storage) two in
+    let one = subst (λ (keys : List LedgerKey). IsSomeAnd c.in_ok-storage.storage.declared (IsFootprint keys c.as_slice-2.result.now)) c.as_slice.ensures c.in_ok-storage.ensures.declared in
+    let two = subst (λ (keys : List LedgerKey). IsSomeAnd c.in_ok-storage.storage.declared (IsFootprint resources.footprint.read_only keys)) c.as_slice-2.ensures one in
+    let declared = subst (λ (s : Stored). IsSomeAnd s.declared (IsFootprint resources.footprint.read_only resources.footprint.read_write)) (sym c.new-host.ensures.storage) two in
     let r : Result ScVal HostErr = Ok c.in-Ok.value in
     let comes = started_comes (next_seq header) resources old c.run_job.new.host header authority c.args.budget entries (work_in c.args.job.now) r (record {
       header-is = c.new-host.ensures.header;
@@ -68,9 +68,9 @@ returns-in-Err-clause-done g c =
     let old = c.new-host.result in
     let marks : old.marks ≡ record { entries = authority.entries; source = authority.source; pairs = [] } = c.new-host.ensures.marks ∙ c.in_ok-marks.ensures in
     let stored = c.new-host.ensures.storage ∙ c.in_ok-storage.ensures.starts in
-    let one = subst (λ (keys : List LedgerKey). IsFootprint keys c.as_slice-2.result.now c.in_ok-storage.storage.declared) c.as_slice.ensures c.in_ok-storage.ensures.declared in
-    let two = subst (λ (keys : List LedgerKey). IsFootprint resources.footprint.read_only keys c.in_ok-storage.storage.declared) c.as_slice-2.ensures one in
-    let declared = subst (λ (s : Stored). IsFootprint resources.footprint.read_only resources.footprint.read_write s.declared) (sym c.new-host.ensures.storage) two in
+    let one = subst (λ (keys : List LedgerKey). IsSomeAnd c.in_ok-storage.storage.declared (IsFootprint keys c.as_slice-2.result.now)) c.as_slice.ensures c.in_ok-storage.ensures.declared in
+    let two = subst (λ (keys : List LedgerKey). IsSomeAnd c.in_ok-storage.storage.declared (IsFootprint resources.footprint.read_only keys)) c.as_slice-2.ensures one in
+    let declared = subst (λ (s : Stored). IsSomeAnd s.declared (IsFootprint resources.footprint.read_only resources.footprint.read_write)) (sym c.new-host.ensures.storage) two in
     let r : Result ScVal HostErr = Err c.in-Err.end in
     let comes = started_comes (next_seq header) resources old c.run_job.new.host header authority c.args.budget entries (work_in c.args.job.now) r (record {
       header-is = c.new-host.ensures.header;

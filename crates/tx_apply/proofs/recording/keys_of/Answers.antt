@@ -1,21 +1,21 @@
-use Rattle.std.proofs.Common.{◌≡◌, ◌++◌, List, sym, ap, ap₂, ◌∙◌}
-use Rattle.std.proofs.lemmas.List.{append-nil}
-use Rattle.ledger_types.specs.declared.key.LedgerKey.{LedgerKey}
-use Rattle.tx_apply.specs.Recording.{Keys, keys_in}
-use Rattle.tx_apply.proofs.Needing.{keys_more}
+use Rattle.std.specs.Prelude.{if◌then◌else◌}
+use Rattle.std.specs.Bool.{beq}
+use Rattle.std.specs.BTreeSet.{insert_key}
+use Rattle.std.proofs.Common.{ℕ, Bool, ap, subst, ◌∙◌, arith}
+use Rattle.ledger_types.specs.KeyOrder.{key_cmp}
+use Rattle.tx_apply.proofs.Recorded.{Fills, fills_none, fills_more, fills_all}
 use Rattle.tx_apply.proofs.recording.keys_of.Goals as goal
 
-pub loop-key-init : goal.loop-key-init
-loop-key-init c =
-    let e : c.into_iter-key-iterator.result ≡ c.args.keys.now.entries = c.into_iter-key-iterator.ensures.into_iter_gives ∙ c.iter-key-items.ensures.rest in
-    ap₂ (λ (xs : List LedgerKey) (es : Keys). xs ++ keys_in c.args.read_write es) c.new-list.ensures.items e
+pub loop-touch-init : goal.loop-touch-init
+loop-touch-init c = fills_none c.args.written c.args.touches.now c.new-keys.result.keys c.new-keys.ensures.empty
 
-pub loop-key-preserved : goal.loop-key-preserved
-loop-key-preserved c =
-    keys_more c.args.read_write (c.in-Some.key.now, c.in-Some.writes.now) c.next.new.self c.loop-key.list.items c.push_chosen.new.list.items (keys_in c.args.read_write c.args.keys.now.entries) c.in_ok-push_chosen.ensures
-    (ap (λ (es : Keys). c.loop-key.list.items ++ keys_in c.args.read_write es) (sym c.in-Some.ensures.steps) ∙ c.loop-key.invariant)
+pub loop-touch-preserved : goal.loop-touch-preserved
+loop-touch-preserved c =
+    let old = c.loop-touch.keys.keys in
+    let put = c.in_ok-add_chosen.ensures ∙ ap (λ (b : Bool). if beq b c.args.written then insert_key key_cmp old c.touch-item.result.key else old) c.is_write.ensures in
+    fills_more c.args.written c.args.touches.now c.loop-touch.touch-index c.touch-item.result old c.add_chosen.new.keys.keys c.loop-touch-test.true c.touch-item.is put c.loop-touch.invariant
 
 pub returns : goal.returns
 returns c =
-    c.from_vec.ensures ∙ sym (append-nil c.loop-key.list.items)
-    ∙ ap (λ (es : Keys). c.loop-key.list.items ++ keys_in c.args.read_write es) (sym c.in-None.ensures.steps.0) ∙ c.loop-key.invariant
+    c.from_vec.ensures ∙ c.in_ok-in_order.ensures
+    ∙ fills_all c.args.written c.args.touches.now c.loop-touch.keys.keys c.requires (subst (λ (i : ℕ). Fills c.args.written c.loop-touch.keys.keys i c.args.touches.now) (omega arith) c.loop-touch.invariant)

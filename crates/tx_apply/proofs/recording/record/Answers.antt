@@ -1,58 +1,37 @@
-use Rattle.std.proofs.Common.{true, false, All, length, sym, ap, subst, ◌∙◌, arith}
-use Rattle.std.proofs.lemmas.List.Elements.{All-from_recursion}
-use Rattle.ledger_types.specs.Key.{key_format}
-use Rattle.tx_xdr.specs.Soroban.{footprint_format}
-use Rattle.tx_xdr.specs.declared.transaction.Footprint.{Footprint}
-use Rattle.call_spec.specs.Acts.{world_of}
-use Rattle.call_spec.specs.WholeRuns.{whole}
-use Rattle.apply_spec.specs.Simulated.{Needs}
+use Rattle.std.proofs.Common.{◌≡◌}
+use Rattle.call_spec.specs.WholeRuns.{meter_of}
 use Rattle.tx_apply.specs.Authorities.{authority_in}
 use Rattle.tx_apply.specs.Jobs.{work_in}
-use Rattle.tx_apply.specs.Recording.{IsTurn, keys_in, footprint_in}
-use Rattle.tx_apply.specs.declared.recording.Turn.{Turn}
-use Rattle.tx_apply.proofs.Needing.{AllNeeded, needed_fits, after_rejected, after_allowed, one_more, found_fits}
+use Rattle.tx_apply.proofs.Running.{meter_is}
+use Rattle.tx_apply.proofs.Arguments.{passed_arguments, stopped_arguments, encodable_arguments}
+use Rattle.tx_apply.proofs.Needing.{whole_needs, no_needs}
 use Rattle.tx_apply.proofs.recording.record.Goals as goal
 
-pub loop-run-init : goal.loop-run-init
-loop-run-init g c =
-    let w = world_of (whole c.args.header.now (authority_in c.args.authority.now) c.args.instructions (work_in c.args.job.now) (g.G.Ground.map c.args.ground.now)) in
-    (subst (AllNeeded w.trace) (sym c.new-keys.ensures.empty) tt, omega (arith, ap length c.new-keys.ensures.empty))
+pub enter_all-requires : goal.enter_all-requires
+enter_all-requires g c =
+    encodable_arguments c.args.job.now c.values.result.now c.budget_of-budget.result c.budget_of-budget.result c.values.ensures c.requires.spelled.values
 
-pub run_with-requires-clause-read_only : goal.run_with-requires-clause-read_only
-run_with-requires-clause-read_only g c =
-    let w = world_of (whole c.args.header.now (authority_in c.args.authority.now) c.args.instructions (work_in c.args.job.now) (g.G.Ground.map c.args.ground.now)) in
-    let es = c.loop-run.keys.entries in
-    subst (λ (f : Footprint). All (λ key. key_format.fits key) f.read_only) (sym c.in_ok-footprint.ensures.footprint)
-    (All-from_recursion (λ key. key_format.fits key) (keys_in false es) (needed_fits w.trace false es c.loop-run.invariant.0))
+pub returns-in-Ok-clause-needs : goal.returns-in-Ok-clause-needs
+returns-in-Ok-clause-needs g c =
+    let header = c.args.header.now in
+    let entries = g.G.Ground.map c.args.ground.now in
+    let authority = authority_in c.args.authority.now in
+    let job = c.args.job.now in
+    let before = c.budget_of-budget.result in
+    let later = c.enter_all.new.budget in
+    let is : before ≡ meter_of header c.args.instructions = meter_is header c.args.instructions before c.budget_of-budget.ensures.limits c.budget_of-budget.ensures.terms c.budget_of-budget.ensures.used in
+    whole_needs header authority c.args.instructions (work_in job) entries before later is
+    (passed_arguments job c.values.result.now before later c.values.ensures c.in-Ok.ensures.does) c.run_recorded.result c.run_recorded.ensures.needs
 
-pub run_with-requires-clause-read_write : goal.run_with-requires-clause-read_write
-run_with-requires-clause-read_write g c =
-    let w = world_of (whole c.args.header.now (authority_in c.args.authority.now) c.args.instructions (work_in c.args.job.now) (g.G.Ground.map c.args.ground.now)) in
-    let es = c.loop-run.keys.entries in
-    subst (λ (f : Footprint). All (λ key. key_format.fits key) f.read_write) (sym c.in_ok-footprint.ensures.footprint)
-    (All-from_recursion (λ key. key_format.fits key) (keys_in true es) (needed_fits w.trace true es c.loop-run.invariant.0))
-
-pub loop-run-preserved : goal.loop-run-preserved
-loop-run-preserved g c =
-    let w = world_of (whole c.args.header.now (authority_in c.args.authority.now) c.args.instructions (work_in c.args.job.now) (g.G.Ground.map c.args.ground.now)) in
-    let es = c.loop-run.keys.entries in
-    let turn = subst (λ (f : Footprint). IsTurn f w.trace w.meter.used c.in_ok-used.field-0) c.in_ok-footprint.ensures.footprint c.in_ok-used.ensures in
-    let rejected = subst (λ (t : Turn). IsTurn (footprint_in es) w.trace w.meter.used t) c.in-Rejected.is turn in (
-      subst (AllNeeded w.trace) (sym c.in_ok-add-in-Rejected.ensures) (after_rejected w.trace es w.meter.used c.in-Rejected.key c.loop-run.invariant.0 rejected),
-      omega (arith, ap length c.in_ok-add-in-Rejected.ensures, one_more es c.in-Rejected.key, c.loop-run.invariant.1),
-    )
-
-pub returns-in-Allowed-clause-needs : goal.returns-in-Allowed-clause-needs
-returns-in-Allowed-clause-needs g c =
-    let w = world_of (whole c.args.header.now (authority_in c.args.authority.now) c.args.instructions (work_in c.args.job.now) (g.G.Ground.map c.args.ground.now)) in
-    let es = c.loop-run.keys.entries in
-    let turn = subst (λ (f : Footprint). IsTurn f w.trace w.meter.used c.in_ok-used.field-0) c.in_ok-footprint.ensures.footprint c.in_ok-used.ensures in
-    let allowed = subst (λ (t : Turn). IsTurn (footprint_in es) w.trace w.meter.used t) c.in-Allowed.is turn in
-    ap (λ (f : Footprint). let n : Needs = record { footprint = f; used = c.in-Allowed.used } in n) c.in_ok-footprint.ensures.footprint
-    ∙ after_allowed w.trace es w.meter.used c.in-Allowed.used c.loop-run.invariant.0 c.in_ok-footprint.ensures.ordered allowed
-
-pub returns-in-Allowed-clause-fits : goal.returns-in-Allowed-clause-fits
-returns-in-Allowed-clause-fits g c =
-    let w = world_of (whole c.args.header.now (authority_in c.args.authority.now) c.args.instructions (work_in c.args.job.now) (g.G.Ground.map c.args.ground.now)) in
-    subst footprint_format.fits (sym c.in_ok-footprint.ensures.footprint)
-    (found_fits w.trace c.loop-run.keys.entries c.loop-run.invariant.0 (omega (arith, c.loop-run.invariant.1)))
+pub returns-in-Err-clause-needs : goal.returns-in-Err-clause-needs
+returns-in-Err-clause-needs g c =
+    let header = c.args.header.now in
+    let entries = g.G.Ground.map c.args.ground.now in
+    let authority = authority_in c.args.authority.now in
+    let job = c.args.job.now in
+    let before = c.budget_of-budget.result in
+    let later = c.enter_all.new.budget in
+    let is : before ≡ meter_of header c.args.instructions = meter_is header c.args.instructions before c.budget_of-budget.ensures.limits c.budget_of-budget.ensures.terms c.budget_of-budget.ensures.used in
+    no_needs header authority c.args.instructions (work_in job) entries before later is c.in-Err.error
+    (stopped_arguments job c.values.result.now before later c.values.ensures c.in-Err.error c.in-Err.ensures.does)
+    c.spent.result c.spent.ensures.sums c.not_entered.result c.not_entered.ensures.ended c.not_entered.ensures.needs

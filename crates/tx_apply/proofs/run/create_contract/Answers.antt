@@ -5,7 +5,7 @@ use Rattle.value_types.specs.declared.address.ScAddress.TheVariants as addresses
 use Rattle.value_types.specs.declared.hash.Hash.{Hash}
 use Rattle.call_spec.specs.WholeRuns.{creating}
 use Rattle.contract_call.specs.Creations.{creation_of}
-use Rattle.tx_apply.proofs.Ending.{ends_failed, ends_viewed}
+use Rattle.tx_apply.proofs.Ending.{ends_failed, ends_viewed, recorded_failed, recorded_viewed}
 use Rattle.tx_apply.proofs.run.create_contract.Goals as goal
 
 pub returns-in-Ok-clause-ends : goal.returns-in-Ok-clause-ends
@@ -16,3 +16,12 @@ returns-in-Ok-clause-ends g c =
 pub returns-in-Err-clause-ends : goal.returns-in-Err-clause-ends
 returns-in-Err-clause-ends g c =
     ends_failed (creating (creation_of c.args.contract)) (λ (id : Hash). address (addresses.Contract id)) datum c.args.host.now c.create.new.host c.in-Err.end c.in-Err.ensures.ends
+
+pub returns-in-Ok-clause-recorded : goal.returns-in-Ok-clause-recorded
+returns-in-Ok-clause-recorded g c =
+    recorded_viewed (creating (creation_of c.args.contract)) (λ (id : Hash). address (addresses.Contract id)) datum c.args.host.now c.create.new.host c.in-Ok.id c.contract_value.result
+    (sym c.contract_value.ensures.value) c.in-Ok.ensures.recorded
+
+pub returns-in-Err-clause-recorded : goal.returns-in-Err-clause-recorded
+returns-in-Err-clause-recorded g c =
+    recorded_failed (creating (creation_of c.args.contract)) (λ (id : Hash). address (addresses.Contract id)) datum c.args.host.now c.create.new.host c.in-Err.end c.in-Err.ensures.recorded

@@ -3,7 +3,7 @@ use Rattle.value_types.specs.Datum.{Datum}
 use Rattle.value_types.specs.Views.{datum}
 use Rattle.call_spec.specs.WholeRuns.{creating}
 use Rattle.call_spec.specs.Creating.{Creation}
-use Rattle.contract_call.specs.Ended.{Ends}
+use Rattle.contract_call.specs.Ended.{Ends, EndsRecorded}
 use Rattle.tx_apply.specs.Jobs.{work_in}
 use Rattle.tx_apply.specs.declared.job.Job.{Job}
 use Rattle.tx_apply.proofs.run.perform.Goals as goal
@@ -21,3 +21,17 @@ returns-in_ok-args-in-Create-clause-ends g c =
     let made : Option (List Datum) → Creation = λ args. record { deployer = c.in-Create.deployer; code = c.in-Create.code; salt = c.in-Create.salt; args = args } in
     subst (λ (job : Job). Ends (work_in job) c.create_contract.result datum c.args.host.now c.create_contract.new.host) (sym c.in-Create.is)
     (subst (λ (args : Option (List Datum)). Ends (creating (made args)) c.create_contract.result datum c.args.host.now c.create_contract.new.host) c.in_ok-args-in-Create.ensures.ok c.create_contract.ensures.ends)
+
+pub returns-in-Call-clause-recorded : goal.returns-in-Call-clause-recorded
+returns-in-Call-clause-recorded g c =
+    subst (λ (job : Job). EndsRecorded (work_in job) c.call.result datum c.args.host.now c.call.new.host) (sym c.in-Call.is) c.call.ensures.recorded
+
+pub returns-in-Upload-clause-recorded : goal.returns-in-Upload-clause-recorded
+returns-in-Upload-clause-recorded g c =
+    subst (λ (job : Job). EndsRecorded (work_in job) c.upload_code.result datum c.args.host.now c.upload_code.new.host) (sym c.in-Upload.is) c.upload_code.ensures.recorded
+
+pub returns-in_ok-args-in-Create-clause-recorded : goal.returns-in_ok-args-in-Create-clause-recorded
+returns-in_ok-args-in-Create-clause-recorded g c =
+    let made : Option (List Datum) → Creation = λ args. record { deployer = c.in-Create.deployer; code = c.in-Create.code; salt = c.in-Create.salt; args = args } in
+    subst (λ (job : Job). EndsRecorded (work_in job) c.create_contract.result datum c.args.host.now c.create_contract.new.host) (sym c.in-Create.is)
+    (subst (λ (args : Option (List Datum)). EndsRecorded (creating (made args)) c.create_contract.result datum c.args.host.now c.create_contract.new.host) c.in_ok-args-in-Create.ensures.ok c.create_contract.ensures.recorded)

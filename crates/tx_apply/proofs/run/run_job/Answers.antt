@@ -1,5 +1,5 @@
 use Rattle.tx_apply.specs.Jobs.{work_in}
-use Rattle.tx_apply.proofs.Ending.{charged_ends, failed_ends}
+use Rattle.tx_apply.proofs.Ending.{charged_ends, failed_ends, charged_recorded, failed_recorded}
 use Rattle.tx_apply.proofs.run.run_job.Goals as goal
 
 pub returns-in-Ok-clause-ends : goal.returns-in-Ok-clause-ends
@@ -8,3 +8,10 @@ returns-in-Ok-clause-ends g c =
 
 pub returns-in-Err-clause-ends : goal.returns-in-Err-clause-ends
 returns-in-Err-clause-ends g c = failed_ends (work_in c.args.job.now) c.args.host.now c.perform.new.host c.in-Err.end c.in-Err.ensures.ends
+
+pub returns-in-Ok-clause-recorded : goal.returns-in-Ok-clause-recorded
+returns-in-Ok-clause-recorded g c =
+    charged_recorded (work_in c.args.job.now) c.args.host.now c.perform.new.host c.charged.new.budget c.in-Ok.value c.charged.result c.in-Ok.ensures.recorded c.charged.ensures
+
+pub returns-in-Err-clause-recorded : goal.returns-in-Err-clause-recorded
+returns-in-Err-clause-recorded g c = failed_recorded (work_in c.args.job.now) c.args.host.now c.perform.new.host c.in-Err.end c.in-Err.ensures.recorded

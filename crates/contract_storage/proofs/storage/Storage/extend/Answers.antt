@@ -1,23 +1,23 @@
-use Rattle.std.proofs.Common.{◌≡◌, ◌-◌, ◌&&◌, nat_lt, nat_le, true, false, rules}
-use Rattle.entry_lookup.specs.Found.{kept_of}
-use Rattle.contract_storage.specs.Footprint.{allows}
-use Rattle.contract_storage.specs.Acts.{extend_act}
+use Rattle.std.proofs.Common.{◌≡◌, Bool, Err, true, false, nat_lt, refl, ap, rules}
+use Rattle.std.specs.Prelude.{cond}
+use Rattle.ledger_spec.specs.Changes.{backward}
+use Rattle.contract_storage.specs.Touched.{admits}
+use Rattle.contract_storage.specs.Acts.{extends, extend_act, judged, refusal, left}
 use Rattle.contract_storage.specs.declared.access.Access.TheVariants.{Extend}
-use Rattle.contract_storage.proofs.Doing.{does_settled, ext_longer, ext_stays}
+use Rattle.contract_storage.proofs.Calling.{does_ended, does_same, before_start}
 use Rattle.contract_storage.proofs.storage.Storage.extend.Goals as goal
 
-pub returns-then-not-is_longer : goal.returns-then-not-is_longer
-returns-then-not-is_longer g c =
-    let f : nat_lt c.args.extend_to c.args.threshold ≡ false = search rules in
-    let a : allows c.args.self.now.declared Extend c.args.key.now ≡ true = search rules in
-    let no : (nat_lt c.in-Live.found.live_until c.in-Some.life && nat_le (c.in-Live.found.live_until - c.args.self.now.n) c.args.threshold) ≡ false = search rules in
-    ext_stays c.args.self.now c.args.key.now c.args.threshold c.args.extend_to c.in-Some.life (kept_of c.in-Live.found) f a c.in-Live.ensures.seen c.in-Some.ensures no
+pub ended-requires-clause-before : goal.ended-requires-clause-before
+ended-requires-clause-before g c =
+    before_start (extends c.args.key.now c.args.threshold c.args.extend_to) c.extend_allowed-answer.result c.args.self.now c.extend_allowed-answer.new.self _ c.snapshot-start.ensures c.extend_allowed-answer.ensures
 
 pub returns : goal.returns
 returns g c =
+    let act = extends c.args.key.now c.args.threshold c.args.extend_to in
+    let call = judged Extend c.args.key.now act in
     let f : nat_lt c.args.extend_to c.args.threshold ≡ false = search rules in
-    let a : allows c.args.self.now.declared Extend c.args.key.now ≡ true = search rules in
-    let yes : (nat_lt c.in-Live.found.live_until c.in-Some.life && nat_le (c.in-Live.found.live_until - c.args.self.now.n) c.args.threshold) ≡ true = search rules in
-    does_settled (extend_act c.args.key.now c.args.threshold c.args.extend_to) c.settle.result c.args.self.now c.settle.new.self _
-    (ext_longer c.args.self.now c.args.key.now c.args.threshold c.args.extend_to c.in-Some.life (kept_of c.in-Live.found) f a c.in-Live.ensures.seen c.in-Some.ensures yes)
-    (rw (← c.in-Ok.ensures) c.settle.ensures.ok) c.settle.ensures.err c.settle.ensures.stays
+    let a : admits c.args.self.now.declared Extend c.args.key.now ≡ true = search rules in
+    does_same (extend_act c.args.key.now c.args.threshold c.args.extend_to) call c.ended.result c.args.self.now c.ended.new.self
+    (ap (λ (b : Bool). cond b (Err (refusal backward), left c.args.self.now) (call c.args.self.now)) f)
+    (does_ended Extend c.args.key.now c.args.key.now act c.extend_allowed-answer.result c.ended.result c.args.self.now c.extend_allowed-answer.new.self c.ended.new.self _
+    refl a c.extend_allowed-answer.ensures c.snapshot-start.ensures c.ended.ensures.out c.ended.ensures.ends c.ended.ensures.undone)

@@ -1,15 +1,21 @@
 use Rattle.std.proofs.Common.{◌≡◌, true, rules}
-use Rattle.contract_storage.specs.Footprint.{allows}
-use Rattle.contract_storage.specs.Acts.{put_act}
+use Rattle.ledger_types.specs.Entry.{key_of}
+use Rattle.contract_storage.specs.Touched.{admits}
+use Rattle.contract_storage.specs.Acts.{puts}
 use Rattle.contract_storage.specs.declared.access.Access.TheVariants.{Write}
-use Rattle.contract_storage.proofs.Doing.{does_settled, put_is, fits_key}
+use Rattle.contract_storage.proofs.Doing.{fits_key}
+use Rattle.contract_storage.proofs.Calling.{does_ended, before_start}
 use Rattle.contract_storage.proofs.storage.Storage.put.Goals as goal
 
-pub life_of_put-requires : goal.life_of_put-requires
-life_of_put-requires g c = fits_key c.args.key c.args.entry c.requires.key c.requires.fits
+pub ended-requires-clause-fits : goal.ended-requires-clause-fits
+ended-requires-clause-fits g c = fits_key c.args.key c.args.entry c.requires.key c.requires.fits
+
+pub ended-requires-clause-before : goal.ended-requires-clause-before
+ended-requires-clause-before g c =
+    before_start (puts c.args.entry) c.put_allowed-answer.result c.args.self.now c.put_allowed-answer.new.self _ c.snapshot-start.ensures c.put_allowed-answer.ensures
 
 pub returns : goal.returns
 returns g c =
-    let a : allows c.args.self.now.declared Write c.args.key ≡ true = search rules in
-    does_settled (put_act c.args.entry) c.write.result c.args.self.now c.write.new.self _ (put_is c.args.self.now c.args.key c.args.entry c.in-Some.live_until c.requires.key a c.in-Some.ensures)
-    c.write.ensures.ok c.write.ensures.err c.write.ensures.stays
+    let a : admits c.args.self.now.declared Write c.args.key ≡ true = search rules in
+    does_ended Write c.args.key (key_of c.args.entry) (puts c.args.entry) c.put_allowed-answer.result c.ended.result c.args.self.now c.put_allowed-answer.new.self c.ended.new.self _
+    c.requires.key a c.put_allowed-answer.ensures c.snapshot-start.ensures c.ended.ensures.out c.ended.ensures.ends c.ended.ensures.undone

@@ -1,0 +1,17 @@
+use Rattle.std.proofs.Common.{◌≡◌, ◌-◌, ◌&&◌, nat_lt, nat_le, true, false, rules}
+use Rattle.entry_lookup.specs.Found.{kept_of}
+use Rattle.contract_storage.specs.Acts.{extends}
+use Rattle.contract_storage.proofs.Doing.{does_settled, ext_longer, ext_stays}
+use Rattle.contract_storage.proofs.storage.Storage.extend_allowed.Goals as goal
+
+pub returns-then-not-is_longer : goal.returns-then-not-is_longer
+returns-then-not-is_longer g c =
+    let no : (nat_lt c.in-Live.found.live_until c.in-Some.life && nat_le (c.in-Live.found.live_until - c.args.self.now.n) c.args.threshold) ≡ false = search rules in
+    ext_stays c.args.self.now c.args.key.now c.args.threshold c.args.extend_to c.in-Some.life (kept_of c.in-Live.found) c.requires.unless_backward c.in-Live.ensures.seen c.in-Some.ensures no
+
+pub returns : goal.returns
+returns g c =
+    let yes : (nat_lt c.in-Live.found.live_until c.in-Some.life && nat_le (c.in-Live.found.live_until - c.args.self.now.n) c.args.threshold) ≡ true = search rules in
+    does_settled (extends c.args.key.now c.args.threshold c.args.extend_to) c.settle.result c.args.self.now c.settle.new.self _
+    (ext_longer c.args.self.now c.args.key.now c.args.threshold c.args.extend_to c.in-Some.life (kept_of c.in-Live.found) c.requires.unless_backward c.in-Live.ensures.seen c.in-Some.ensures yes)
+    (rw (← c.in-Ok.ensures) c.settle.ensures.ok) c.settle.ensures.err c.settle.ensures.stays

@@ -1,0 +1,69 @@
+-- The keys that were accessed, and which accesses a storage allows (own, after CAP-0046-05).
+use Rattle.std.specs.Prelude.{◌≡◌, ◌<◌, ◌^◌, ℕ, suc, Bool, true, List, [], ◌∷◌, length, Option, Some, None, if◌then◌else◌}
+use Rattle.std.specs.List.{AllByRecursion}
+use Rattle.std.specs.Option.{option_map}
+use Rattle.std.specs.Str.{bytes_eq}
+use Rattle.std.specs.Map.{lookup}
+use Rattle.std.specs.BTreeMap.{is_at}
+use Rattle.ledger_types.specs.Key.{key_format}
+use Rattle.ledger_types.specs.KeyOrder.{key_cmp}
+use Rattle.ledger_types.specs.declared.key.LedgerKey.{LedgerKey}
+use Rattle.ledger_spec.specs.LedgerMap.{key_bytes}
+use Rattle.contract_storage.specs.declared.access.Access.{Access}
+use Rattle.contract_storage.specs.declared.access.Access.TheVariants.{Read, Extend, Write}
+use Rattle.contract_storage.specs.declared.touched.Touch.{Touch}
+use Rattle.contract_storage.specs.Footprint.{allows}
+
+-- ---- touched keys
+
+-- the stronger of two accesses: Write is above Extend, and Extend is above Read
+abbrev pub stronger : Access → Access → Access
+stronger Write b = Write
+stronger Extend Write = Write
+stronger Extend Read = Extend
+stronger Extend Extend = Extend
+stronger Read b = b
+
+-- the keys have the same XDR bytes
+abbrev pub is_same_key : LedgerKey → LedgerKey → Bool
+is_same_key a b = bytes_eq (key_bytes a) (key_bytes b)
+
+-- The touched keys after one more access. They stand in the order of their first access, each with its strongest access. The same
+-- rule stands in apply_spec/specs/Recorded, in the names of a run; tx_apply proves that they agree.
+abbrev pub touch : Access → LedgerKey → List Touch → List Touch
+touch access key [] = record { key = key; access = access } ∷ []
+touch access key (t ∷ ts) =
+    if is_same_key key t.key then record t { access = stronger t.access access } ∷ ts else t ∷ touch access key ts
+
+-- ---- what is allowed
+
+-- A storage that enforces a footprint allows the accesses that its declared keys allow. One that records has no declared keys,
+-- and allows all.
+abbrev pub admits : Option (List (LedgerKey × Bool)) → Access → LedgerKey → Bool
+admits (Some declared) access key = allows declared access key
+admits None access key = true
+
+-- the touched keys after an access that was allowed; a storage that enforces a footprint keeps none
+abbrev pub noted : Option (List (LedgerKey × Bool)) → Access → LedgerKey → List Touch → List Touch
+noted (Some declared) access key touched = touched
+noted None access key touched = touch access key touched
+
+-- ---- how the code finds a touched key
+
+-- the index of the key, if it was touched
+abbrev pub index_in : LedgerKey → List Touch → Option ℕ
+index_in key [] = None
+index_in key (t ∷ ts) = if is_same_key key t.key then Some 0 else option_map suc (index_in key ts)
+
+-- each key is within its XDR format, and they are few enough for an XDR array
+pub record AreSpelled (touched : List Touch) : Type 0 where
+  pub few : length touched < 2 ^ 32
+  pub each : AllByRecursion (λ t. key_format.fits t.key) touched
+
+-- the map has the index of each touched key
+abbrev pub IsIndex : List (LedgerKey × ℕ) → List Touch → Type 0
+IsIndex es touched = (key : LedgerKey) → key_format.fits key → lookup (is_at (key_cmp key)) es ≡ index_in key touched
+
+pub record AreIndexed (es : List (LedgerKey × ℕ)) (touched : List Touch) : Type 0 where
+  pub index : IsIndex es touched
+  pub spelled : AreSpelled touched
