@@ -5,34 +5,51 @@ python3 tools/prove.py NAME [WORKERS]
 
 A crate is proved once all crates that it stands on are. As many are proved side by side as there are processors, with 4 GiB
 of free memory for each; WORKERS is another number. A program is also run, and has to print what its file stdout holds.
+
+`rt` locks the folders of the crate that it proves and of all crates below, so that in one folder most runs would wait for each
+other. Each worker therefore has a copy of the repository in a temporary folder, with links to the libraries that are built.
+What it made comes into the crate's out/ when the crate is proved, and is taken as it is from then on, by this tool and by `rt`.
 """
+import contextlib
+import fcntl
+import hashlib
 import os
 import pathlib
+import shutil
 import signal
 import subprocess
 import sys
 import tempfile
 import time
 
-CRATES = pathlib.Path(__file__).resolve().parent.parent / "crates"
+ROOT = pathlib.Path(__file__).resolve().parent.parent
+CRATES = ROOT / "crates"
+MARKS = ROOT / "out" / "proved"
 MEMORY_EACH = 4 << 30
-# A crate that is proved longer than this has a line of its own as it goes on. A whole proof takes longer, and what was
-# proved before takes less.
+# A crate that is proved longer than this has a line of its own as it goes on.
 QUIET_SECONDS = 8
+# What no proof reads.
+NO_TEXT = ("out", "must-fail", "edits")
+
+
+def read_list():
+    """Returns the libraries that each crate of the repository names in crates.txt."""
+    crates = {}
+    for line in (ROOT / "crates.txt").read_text(encoding="utf-8").split("\n"):
+        name, colon, below = line.partition("#")[0].partition(":")
+        if colon:
+            crates[name.split()[0]] = below.split()
+    return crates
 
 
 def read_crates():
     """Returns the crates of the repository that each crate stands on."""
-    crates = {}
-    for line in (CRATES.parent / "crates.txt").read_text(encoding="utf-8").split("\n"):
-        name, colon, below = line.partition("#")[0].partition(":")
-        if colon:
-            crates[name.split()[0]] = below.split()
+    crates = read_list()
     return {name: [it for it in below if it in crates] for name, below in crates.items()}
 
 
-def closure(crates, name):
-    """Returns the crate and all that it stands on, each behind those below it."""
+def closure(crates, names):
+    """Returns the crates and all that they stand on, each behind those below it."""
     order = []
 
     def add(name):
@@ -41,7 +58,8 @@ def closure(crates, name):
                 add(it)
             order.append(name)
 
-    add(name)
+    for name in names:
+        add(name)
     return order
 
 
@@ -76,23 +94,156 @@ def span(seconds):
     return f"{round(seconds / 60)} minutes"
 
 
-def stored(name, file):
-    path = CRATES / name / file
-    return path.read_bytes() if path.exists() else b""
+def read(file):
+    return file.read_bytes() if file.exists() else b""
+
+
+def link(source, target):
+    """Makes the target another name of the file, or a copy where the file system has no such names."""
+    try:
+        os.link(source, target)
+    except OSError:
+        shutil.copy2(source, target)
+
+
+def remove(folder):
+    """Removes a folder in which a process that was stopped may still write for a moment."""
+    for _ in range(100):
+        shutil.rmtree(folder, ignore_errors=True)
+        if not folder.exists():
+            return
+        time.sleep(0.05)
+
+
+@contextlib.contextmanager
+def room():
+    """Gives a temporary folder in which files of the repository can have second names, if there is a place for one."""
+    places = [pathlib.Path(tempfile.gettempdir()), ROOT.parent, ROOT / "out"]
+    for place in places:
+        try:
+            place.mkdir(exist_ok=True)
+            folder = pathlib.Path(tempfile.mkdtemp(prefix="prove-", dir=place))
+        except OSError:
+            continue
+        try:
+            with contextlib.suppress(OSError):
+                os.link(ROOT / "crates.txt", folder / "link")
+            if (folder / "link").exists() or place == places[-1]:
+                yield folder
+                return
+        finally:
+            remove(folder)
+    sys.exit(f"no temporary folder can be made in {' or '.join(map(str, places))}")
+
+
+class Place:
+    """A copy of the repository, in which one worker proves one crate at a time."""
+
+    def __init__(self, folder, root):
+        self.folder, self.linked = folder, set()
+        for crate in filter(pathlib.Path.is_dir, (root / "crates").iterdir()):
+            to = folder / "crates" / crate.name
+            to.mkdir(parents=True)
+            for part in crate.iterdir():
+                if part.is_dir() and part.name not in NO_TEXT:
+                    shutil.copytree(part, to / part.name)
+                elif part.is_file():
+                    shutil.copy2(part, to / part.name)
+        for name in ("crates.txt", "HANDLES"):
+            if (root / name).exists():
+                shutil.copy2(root / name, folder / name)
+
+    def crate(self, name):
+        return self.folder / "crates" / name
+
+    def begin(self, name, below):
+        """Links the libraries below the crate, which are built, and takes over what was made of the crate before."""
+        for it in below:
+            if it not in self.linked:
+                self.linked.add(it)
+                shutil.copytree(CRATES / it / "out" / "rlib", self.crate(it) / "out" / "rlib", copy_function=link)
+        # No link: rt may write these files in place.
+        if (CRATES / name / "out").exists():
+            shutil.copytree(CRATES / name / "out", self.crate(name) / "out")
+
+    def hand_over(self, name, is_whole):
+        """Puts what the worker made of a crate into the repository, each part in one step: what the check kept, and, if the
+        crate is proved, what was built."""
+        made, out = self.crate(name) / "out", CRATES / name / "out"
+        is_new = not is_whole or stamp(made, name) == b"" or stamp(made, name) != stamp(out, name)
+        with locked(CRATES / name):
+            out.mkdir(exist_ok=True)
+            for it in sorted(made.iterdir()) if is_new and made.exists() else []:
+                if is_whole or it.name == "incremental":
+                    if (out / it.name).exists():
+                        (out / it.name).rename(self.folder / it.name)
+                    it.rename(out / it.name)
+                    remove(self.folder / it.name)
+        remove(made)
+
+
+@contextlib.contextmanager
+def locked(path):
+    """Holds the lock of a file or folder, as `rt` holds those of the crates that it works on."""
+    held = os.open(path, os.O_RDONLY)
+    try:
+        # Some file systems have no locks.
+        with contextlib.suppress(OSError):
+            fcntl.flock(held, fcntl.LOCK_EX)
+        yield
+    finally:
+        os.close(held)
+
+
+def stamp(out, name):
+    """Returns what `rt` notes of the text that a library or a program was built from."""
+    return read(out / (f"{name}.stamp" if is_program(name) else "rlib/stamp"))
+
+
+class Marks:
+    """Knows which crates were proved before, by marks in the repository's out/proved. Where a crate has no mark, `rt` is
+    asked, which takes longer."""
+
+    def __init__(self, crates, order, root):
+        self.sums, listed = {}, read_list()
+        version = subprocess.run(["rt", "version"], stdin=subprocess.DEVNULL, stdout=subprocess.PIPE, check=False).stdout
+        for name in order:
+            whole = hashlib.sha256(version + " ".join(listed[name]).encode())
+            for it in crates[name]:
+                whole.update(self.sums[it].encode())
+            for file in sorted((root / "crates" / name).rglob("*")):
+                if file.is_file():
+                    whole.update(f"\n{file.relative_to(root)} {file.stat().st_size}\n".encode() + file.read_bytes())
+            self.sums[name] = whole.hexdigest()
+
+    def mark(self, name):
+        """Returns the mark of the crate's text and of what is built of it."""
+        built = stamp(CRATES / name / "out", name)
+        return f"{self.sums[name]} {hashlib.sha256(built).hexdigest()}\n".encode() if built else None
+
+    def holds(self, name):
+        return self.mark(name) is not None and self.mark(name) == read(MARKS / name)
+
+    def leave(self, name):
+        if self.mark(name):
+            MARKS.mkdir(parents=True, exist_ok=True)
+            (MARKS / f"{name}.new").write_bytes(self.mark(name))
+            (MARKS / f"{name}.new").replace(MARKS / name)
 
 
 class Proof:
     """One crate that is being proved."""
 
-    def __init__(self, name, jobs):
-        self.name = name
+    def __init__(self, name, place, jobs):
+        self.name, self.place = name, place
         self.began = time.monotonic()
         self.announced = False
         self.output, self.log = tempfile.TemporaryFile(), tempfile.TemporaryFile()
-        words = ["rt", "lib", "--jobs", str(jobs)]
+        words = ["lib", "--jobs", str(jobs)]
         if is_program(name):
-            words = ["rt", "run", "--jobs", str(jobs), "--", *stored(name, "args").decode().split()]
-        how = {"cwd": CRATES / name, "stdin": subprocess.DEVNULL, "stdout": self.output, "stderr": self.log}
+            words = ["run", "--jobs", str(jobs), "--", *read(CRATES / name / "args").decode().split()]
+        words = [sys.executable, ROOT / "tools" / "quick_rt.py", *words]
+        how = {"cwd": place.crate(name), "stdin": subprocess.DEVNULL, "stdout": self.output, "stderr": self.log}
         self.process = subprocess.Popen(words, **how)
 
     def seconds(self):
@@ -102,8 +253,8 @@ class Proof:
         if not is_program(self.name):
             return self.process.returncode == 0
         self.output.seek(0)
-        wanted = int(stored(self.name, "status") or 0)
-        return self.process.returncode == wanted and self.output.read() == stored(self.name, "stdout")
+        wanted = int(read(CRATES / self.name / "status") or 0)
+        return self.process.returncode == wanted and self.output.read() == read(CRATES / self.name / "stdout")
 
     def print_log(self):
         for file in (self.output, self.log):
@@ -112,13 +263,17 @@ class Proof:
 
 
 class Run:
-    def __init__(self, name, workers):
+    """Proves crates with all that they stand on, in copies of the repository below the folder."""
+
+    def __init__(self, names, workers, folder):
         self.crates = read_crates()
-        self.order = closure(self.crates, name)
-        self.workers = workers
+        self.order = closure(self.crates, names)
+        self.workers, self.folder = workers, folder
         self.guesses = {it: guess(it) for it in self.order}
         self.chains = self.longest_chains(self.guesses)
-        self.done, self.running = {}, []
+        self.done, self.running, self.idle = {}, [], []
+        self.text = Place(folder / "text", ROOT).folder
+        self.marks = Marks(self.crates, self.order, self.text)
 
     def ready(self):
         begun = {*self.done, *(it.name for it in self.running)}
@@ -152,7 +307,10 @@ class Run:
         ready = self.ready()
         while ready and len(self.running) < self.workers:
             jobs = max(1, self.workers // (len(ready) + len(self.running)))
-            self.running.append(Proof(ready.pop(0), jobs))
+            name = ready.pop(0)
+            place = self.idle.pop() if self.idle else Place(self.folder / str(len(self.running)), self.text)
+            place.begin(name, closure(self.crates, [name])[:-1])
+            self.running.append(Proof(name, place, jobs))
 
     def step(self):
         """Looks at each crate that is being proved. Returns one whose proof failed, if there is any."""
@@ -163,8 +321,13 @@ class Run:
                     say(f"proving {it.name}, for some {span(self.guesses[it.name])}")
                 continue
             self.running.remove(it)
+            self.idle.append(it.place)
+            # What a check kept that rt ended by itself is whole, also of a crate that is not proved.
+            if it.is_good() or it.process.returncode in (1, 2, 3):
+                it.place.hand_over(it.name, it.is_good())
             if not it.is_good():
                 return it
+            self.marks.leave(it.name)
             self.done[it.name] = it.seconds()
             self.tell(it)
         return None
@@ -183,7 +346,11 @@ class Run:
             it.process.wait()
 
     def prove(self):
-        say(f"{len(self.order)} crates are to be proved, up to {self.workers} side by side: about {span(self.left())} where none is proved yet")
+        self.done = {it: 0 for it in self.order if self.marks.holds(it)}
+        before = f", of which {len(self.done)} were proved before" if self.done else ""
+        say(f"{len(self.order)} crates{before}")
+        if len(self.done) < len(self.order):
+            say(f"up to {self.workers} are proved side by side: about {span(self.left())} where none is proved yet")
         while len(self.done) < len(self.order):
             self.start()
             failed = self.step()
@@ -199,15 +366,22 @@ def say(line):
     print(line, flush=True)
 
 
+def prove(names, workers):
+    """Proves the crates with all that they stand on, and returns the status."""
+    # A second call waits, and then finds what the first proved.
+    with locked(ROOT / "crates.txt"), room() as folder:
+        run = Run(names, workers, folder)
+        try:
+            return run.prove()
+        finally:
+            run.stop()
+
+
 def main():
-    name = sys.argv[1]
     workers = int(sys.argv[2]) if len(sys.argv) > 2 else min(os.cpu_count() or 1, free_memory() // MEMORY_EACH)
-    run = Run(name, max(1, workers))
-    signal.signal(signal.SIGTERM, lambda *_: sys.exit(1))
-    try:
-        return run.prove()
-    finally:
-        run.stop()
+    for it in (signal.SIGTERM, signal.SIGHUP, signal.SIGINT):
+        signal.signal(it, lambda number, _: sys.exit(128 + number))
+    return prove([sys.argv[1]], max(1, workers))
 
 
 if __name__ == "__main__":
