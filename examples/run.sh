@@ -4,15 +4,19 @@
 #
 # The inputs are those of the crate command_cases, whose table data/readme.txt has the same commands and what they do. Its
 # table data/token.txt has those of token.sh. So the gate checks what both print.
+#
+# SOROBAN names another program, which is built already. Then nothing is proved.
 set -eu
-for tool in rt python3 xxd; do
+tools='python3 xxd'
+[ -n "${SOROBAN:-}" ] || tools="rt $tools"
+for tool in $tools; do
     command -v "$tool" >/dev/null || { echo "$0 needs the command $tool" >&2; exit 1; }
 done
 cd "$(dirname "$0")/.."
 examples=$PWD/examples
-python3 tools/prove.py soroban_cmd
+[ -n "${SOROBAN:-}" ] || python3 tools/prove.py soroban_cmd
 
-program=$PWD/crates/soroban_cmd/out/soroban_cmd
+program=${SOROBAN:-$PWD/crates/soroban_cmd/out/soroban_cmd}
 inputs=$PWD/crates/command_cases/data/example
 folder=$(mktemp -d)
 trap 'rm -rf "$folder"' EXIT

@@ -2,6 +2,7 @@
 """Keeps the documents in step with the definitions of specs/.
 
 python3 tools/definitions.py            writes the list of definitions in docs/DEFINITIONS.md anew, under its table
+python3 tools/definitions.py --check    says whether that list is what this writes; the status is 1 if it is not
 python3 tools/definitions.py --trust    prints the pages that results depend on and that docs/TRUST.md does not list
 """
 import pathlib
@@ -76,14 +77,15 @@ def section(crate, file):
     return [f"### `{crate}/specs/{file.name}`", "", *([comment_above(lines, head), ""] if head else []), *rows, ""]
 
 
-def write_page():
+def page_text():
+    """Returns docs/DEFINITIONS.md with the list of definitions anew."""
     page = PAGE.read_text(encoding="utf-8")
     said = [page[: page.index("\n## `")].rstrip("\n"), ""]
     for crate in crates():
         files = sorted((TOP / "crates" / crate / "specs").glob("*.antt"))
         rows = [row for file in files if file.name != "Lib.antt" for row in section(crate, file)]
         said += [f"## `{crate}`", "", *rows] if rows else []
-    PAGE.write_text("\n".join(said).rstrip("\n") + "\n", encoding="utf-8")
+    return "\n".join(said).rstrip("\n") + "\n"
 
 
 # ---- the pages that results depend on
@@ -238,9 +240,17 @@ def check_trust():
     return 1 if wrong else 0
 
 
-if __name__ == "__main__":
+def main():
     if sys.argv[1:] == ["--trust"]:
         sys.exit(check_trust())
+    elif sys.argv[1:] == ["--check"]:
+        if PAGE.read_text(encoding="utf-8") != page_text():
+            sys.exit("docs/DEFINITIONS.md is not in step with specs/: run tools/definitions.py")
     elif sys.argv[1:]:
         sys.exit(__doc__)
-    write_page()
+    else:
+        PAGE.write_text(page_text(), encoding="utf-8")
+
+
+if __name__ == "__main__":
+    main()

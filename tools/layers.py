@@ -1,6 +1,11 @@
 #!/usr/bin/env python3
-"""Writes the picture of the crates in docs/ARCHITECTURE.md anew from crates.txt: python3 tools/layers.py"""
+"""Keeps the picture of the crates in docs/ARCHITECTURE.md in step with crates.txt.
+
+python3 tools/layers.py            writes the picture anew
+python3 tools/layers.py --check    says whether the picture is what this writes; the status is 1 if it is not
+"""
 import pathlib
+import sys
 
 TOP = pathlib.Path(__file__).resolve().parent.parent
 PAGE = TOP / "docs" / "ARCHITECTURE.md"
@@ -55,7 +60,14 @@ def picture():
 def main():
     page = PAGE.read_text(encoding="utf-8")
     start, end = page.index(START) + len(START), page.index(END)
-    PAGE.write_text(page[:start] + picture() + page[end:], encoding="utf-8")
+    anew = page[:start] + picture() + page[end:]
+    if sys.argv[1:] == ["--check"]:
+        if page != anew:
+            sys.exit("docs/ARCHITECTURE.md is not in step with crates.txt: run tools/layers.py")
+    elif sys.argv[1:]:
+        sys.exit(__doc__)
+    else:
+        PAGE.write_text(anew, encoding="utf-8")
 
 
 if __name__ == "__main__":

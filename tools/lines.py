@@ -1,6 +1,11 @@
 #!/usr/bin/env python3
-"""Writes the table of lines in docs/COSTS.md anew: python3 tools/lines.py"""
+"""Keeps the table of lines in docs/COSTS.md in step with the crates.
+
+python3 tools/lines.py            writes the table anew
+python3 tools/lines.py --check    says whether the table is what this writes; the status is 1 if it is not
+"""
 import pathlib
+import sys
 
 TOP = pathlib.Path(__file__).resolve().parent.parent
 PAGE = TOP / "docs" / "COSTS.md"
@@ -37,7 +42,14 @@ def main():
     rows = {name: sizes(name) for name in crates()}
     table = "".join(row(f"`{name}`", numbers) for name, numbers in rows.items())
     table += row("all", [sum(column) for column in zip(*rows.values())])
-    PAGE.write_text(page[:start] + table + page[end:], encoding="utf-8")
+    anew = page[:start] + table + page[end:]
+    if sys.argv[1:] == ["--check"]:
+        if page != anew:
+            sys.exit("docs/COSTS.md is not in step with the crates: run tools/lines.py")
+    elif sys.argv[1:]:
+        sys.exit(__doc__)
+    else:
+        PAGE.write_text(anew, encoding="utf-8")
 
 
 if __name__ == "__main__":

@@ -1,0 +1,348 @@
+#!/usr/bin/env python3
+"""Runs the commands of tables with the real program over real files, and compares all that they leave.
+
+python3 tools/program_cases.py PROGRAM TABLE..
+
+docs/CASES.md has the form of a table. Of each command the exit code, every byte of the output, and every file in its folder
+are compared with the expected outcome. Cases with failing calls are left out: no real file fails at a chosen call. Prints
+each case that fails. The last line counts, and the status is 0 only if there are cases and all hold.
+"""
+import os
+import pathlib
+import re
+import resource
+import shutil
+import subprocess
+import sys
+import tempfile
+
+import program_files
+from case_bytes import spelled, without_remark
+
+SECONDS = 100
+# The size of a file that is too long.
+LONG = (1 << 30) + 1
+# A file of this size or more is not read. It counts as the same if its size and its time are.
+TOO_LONG = 1 << 28
+HASHED = re.compile(r"\d+ bytes, SHA-256 [0-9a-f]{64}")
+# The longest text of a case that fails, in characters, and the longest output, in lines, that is printed whole.
+WIDEST, LONGEST = 400, 12
+
+
+class Unclear(Exception):
+    """A line that is not understood."""
+
+
+def blocks(text):
+    """Yields the number of each line that begins a block, the line, and the indented lines below it."""
+    found = []
+    for number, line in enumerate(text.split("\n"), 1):
+        if line.startswith("  "):
+            found[-1][2].append(line[2:])
+        elif line and not line.startswith("#"):
+            found.append((number, line, []))
+    return found
+
+
+def words_of(names, text):
+    """Returns the words of a command as bytes."""
+    words = []
+    for part in text.split(" ") if text else []:
+        if part.startswith("{"):
+            words += spelled(names, part).split(b" ")
+        else:
+            words.append(b"" if part == "''" else part.encode())
+    return words
+
+
+def with_digits(names, text):
+    """Returns a text of an expected outcome with hex digits in place of the names in braces."""
+    return re.sub(r"{[^}]*}", lambda it: spelled(names, it[0]).hex(), text)
+
+
+def hex_file(path):
+    """Returns the bytes of a file of hex digits, in which # begins a remark."""
+    lines = path.read_text(encoding="utf-8").split("\n")
+    return bytes.fromhex("".join(line.partition("#")[0] for line in lines))
+
+
+def content(path):
+    """Returns what stands at a path: bytes, or a text that says what else it is."""
+    if path.is_symlink():
+        return "a link to " + os.readlink(path)
+    if path.is_dir():
+        return "a folder"
+    about = path.stat()
+    return path.read_bytes() if about.st_size < TOO_LONG else f"{about.st_size} bytes of {about.st_mtime_ns}"
+
+
+class Folder:
+    """The folder in which a table's commands run. Links, folders and files are known by their names in it."""
+
+    def __init__(self, path):
+        self.path = path
+        self.known = self.look()
+
+    def look(self):
+        """Returns all that stands in the folder, by name."""
+        found = {}
+        for at, folders, files in os.walk(self.path):
+            for name in folders + files:
+                path = pathlib.Path(at, name)
+                found[path.relative_to(self.path).as_posix()] = content(path)
+        return found
+
+    def place(self, name):
+        """Returns the path of a name, at which nothing stands now."""
+        path = self.path / name
+        if path.is_dir() and not path.is_symlink():
+            shutil.rmtree(path)
+        elif os.path.lexists(path):
+            path.unlink()
+        path.parent.mkdir(parents=True, exist_ok=True)
+        self.known.pop(name, None)
+        return path
+
+    def put(self, name, bytes_):
+        self.place(name).write_bytes(bytes_)
+        self.known[name] = bytes_
+
+    def put_other(self, kind, name, rest):
+        """Puts there what is no file with bytes."""
+        path = self.place(name)
+        if kind == "folder":
+            path.mkdir()
+        elif kind == "link":
+            path.symlink_to(rest)
+        else:
+            with open(path, "wb") as file:
+                file.truncate(int(rest or LONG))
+        self.known[name] = content(path)
+
+    def changes(self):
+        """Returns the names at which something else stands than is known, each with what stands there now, or None."""
+        now = self.look()
+        return {name: now.get(name) for name in [*now, *self.known] if now.get(name) != self.known.get(name)}
+
+    def undo(self, changes):
+        for name in changes:
+            old = self.known.get(name)
+            self.place(name)
+            if isinstance(old, bytes):
+                self.put(name, old)
+
+
+class Outcome:
+    """What a command left: its exit code, its output, and the changed files in the order of the command's words."""
+
+    def __init__(self, code, said, stored):
+        self.code, self.said, self.stored = code, said, stored
+
+    def differs(self, expected):
+        """Returns what differs from the expected outcome: lines that say what was expected and what came."""
+        lines = []
+        if self.code != expected.code:
+            lines += [f"expected the exit code {expected.code}", f"came     {self.code}"]
+        if self.said != expected.said:
+            at = first_difference(expected.said, self.said)
+            lines += [f"expected {len(expected.said)} bytes of output, and came {len(self.said)}. They differ from byte {at} on"]
+            lines += [f"expected {shown(expected.said[at:])}", f"came     {shown(self.said[at:])}"]
+        names, wanted = [name for name, _ in self.stored], [name for name, _ in expected.stored]
+        if names != wanted:
+            return lines + [f"expected stores of {', '.join(wanted) or 'nothing'}", f"came     {', '.join(names) or 'none'}"]
+        for (name, came), (_, want) in zip(self.stored, expected.stored):
+            lines += stored_differs(name, came, want)
+        return lines
+
+
+def stored_differs(name, came, want):
+    """Returns lines about a stored file, and none if it is the expected one. `want` has its bytes, or the text of its hash."""
+    if isinstance(came, bytes) and isinstance(want, str):
+        came = program_files.hashed(came)
+    if came == want:
+        return []
+    if isinstance(came, bytes) and isinstance(want, bytes):
+        at = first_difference(want, came)
+        return [
+            f"expected {name} with {len(want)} bytes, and came {len(came)}. They differ from byte {at} on",
+            f"expected {want[at : at + 40].hex()}",
+            f"came     {came[at : at + 40].hex()}",
+        ]
+    return [f"expected {name} as {want}", f"came     {came}"]
+
+
+def first_difference(one, other):
+    return next((at for at, (a, b) in enumerate(zip(one, other)) if a != b), min(len(one), len(other)))
+
+
+def shown(said):
+    """Returns a text that shows the beginning of an output."""
+    return repr(said[:WIDEST].decode("utf-8", "replace"))
+
+
+def expected_outcome(names, lines):
+    """Returns the outcome that the lines of a case spell."""
+    found = re.fullmatch(r"(\d+)(?: (.*))?", lines[0])
+    if not found:
+        raise Unclear("an exit code")
+    code, rest = int(found[1]), found[2]
+    # At a fault, the name of the faulty file stands in quotes. A program says it in its line alone.
+    rest = re.sub(r"^'[^']*'(?: |$)", "", rest) if rest and code == 4 else rest
+    said, stored = b"", []
+    for line in [rest, *lines[1:]] if rest else lines[1:]:
+        word, _, more = line.partition(" ")
+        if word == "stores":
+            name, _, text = more.partition(" ")
+            stored.append((name, text if HASHED.fullmatch(text) else spelled(names, text)))
+        elif word == "removes":
+            stored.append((more, None))
+        elif word == "prints":
+            said += names[more]
+        else:
+            said += with_digits(names, line).encode() + b"\n"
+    return Outcome(code, said[:-6] if said.endswith(b"[cut]\n") else said, stored)
+
+
+class Table:
+    """A table that is run: the names of bytes, the folder, and what the next command finds besides files."""
+
+    def __init__(self, program, file, folder):
+        self.program, self.data, self.names = program, file.parent, {}
+        self.folder = Folder(folder)
+        self.stays = False
+        self.held = self.failed = self.left_out = 0
+        self.forget()
+
+    def forget(self):
+        """What a line says of the next command alone."""
+        self.fails, self.output, self.memory, self.input = False, None, None, None
+
+    def define(self, kind, rest, below):
+        name, _, text = (rest if kind == "text" else without_remark(rest)).partition(" ")
+        if kind == "text":
+            self.names[name] = text.encode()
+        elif kind == "made":
+            maker, *words = text.split(" ")
+            self.names[name] = getattr(program_files, maker)(*words)
+        else:
+            self.names[name] = b"".join(spelled(self.names, without_remark(it)) for it in [text, *below])
+
+    def prepare(self, kind, rest):
+        """A line that prepares what the next commands find."""
+        name, _, more = rest.partition(" ")
+        if kind == "file":
+            self.folder.put(name, spelled(self.names, more))
+        elif kind == "hex":
+            self.folder.put(name, hex_file(self.data / more))
+        elif kind == "copy":
+            self.folder.put(name, (self.data / more).read_bytes())
+        elif kind in ("long", "sparse", "folder", "link"):
+            self.folder.put_other(kind, name, more)
+        elif kind == "no":
+            self.folder.place(name)
+        elif kind == "use":
+            self.use(name)
+        elif kind == "fail":
+            self.fails = True
+        elif kind == "output":
+            self.output = name
+        elif kind == "memory":
+            self.memory = int(name)
+        elif kind == "input":
+            self.input = spelled(self.names, rest)
+        else:
+            raise Unclear("a kind of case")
+
+    def use(self, place):
+        """Begins anew. Files on disk stay as a command left them, beside the folders that stand beside the table."""
+        self.stays = place == "disk"
+        for name in list(self.folder.known):
+            self.folder.place(name)
+        for path in self.data.iterdir():
+            if self.stays and path.is_dir():
+                shutil.copytree(path, self.folder.path / path.name)
+        self.folder.known = self.folder.look()
+
+    def start(self, words):
+        """Runs the program, and returns its exit code and its output."""
+        limit = (lambda: resource.setrlimit(resource.RLIMIT_AS, (self.memory, self.memory))) if self.memory else None
+        how = {"cwd": self.folder.path, "stderr": subprocess.PIPE, "timeout": SECONDS, "preexec_fn": limit}
+        how.update({"stdin": subprocess.DEVNULL} if self.input is None else {"input": self.input})
+        with open(self.output or os.devnull, "wb") as output:
+            ran = subprocess.run([self.program, *words], stdout=output if self.output else subprocess.PIPE, **how)
+        return ran.returncode, (ran.stdout or b"") + ran.stderr
+
+    def run(self, words):
+        """Runs a command, and returns its outcome."""
+        code, said = self.start(words)
+        changes = self.folder.changes()
+        order = [word.decode("utf-8", "replace").partition("=")[2] or word.decode("utf-8", "replace") for word in words]
+        order = [name for name in dict.fromkeys(order) if name in changes]
+        stored = [(name, changes[name]) for name in [*order, *sorted(set(changes) - set(order))]]
+        if self.stays:
+            self.folder.known.update(changes)
+        else:
+            self.folder.undo(changes)
+        return Outcome(code, said, stored)
+
+    def judge(self, line, below):
+        """Runs a command and compares its outcome. Returns lines that say what differs."""
+        case, arrow, outcome = without_remark(line).partition(" => ")
+        kind, _, rest = case.partition(" ")
+        expected = ([outcome] if arrow else []) + [without_remark(it) for it in below]
+        if kind != "run":
+            if expected:
+                raise Unclear("a case that has an outcome")
+            self.prepare(kind, rest)
+            return []
+        if not expected:
+            raise Unclear("an expected outcome")
+        if self.fails:
+            self.left_out += 1
+            return []
+        lines = self.run(words_of(self.names, rest)).differs(expected_outcome(self.names, expected))
+        self.held += not lines
+        return lines
+
+    def do(self, line, below):
+        kind, _, rest = line.partition(" ")
+        if kind in ("let", "text", "made"):
+            self.define(kind, rest, below)
+            return []
+        lines = self.judge(line, below)
+        if kind == "run":
+            self.forget()
+        return lines
+
+
+def run_table(program, file):
+    """Runs the commands of a table. Prints those that fail. Returns how many held, failed and were left out."""
+    with tempfile.TemporaryDirectory(prefix="program-cases-") as folder:
+        table = Table(program, file, pathlib.Path(folder))
+        for number, line, below in blocks(file.read_text(encoding="utf-8")):
+            try:
+                lines = table.do(line, below)
+            except Unclear as lack:
+                lines = [f"a line that lacks {lack}"]
+            except (KeyError, ValueError, AttributeError, OSError, subprocess.TimeoutExpired) as error:
+                lines = [f"{type(error).__name__}: {error}"]
+            if lines:
+                if not table.failed:
+                    print(f"in {file}")
+                table.failed += 1
+                print(f"{number}: {line[:WIDEST]}", *(f"  {it[: 3 * WIDEST]}" for it in lines[:LONGEST]), sep="\n")
+        return table.held, table.failed, table.left_out
+
+
+def main():
+    if len(sys.argv) < 3:
+        sys.exit(__doc__)
+    program = os.path.abspath(sys.argv[1])
+    counts = [run_table(program, pathlib.Path(file)) for file in sys.argv[2:]]
+    held, failed, left_out = (sum(column) for column in zip(*counts))
+    print(f"{held} commands do what their cases say, {failed} lines fail, {left_out} cases with failing calls are left out")
+    return 0 if held and not failed else 1
+
+
+if __name__ == "__main__":
+    sys.exit(main())
