@@ -1,0 +1,128 @@
+//! The entries that a cluster runs on.
+
+ghost use Rattle.std.specs.Prelude.{◌≡◌, ◌<◌, ◌+◌, ◌^◌, IfSome, OnOk, OnErr, refl};
+ghost use Rattle.std.specs.FinMap.{len, insert as insert_in};
+ghost use Rattle.ledger_types.specs.Key.{key_format};
+ghost use Rattle.ledger_spec.specs.LedgerMap.{LedgerMap, IsKeptAt, key_bytes};
+ghost use Rattle.ledger_spec.specs.Changes.{raise as raise_in};
+ghost use Rattle.stage_runs.specs.Runs.{change as change_in};
+ghost use Rattle.ledger_parts.specs.Shown.{shown as shown_by};
+
+use crate::part::{MOST_ENTRIES, OnPart};
+use entry_lookup::Ground;
+use entry_map::{EntryMap, StoredEntry};
+use ledger_file::Ledger;
+use ledger_spec::Kept;
+use ledger_types::{LedgerKey, key_hash};
+use stage_runs::Change;
+use std::alloc::Global;
+use xdr_core::NoMemory;
+
+/// The entries that a cluster runs on: those of its own, which it changes, and what its transactions see of them and of others.
+pub trait Entries: Ground {
+    /// The own entries.
+    ghost own: { Self → LedgerMap };
+
+    /// What transactions see, given the own entries.
+    ghost shown: { Self → LedgerMap → LedgerMap };
+
+    /// Makes a change to the own entries.
+    fn change(&mut self, alloc: Global, change: Change) -> Result<(), NoMemory>
+        requires key { key_format.fits change.key }
+        requires after { IfSome change.after (IsKeptAt (key_bytes change.key)) }
+        ensures own { OnOk result (own self.new ≡ change_in (own self.old) change) }
+        ensures shown { shown self.new ≡ shown self.old };
+
+    /// Raises the live-until ledger of the own entry at a key, if there is one, to at least this ledger. It takes no memory.
+    fn raise(&mut self, key: &LedgerKey, live_until: u32)
+        requires { key_format.fits key.now }
+        ensures own { own self.new ≡ raise_in (own self.old) key.now live_until }
+        ensures shown { shown self.new ≡ shown self.old };
+
+    /// `Ground::find` finds what transactions see.
+    ghost shows: { (entries : Self) → Self.map entries ≡ shown entries (own entries) };
+}
+
+/// Stores an entry at its key.
+fn put(alloc: Global, entries: &mut EntryMap, key: LedgerKey, kept: Kept) -> Result<(), NoMemory>
+    requires fits { key_format.fits key }
+    requires kept { IsKeptAt (key_bytes key) kept }
+    ensures ok { OnOk result (entries.new ≡ insert_in entries.old (key_bytes key) kept) }
+    ensures err { OnErr result (entries.new ≡ entries.old) }
+{
+    let key_hash = key_hash(alloc, &key)?;
+    let stored = Box::new(alloc, StoredEntry { key_hash, kept })?;
+    match entries.insert(key, stored) {
+        Ok(_old) => Ok(()),
+        Err(e) => Err(e),
+    }
+}
+
+/// Stores an entry at its key, if a ledger has room for one more entry beside this many others.
+fn put_beside(
+    alloc: Global,
+    entries: &mut EntryMap,
+    others: usize,
+    key: LedgerKey,
+    kept: Kept,
+) -> Result<(), NoMemory>
+    requires fits { key_format.fits key }
+    requires kept { IsKeptAt (key_bytes key) kept }
+    requires few { len entries.old + others < 2 ^ 32 }
+    ensures ok { OnOk result (entries.new ≡ insert_in entries.old (key_bytes key) kept) }
+    ensures few { len entries.new + others < 2 ^ 32 }
+{
+    if entries.len() + others >= MOST_ENTRIES {
+        return Err(NoMemory);
+    }
+    put(alloc, entries, key, kept)
+}
+
+/// A cluster may run on a whole ledger: all entries are its own.
+impl Entries for Ledger {
+    ghost own = { λ ledger. ledger.entries };
+
+    ghost shown = { λ _ entries. entries };
+
+    fn change(&mut self, alloc: Global, change: Change) -> Result<(), NoMemory> {
+        let Change { key, after } = change;
+        match after {
+            Some(kept) => put(alloc, &mut self.entries, key, kept),
+            None => {
+                let _taken = self.entries.take(&key);
+                Ok(())
+            }
+        }
+    }
+
+    fn raise(&mut self, key: &LedgerKey, live_until: u32) {
+        self.entries.raise(key, live_until);
+    }
+
+    ghost shows = { λ _. refl };
+}
+
+/// A cluster may run on its part: the entries that it declares read-write are its own.
+impl<'a> Entries for OnPart<'a> {
+    ghost own = { λ seen. seen.part.own };
+
+    ghost shown = { λ seen own. shown_by seen.part.read_only seen.lent.now own };
+
+    fn change(&mut self, alloc: Global, change: Change) -> Result<(), NoMemory> {
+        let Change { key, after } = change;
+        let others = self.lent.len();
+        match after {
+            Some(kept) => put_beside(alloc, &mut self.part.own, others, key, kept),
+            None => {
+                let _taken = self.part.own.take(&key);
+                Ok(())
+            }
+        }
+    }
+
+    fn raise(&mut self, key: &LedgerKey, live_until: u32) {
+        self.part.own.raise(key, live_until);
+    }
+
+    ghost shows = { λ _. refl };
+}
