@@ -52,7 +52,7 @@ words_left n i j bytes next lt = let one : j ≡ suc i = omega arith in rw one (
       let start : 8 + 8 * i ≡ 8 * suc i = omega arith in
       left n i (drop 8 bytes) (omega arith) ∙ ap (λ (x : List ℕ). from_le_bytes w64 (take 8 x) ∷ drop (suc i) (words_in n (drop 8 bytes))) (drop-drop (8 * i) 8 bytes ∙ ap (λ (k : ℕ). drop k bytes) start)
 
-words_end : (n i : ℕ) (bytes : List ℕ) → n ≤ i → drop i (words_in n bytes) ≡ []
+pub words_end : (n i : ℕ) (bytes : List ℕ) → n ≤ i → drop i (words_in n bytes) ≡ []
 words_end zero zero bytes h = refl
 words_end zero (suc i) bytes h = refl
 words_end (suc n) zero bytes h = absurd (omega arith)
@@ -84,20 +84,20 @@ meant_next n i j bytes ds shown word d next lt is m =
     ∙ ap (λ (o : Option Datum). option_map (λ es. ds ++ es) (with_first o (meanings shown (drop j (words_in n bytes))))) m
     ∙ regrouped ds d (meanings shown (drop j (words_in n bytes)))
 
-meant_none : (n i : ℕ) (bytes : List ℕ) (ds shown : List Datum) (word : ℕ) → i < n → word ≡ from_le_bytes w64 (take 8 (drop (8 * i) bytes)) → meaning shown word ≡ None
-    → meant_after ds shown (drop i (words_in n bytes)) ≡ None
-meant_none n i bytes ds shown word lt is m =
-    ap (meant_after ds shown) (words_left n i (i + 1) bytes refl lt ∙ ap (λ (k : ℕ). k ∷ drop (i + 1) (words_in n bytes)) (sym is))
-    ∙ ap (λ (o : Option Datum). option_map (λ es. ds ++ es) (with_first o (meanings shown (drop (i + 1) (words_in n bytes))))) m
+meant_none : {C : Type 0} (view : List Datum → C) (n i : ℕ) (bytes : List ℕ) (shown : List Datum) (word : ℕ) → i < n → word ≡ from_le_bytes w64 (take 8 (drop (8 * i) bytes)) → meaning shown word ≡ None
+    → option_map view (meanings shown (drop i (words_in n bytes))) ≡ None
+meant_none view n i bytes shown word lt is m =
+    ap (λ (words : List ℕ). option_map view (meanings shown words)) (words_left n i (i + 1) bytes refl lt ∙ ap (λ (k : ℕ). k ∷ drop (i + 1) (words_in n bytes)) (sym is))
+    ∙ ap (λ (o : Option Datum). option_map view (with_first o (meanings shown (drop (i + 1) (words_in n bytes))))) m
 
 -- a word without meaning ends them all
-pub meant_stops : {A B : Type 0} (f : A → Datum) (g : B → List Datum) (n i : ℕ) (bytes : List ℕ) (ds shown : List Datum) (word : ℕ) (all : Option (List Datum)) (r : Result B ValueErr) (e : ValueErr)
-    → IsErrAnd r (λ y. y ≡ e) → i < n → word ≡ from_le_bytes w64 (take 8 (drop (8 * i) bytes)) → all ≡ meant_after ds shown (drop i (words_in n bytes))
+pub meant_stops : {A B C : Type 0} (f : A → Datum) (g : B → C) (view : List Datum → C) (n i : ℕ) (bytes : List ℕ) (shown : List Datum) (word : ℕ) (all : Option C) (r : Result B ValueErr) (e : ValueErr)
+    → IsErrAnd r (λ y. y ≡ e) → i < n → word ≡ from_le_bytes w64 (take 8 (drop (8 * i) bytes)) → all ≡ option_map view (meanings shown (drop i (words_in n bytes)))
     → (let q : Result A ValueErr = Err e in Finds q f (meaning shown word)) → Finds r g all
-meant_stops f g n i bytes ds shown word all (Ok b) e h lt is same k = absurd h
-meant_stops {A} {B} f g n i bytes ds shown word all (Err y) e h lt is same k =
+meant_stops f g view n i bytes shown word all (Ok b) e h lt is same k = absurd h
+meant_stops {A} {B} {C} f g view n i bytes shown word all (Err y) e h lt is same k =
     subst (λ (z : ValueErr). let r : Result B ValueErr = Err z in Finds r g all) (sym h) (stops e k) where
       stops : (e : ValueErr) → (let q : Result A ValueErr = Err e in Finds q f (meaning shown word)) → let r : Result B ValueErr = Err e in Finds r g all
-      stops (errs.Failed e) k = (same ∙ meant_none n i bytes ds shown word lt is k.0, k.1)
+      stops (errs.Failed e) k = (same ∙ meant_none view n i bytes shown word lt is k.0, k.1)
       stops errs.Spent k = absurd k
       stops errs.NoMemory k = tt

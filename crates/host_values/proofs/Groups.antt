@@ -83,12 +83,11 @@ after_two_bytes imports.BytesPush h n0 n1 n2 n3 = absurd (n2 refl)
 after_two_bytes imports.BytesAppend h n0 n1 n2 n3 = absurd (n3 refl)
 after_two_bytes _ h n0 n1 n2 n3 = omega arith
 
-pub after_two_from_memory : (i : HostImport) → 8 ≤ group_of i → group_of i ≤ 8 → (i ≡ imports.VecNewFromLinearMemory → ⊥) → (i ≡ imports.BytesNewFromLinearMemory → ⊥) → (i ≡ imports.StringNewFromLinearMemory → ⊥) → (i ≡ imports.SymbolNewFromLinearMemory → ⊥) → ⊥
-after_two_from_memory imports.VecNewFromLinearMemory h k n0 n1 n2 n3 = n0 refl
-after_two_from_memory imports.BytesNewFromLinearMemory h k n0 n1 n2 n3 = n1 refl
-after_two_from_memory imports.StringNewFromLinearMemory h k n0 n1 n2 n3 = n2 refl
-after_two_from_memory imports.SymbolNewFromLinearMemory h k n0 n1 n2 n3 = n3 refl
-after_two_from_memory _ h k n0 n1 n2 n3 = absurd (omega arith)
+pub after_two_from_memory : (i : HostImport) → 8 ≤ group_of i → group_of i ≤ 8 → (i ≡ imports.BytesNewFromLinearMemory → ⊥) → (i ≡ imports.StringNewFromLinearMemory → ⊥) → (i ≡ imports.SymbolNewFromLinearMemory → ⊥) → ⊥
+after_two_from_memory imports.BytesNewFromLinearMemory h k n0 n1 n2 = n0 refl
+after_two_from_memory imports.StringNewFromLinearMemory h k n0 n1 n2 = n1 refl
+after_two_from_memory imports.SymbolNewFromLinearMemory h k n0 n1 n2 = n2 refl
+after_two_from_memory _ h k n0 n1 n2 = absurd (omega arith)
 
 pub after_three_words : (i : HostImport) → 9 ≤ group_of i → group_of i ≤ 9 → (i ≡ imports.MapPut → ⊥) → (i ≡ imports.VecPut → ⊥) → (i ≡ imports.VecInsert → ⊥) → (i ≡ imports.VecSlice → ⊥) → (i ≡ imports.BytesPut → ⊥) → (i ≡ imports.BytesInsert → ⊥) → (i ≡ imports.BytesSlice → ⊥) → ⊥
 after_three_words imports.MapPut h k n0 n1 n2 n3 n4 n5 n6 = n0 refl
@@ -120,9 +119,9 @@ pub one_word : (i : HostImport) → 1 ≤ group_of i → 1 ≡ length (arguments
 one_word imports.ObjCmp h n = (omega arith, omega arith)
 one_word _ h n = (omega arith, omega arith)
 
-pub two_words : (i : HostImport) → 1 ≤ group_of i → 2 ≡ length (arguments_of i) → (5 ≤ group_of i) × (group_of i ≤ 8)
-two_words imports.ObjCmp h n = (omega arith, omega arith)
-two_words _ h n = (omega arith, omega arith)
+pub two_words : (i : HostImport) → 1 ≤ group_of i → 2 ≡ length (arguments_of i) → group_of i ≤ 10 → (5 ≤ group_of i) × (group_of i ≤ 8)
+two_words imports.ObjCmp h n b = (omega arith, omega arith)
+two_words _ h n b = (omega arith, omega arith)
 
 pub three_words : (i : HostImport) → 1 ≤ group_of i → 3 ≡ length (arguments_of i) → group_of i ≤ 10 → (9 ≤ group_of i) × (group_of i ≤ 9)
 three_words imports.ObjCmp h n b = (omega arith, omega arith)
@@ -132,10 +131,17 @@ pub four_words : (i : HostImport) → 1 ≤ group_of i → 4 ≡ length (argumen
 four_words imports.ObjCmp h n = (omega arith, omega arith)
 four_words _ h n = (omega arith, omega arith)
 
--- `vec_unpack_to_linear_memory` is called apart from the others
-pub not_unpack : (i : HostImport) → (i ≡ imports.VecUnpackToLinearMemory → ⊥) → group_of i ≤ 10
-not_unpack imports.VecUnpackToLinearMemory n = absurd (n refl)
-not_unpack _ n = omega arith
+-- `vec_unpack_to_linear_memory` and `vec_new_from_linear_memory` are called apart from the others
+pub not_unpack : (i : HostImport) → group_of i ≤ 11 → (i ≡ imports.VecUnpackToLinearMemory → ⊥) → group_of i ≤ 10
+not_unpack imports.VecUnpackToLinearMemory h n = absurd (n refl)
+not_unpack _ h n = omega arith
+
+pub not_new_vec : (i : HostImport) → (i ≡ imports.VecNewFromLinearMemory → ⊥) → group_of i ≤ 11
+not_new_vec imports.VecNewFromLinearMemory n = absurd (n refl)
+not_new_vec _ n = omega arith
+
+pub new_vec_words : (i : HostImport) (words : List ℕ) → IsValueCall i words → i ≡ imports.VecNewFromLinearMemory → length words ≡ 2
+new_vec_words i words h e = rw e at h.arity
 
 pub unpack_words : (i : HostImport) (words : List ℕ) → IsValueCall i words → i ≡ imports.VecUnpackToLinearMemory → length words ≡ 3
 unpack_words i words h e = rw e at h.arity

@@ -1,4 +1,4 @@
-//! Calls of functions of two arguments.
+//! Calls of functions of two arguments, but `vec_new_from_linear_memory`.
 
 ghost use Rattle.std.specs.Prelude.{◌≤◌, [], ◌∷◌};
 ghost use Rattle.host_spec.specs.Acts.{state};
@@ -11,8 +11,7 @@ use byte_calls::{
 };
 use collection_calls::{
     map_del, map_get, map_has, map_key_by_pos, map_val_by_pos, vec_append, vec_del,
-    vec_first_index_of, vec_get, vec_last_index_of, vec_new_from_linear_memory, vec_push_back,
-    vec_push_front,
+    vec_first_index_of, vec_get, vec_last_index_of, vec_push_back, vec_push_front,
 };
 use host_frame::{Answer, Values};
 use host_interface::HostImport;
@@ -98,7 +97,7 @@ fn two_bytes(
     }
 }
 
-/// Calls a function of two arguments that makes a value of a range of the memory.
+/// Calls a function of two arguments that makes bytes or a text of a range of the memory.
 #[tactic(auto, using(crate::proofs::Groups::after_two_from_memory))]
 fn two_from_memory(
     import: HostImport,
@@ -114,9 +113,6 @@ fn two_from_memory(
         (state values.now memory.now budget.new) }
 {
     match import {
-        HostImport::VecNewFromLinearMemory => vec_new_from_linear_memory(
-            values, memory, budget, a, b,
-        ),
         HostImport::BytesNewFromLinearMemory => bytes_new_from_linear_memory(
             values, memory, budget, a, b,
         ),

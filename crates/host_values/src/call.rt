@@ -15,7 +15,7 @@ use crate::quaternary::four_words;
 use crate::ternary::three_words;
 use crate::unary::one_word;
 use budget_meter::Budget;
-use collection_calls::vec_unpack_to_linear_memory;
+use collection_calls::{vec_new_from_linear_memory, vec_unpack_to_linear_memory};
 use host_frame::{Answer, Values, give};
 use host_interface::HostImport;
 use host_spec::ValueErr;
@@ -67,7 +67,7 @@ fn unpacked(
     }
 }
 
-/// Returns what a function answers.
+/// Returns what a function answers, but `vec_new_from_linear_memory`.
 #[tactic(auto, using(crate::proofs::Groups::not_unpack, crate::proofs::Groups::unpack_words))]
 fn answer(
     objects: &mut Objects,
@@ -78,6 +78,7 @@ fn answer(
     words: &[u64],
 ) -> Result<Answer, ValueErr>
     requires call { IsValueCall «import» words.now }
+    requires whole { group_of «import» ≤ 11 }
     requires indices { AreIndices objects.old shown.old }
     requires memory { IsMemory memory.old }
     ensures answers { AnswersRow result «import» words.now (state (shown_of objects.old shown.old) memory.old budget.old)
@@ -90,10 +91,54 @@ fn answer(
     }
 }
 
+/// Shows what a function answers, but `vec_new_from_linear_memory`.
+fn shown_answer(
+    objects: &mut Objects,
+    shown: &mut Shown,
+    memory: &mut [u8],
+    budget: &mut Budget,
+    import: HostImport,
+    words: &[u64],
+) -> Result<u64, ValueErr>
+    requires call { IsValueCall «import» words.now }
+    requires whole { group_of «import» ≤ 11 }
+    requires indices { AreIndices objects.old shown.old }
+    requires memory { IsMemory memory.old }
+    ensures does { Calls result (value_function «import») words.now (state (shown_of objects.old shown.old) memory.old budget.old)
+        (state (shown_of objects.new shown.new) memory.new budget.new) }
+    ensures indices { AreIndices objects.new shown.new }
+{
+    let made = answer(objects, shown, memory, budget, import, words)?;
+    give(objects, shown, budget, made)
+}
+
+/// Shows the vec of `vec_new_from_linear_memory`.
+#[tactic(auto, unfolding(host_spec::specs::ValueFunctions::value_function))]
+fn shown_vec(
+    objects: &mut Objects,
+    shown: &mut Shown,
+    memory: &[u8],
+    budget: &mut Budget,
+    words: &[u64],
+) -> Result<u64, ValueErr>
+    requires words { length words.now ≡ 2 }
+    requires indices { AreIndices objects.old shown.old }
+    ensures does { Calls result (value_function imports.VecNewFromLinearMemory) words.now
+        (state (shown_of objects.old shown.old) memory.now budget.old)
+        (state (shown_of objects.new shown.new) memory.now budget.new) }
+    ensures indices { AreIndices objects.new shown.new }
+{
+    match words {
+        [a, b] => vec_new_from_linear_memory(objects, shown, memory, budget, *a, *b),
+        _ => unreachable!(),
+    }
+}
+
 /// Calls a function over values, in a frame that has shown these objects, with this linear memory.
 ///
 /// It charges the budget, shows what it returns and writes to the memory, as the function's row of the host interface says. If
 /// memory runs out, what was lent is to be dropped.
+#[tactic(auto, using(crate::proofs::Groups::not_new_vec, crate::proofs::Groups::new_vec_words))]
 pub fn call_function(
     objects: &mut Objects,
     shown: &mut Shown,
@@ -109,6 +154,8 @@ pub fn call_function(
         (state (shown_of objects.new shown.new) memory.new budget.new) }
     ensures indices { AreIndices objects.new shown.new }
 {
-    let made = answer(objects, shown, memory, budget, import, words)?;
-    give(objects, shown, budget, made)
+    match import {
+        HostImport::VecNewFromLinearMemory => shown_vec(objects, shown, memory, budget, words),
+        _ => shown_answer(objects, shown, memory, budget, import, words),
+    }
 }

@@ -1,4 +1,4 @@
-use Rattle.std.proofs.Common.{◌+◌, List, length, drop, refl, sym, ap, subst, ◌∙◌, arith}
+use Rattle.std.proofs.Common.{◌+◌, List, ◌++◌, length, drop, refl, sym, ap, subst, ◌∙◌, arith}
 use Rattle.std.proofs.lemmas.List.{length_push}
 use Rattle.value_types.specs.Datum.{Datum}
 use Rattle.value_types.specs.Views.{datum, datums}
@@ -11,7 +11,7 @@ use Rattle.collection_calls.proofs.from_memory.values_in.Goals as goal
 
 pub returns-in_err-owned-clause-found : goal.returns-in_err-owned-clause-found
 returns-in_err-owned-clause-found c =
-    meant_stops datum _ c.args.count c.loop-i.i c.args.bytes.now (datums c.loop-i.made.items) c.args.values.now c.word_at.result (meanings c.args.values.now (words_in c.args.count c.args.bytes.now))
+    meant_stops datum _ (λ (es : List Datum). datums c.loop-i.made.items ++ es) c.args.count c.loop-i.i c.args.bytes.now c.args.values.now c.word_at.result (meanings c.args.values.now (words_in c.args.count c.args.bytes.now))
     c.from_residual-in_err-owned.result c.in_err-owned.field-0.0 c.from_residual-in_err-owned.ensures.1 c.loop-i-test.true c.word_at.ensures c.loop-i.invariant.found c.in_err-owned.ensures.found
 
 pub loop-i-preserved : goal.loop-i-preserved

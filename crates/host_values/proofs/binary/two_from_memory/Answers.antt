@@ -1,8 +1,5 @@
 use Rattle.host_values.proofs.binary.two_from_memory.Goals as goal
 
-pub returns-in-VecNewFromLinearMemory : goal.returns-in-VecNewFromLinearMemory
-returns-in-VecNewFromLinearMemory c = rw c.in-VecNewFromLinearMemory.is c.vec_new_from_linear_memory.ensures
-
 pub returns-in-BytesNewFromLinearMemory : goal.returns-in-BytesNewFromLinearMemory
 returns-in-BytesNewFromLinearMemory c = rw c.in-BytesNewFromLinearMemory.is c.bytes_new_from_linear_memory.ensures
 
