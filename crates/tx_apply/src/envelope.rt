@@ -1,10 +1,13 @@
 //! Runs one envelope: a transaction, or a fee bump's inner transaction as if alone.
 
 ghost use Rattle.std.specs.Prelude.{◌≡◌, pos, IfOk, IsTrue};
+ghost use Rattle.ledger_spec.specs.LedgerMap.{LedgerMap};
 ghost use Rattle.ledger_spec.specs.LedgerFile.{are_settings, has_next};
 ghost use Rattle.value_types.specs.Hash.{hash_format};
 ghost use Rattle.tx_xdr.specs.Envelope.{envelope_format};
 ghost use Rattle.tx_results.specs.Results.{outcome_format, envelope_outcome_format, pair_format};
+ghost use Rattle.stage_runs.specs.Maps.{AgreeOn};
+ghost use Rattle.stage_runs.specs.Transactions.{declares};
 ghost use Rattle.apply_spec.specs.Enforced.{enforced, is_success as is_success_in, fee_bump_outcome as fee_bump_outcome_in, envelope_outcome as envelope_outcome_in, result_pair as result_pair_in};
 ghost use Rattle.tx_apply.specs.Done.{effect_of, IsWithin};
 
@@ -126,6 +129,9 @@ pub fn enforce<G: Ground>(
     requires next { IsTrue (has_next header.now) }
     ensures done { IfOk result (λ done. effect_of done ≡ enforced header.now verdicts.now (G.map ground.now) envelope.now) }
     ensures within { IfOk result IsWithin }
+    // The effect is the same on every map that agrees with the ground on the declared keys.
+    ensures frame { IfOk result (λ done. (other : LedgerMap) → AgreeOn (declares envelope.now) (G.map ground.now) other
+        → enforced header.now verdicts.now other envelope.now ≡ effect_of done) }
 {
     let done = run_transaction(alloc, ground, header, verdicts, envelope.transaction())?;
     let result = result_pair(alloc, &header.network_id, envelope, done.outcome)?;

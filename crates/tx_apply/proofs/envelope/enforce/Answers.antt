@@ -5,6 +5,7 @@ use Rattle.tx_xdr.proofs.Fits.{transaction_in_fits}
 use Rattle.tx_results.specs.Report.{has_preimage}
 use Rattle.tx_results.specs.Results.{outcome_in}
 use Rattle.tx_results.specs.declared.results.TransactionResultPair.{TransactionResultPair}
+use Rattle.apply_spec.proofs.Framed.{step_framed}
 use Rattle.tx_apply.specs.Outcomes.{ended}
 use Rattle.tx_apply.specs.Done.{ended_of}
 use Rattle.tx_apply.proofs.Told.{told_done, told_same}
@@ -36,3 +37,13 @@ returns-clause-within g c =
       changes = can.changes;
       extensions = can.extensions;
     }
+
+pub returns-clause-frame : goal.returns-clause-frame
+returns-clause-frame g c = λ other agree.
+    let header = c.args.header.now in
+    let verdicts = c.args.verdicts.now in
+    let entries = g.G.Ground.map c.args.ground.now in
+    let envelope = c.args.envelope.now in
+    let done = told_done header verdicts entries envelope (ended_of c.in_ok-done.done) c.in_ok-result.result
+    (c.in_ok-done.ensures.done ∙ ap (ended header verdicts entries) c.transaction.ensures) c.in_ok-result.ensures.value in
+    sym (done ∙ (step_framed header verdicts).framed entries other envelope agree)
