@@ -1,0 +1,35 @@
+"""A page (HTML) of a closed ledger: its stages and clusters, transactions, authorisation trees, results, events and changes.
+
+The page is one file without any other resource. It follows the reader's light or dark theme.
+"""
+from __future__ import annotations
+
+from typing import Dict, Optional
+
+from .. import ledgers, schema
+from ..xdr import Json
+from .page import render
+from .view import closed_ledger
+
+
+def page(
+    before: bytes, tx_set: bytes, report: bytes, after: bytes, theme: str = "", names: Optional[Dict[str, str]] = None
+) -> str:
+    """Returns the page of four files: the ledger before, the set, the report, and the ledger after."""
+    found = (
+        ledgers.read(before),
+        schema.read(schema.SET, tx_set),
+        schema.read(schema.REPORT, report),
+        ledgers.read(after),
+    )
+    return page_of(*found, theme, names)
+
+
+def page_of(
+    before: Json, tx_set: Json, report: Json, after: Json, theme: str = "", names: Optional[Dict[str, str]] = None
+) -> str:
+    """Returns the page of four files as JSON. Raises `ValueError` if the report is not that of the set.
+
+    `theme` is `light` or `dark`; by default the reader's own. `names` has what to call addresses, by their strkeys.
+    """
+    return render(closed_ledger(before, tx_set, report, after), theme, names)

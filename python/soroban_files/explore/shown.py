@@ -1,0 +1,160 @@
+"""Values, addresses and keys as HTML."""
+from __future__ import annotations
+
+import html
+import json
+import zlib
+from contextlib import contextmanager
+from typing import Any, Dict, Iterator, List
+
+from .. import strkey, values
+from ..xdr import Json
+
+LONG_BYTES = 40
+NAMES: Dict[str, str] = {}  # what to call addresses, while a page is made
+
+
+@contextmanager
+def named(names: Dict[str, str]) -> Iterator[None]:
+    """Calls addresses by these names while a page is made."""
+    NAMES.update(names)
+    try:
+        yield
+    finally:
+        NAMES.clear()
+
+
+def short(address: str) -> str:
+    """Returns the name of an address, or its first and last characters."""
+    return NAMES.get(address) or strkey.short(address)
+
+
+def text(content: Any) -> str:
+    """Returns text in which nothing is markup."""
+    return html.escape(str(content), quote=True)
+
+
+def tag(name: str, *inner: str, **attributes: Any) -> str:
+    """Returns an element. `class_` is the attribute class; attributes that are None are left out."""
+    given = "".join(f' {key.rstrip("_")}="{text(value)}"' for key, value in attributes.items() if value is not None)
+    return f"<{name}{given}>{''.join(inner)}</{name}>"
+
+
+def span(kind: str, content: Any) -> str:
+    return tag("span", text(content), class_=kind)
+
+
+def who(address: str) -> str:
+    """Returns an address: short, in a colour of its own, and whole as its title."""
+    kind = {"C": " contract", "L": " contract", "B": " contract"}.get(address[:1], "")
+    hue = zlib.crc32(address.encode()) % 360
+    return tag("span", text(short(address)), class_="who" + kind, style=f"--hue:{hue}", title=address)
+
+
+def value(item: Json) -> str:
+    """Returns a value of a contract, in the colours of its types."""
+    return tag("span", inner_value(item), class_="value")
+
+
+def inner_value(item: Json) -> str:
+    if isinstance(item, str):
+        return span("none", {"ledger_key_contract_instance": "instance"}.get(item, item))
+    ((kind, content),) = item.items()
+    if kind == "address":
+        return who(content)
+    if kind == "vec":
+        return (
+            span("none", "null vec")
+            if content is None
+            else listed("[", [inner_value(member) for member in content], "]")
+        )
+    if kind == "map":
+        return span("none", "null map") if content is None else members(content)
+    if kind in values.NUMBERS + values.TEXT_NUMBERS:
+        type_ = "" if kind == "u32" else span("type", f" {kind}")
+        return tag("span", span("number", f"{int(content):,}"), type_, class_="numeral")
+    if kind == "contract_instance":
+        return tag("span", "instance of ", executable(content["executable"]), " ", members(content["storage"] or []))
+    if kind == "bytes":
+        return hex_digits(content)
+    if kind == "string":
+        return span("string", json.dumps(content))
+    if kind == "bool":
+        return span("number", "true" if content else "false")
+    return span("error" if kind == "error" else "symbol", values.line(item))
+
+
+def hex_digits(content: str) -> str:
+    """Returns bytes, cut if they are long."""
+    size = len(content) // 2
+    if size <= LONG_BYTES:
+        return span("bytes", f"0x{content}")
+    return tag(
+        "span",
+        text(f"0x{content[:24]}.."),
+        span("type", f" {size:,} bytes"),
+        class_="bytes",
+        title=f"0x{content[:2000]}",
+    )
+
+
+def listed(start: str, parts: List[str], end: str) -> str:
+    """Returns parts with commas between them. A comma or a bracket stays on the line of the address or number before it."""
+    behind = [", "] * (len(parts) - 1) + [end]
+    if not parts:
+        return span("punct", start + end)
+    return span("punct", start) + "".join(kept(part, sign) for part, sign in zip(parts, behind))
+
+
+def kept(part: str, sign: str) -> str:
+    is_short = part.startswith(('<span class="who', '<span class="numeral'))
+    mark = span("punct", sign.rstrip())
+    return (tag("span", part, mark, class_="keep") if is_short else part + mark) + (" " if sign.endswith(" ") else "")
+
+
+def members(pairs: List[Json]) -> str:
+    parts = [inner_value(pair["key"]) + span("punct", ": ") + inner_value(pair["val"]) for pair in pairs]
+    return listed("{", parts, "}")
+
+
+def executable(content: Json) -> str:
+    return code(content["wasm"]) if isinstance(content, dict) else text(content)
+
+
+def code(digest: str) -> str:
+    """Returns the hash of a code, cut."""
+    return tag("span", text(f"code {digest[:8]}"), class_="bytes mono", title=digest)
+
+
+def key(content: Json) -> str:
+    """Returns a ledger key."""
+    ((kind, fields),) = content.items()
+    if kind == "contract_code":
+        return code(fields["hash"])
+    if kind == "contract_data":
+        durability = tag("span", "temporary", class_="pill warn") if fields["durability"] == "temporary" else ""
+        return " ".join(filter(None, (who(fields["contract"]), value(fields["key"]), durability)))
+    shown = (part if isinstance(part, str) else json.dumps(part) for part in fields.values())
+    parts = (who(part) if part[:1] in "GLB" and len(part) >= 56 else text(part) for part in shown)
+    return f"{text(kind.replace('_', ' '))} {' '.join(parts)}"
+
+
+def function(content: Json) -> str:
+    """Returns what a host function or a node of a tree does: a call with its arguments, a create, an upload."""
+    ((kind, fields),) = content.items()
+    if kind in ("invoke_contract", "contract_fn"):
+        name = tag("b", text(fields["function_name"]), class_="mono")
+        return f"{who(fields['contract_address'])} {name}{arguments(fields['args'])}"
+    if kind == "upload_contract_wasm":
+        return f"{tag('b', 'upload')} a module of {len(fields) // 2:,} bytes"
+    args = arguments(fields["constructor_args"]) if "constructor_args" in fields else ""
+    return f"{tag('b', 'create')} {executable(fields['executable'])}{args} {preimage(fields['contract_id_preimage'])}"
+
+
+def arguments(args: List[Json]) -> str:
+    return tag("span", listed("(", [inner_value(arg) for arg in args], ")"), class_="value")
+
+
+def preimage(content: Json) -> str:
+    ((kind, fields),) = content.items()
+    return f"by {who(fields['address'])}" if kind == "address" else f"of an asset {text(json.dumps(fields))}"

@@ -1,0 +1,44 @@
+"""Files to JSON and back: what `decode` and `encode` do."""
+from __future__ import annotations
+
+import base64
+import binascii
+
+from . import ledgers, schema
+from .xdr import Json
+
+
+class NotBase64(ValueError):
+    """Text that is no base64 of RFC 4648 with its padding."""
+
+
+def from_base64(text: bytes) -> bytes:
+    """Returns the bytes of a text; one newline at its end is dropped."""
+    if text.endswith(b"\n"):
+        text = text[:-1]
+    try:
+        data = base64.b64decode(text, validate=True)
+    except (binascii.Error, ValueError):
+        raise NotBase64("not base64") from None
+    if base64.b64encode(data) != text:
+        raise NotBase64("not base64")
+    return data
+
+
+def decode(kind: str, data: bytes, checked: bool = True) -> Json:
+    """Returns the JSON of a file.
+
+    `kind` is a name of `schema.KINDS`. Bytes that the program refuses are refused here: a ledger by `LedgerRefusal`, all other
+    kinds by `Refusal`. Without `checked`, a ledger only has to be spelled well.
+    """
+    if kind == "ledger":
+        return ledgers.read(data, checked=checked)
+    return schema.read(schema.KINDS[kind], data)
+
+
+def encode(kind: str, value: Json, checked: bool = True) -> bytes:
+    """Returns the file of a value of JSON. Raises `Misfit` or `LedgerRefusal` if the program would refuse the file."""
+    data = schema.write(schema.KINDS[kind], value)
+    if kind == "ledger" and checked:
+        ledgers.check(value)
+    return data

@@ -1,0 +1,89 @@
+"""A world over the built program: the token of examples/, deployed, called, refused, and moved in time."""
+from __future__ import annotations
+
+import os
+
+from soroban_files import envelopes, wallet
+from soroban_files.program import Refused
+from soroban_files.values import error, symbol, u64, vec
+from soroban_files.world import Contract, Failed, WorldTest
+from tests.tables import REPOSITORY
+
+TOKEN = os.path.join(REPOSITORY, "examples", "token", "token.hex")
+NOT_ENOUGH = 1
+
+
+class TokenTest(WorldTest):
+    """What authors of contracts do with a world."""
+
+    token: Contract
+
+    def setUp(self) -> None:
+        super().setUp()
+        self.admin, self.alice, self.bob = self.world.accounts("admin", "alice", "bob")
+        self.token = self.world.deploy(TOKEN, self.admin)
+        self.token.call("mint", self.alice, u64(100), by=self.admin)
+
+    def balance_key(self, holder: object) -> object:
+        return vec(symbol("balance"), holder)
+
+    def test_values_and_events(self) -> None:
+        done = self.token.call("transfer", self.alice, self.bob, u64(25), by=self.alice)
+        done.expect("void").expect_event("transfer", self.alice, self.bob, data=u64(25), contract=self.token)
+        self.assertEqual((self.token.read("balance", self.alice), self.token.read("balance", self.bob)), (75, 25))
+        self.assertEqual(self.token.stored(self.balance_key(self.bob)), u64(25))
+        self.assertEqual(
+            self.token.instance()["storage"], [{"key": symbol("admin"), "val": {"address": self.admin.address}}]
+        )
+        self.assertGreater(done.instructions or 0, 1000)
+        with self.assertRaises(AssertionError):
+            done.expect_event("transfer", self.bob)
+        with self.assertRaises(AssertionError):
+            done.expect(u64(25))
+
+    def test_failures(self) -> None:
+        seq = self.world.seq
+        poor = self.token.attempt("transfer", self.bob, self.alice, u64(1), by=self.bob)
+        poor.expect_failure(error=NOT_ENOUGH)
+        self.assertEqual(poor.error, error(NOT_ENOUGH))
+        self.token.attempt("mint", self.bob, u64(1), by=self.bob).expect_failure()
+        with self.assertRaises(Failed) as caught:
+            self.token.call("transfer", self.alice, self.bob, u64(101), by=self.alice)
+        self.assertEqual(caught.exception.outcome.code, "trapped")
+        self.assertEqual(self.world.seq, seq)
+
+    def test_signed_entries(self) -> None:
+        self.needs_keys()
+        self.token.call("transfer", self.alice, self.bob, u64(7), signers=[self.alice]).expect_event(
+            "transfer", self.alice, self.bob, data=u64(7)
+        )
+        root = self.token.node("transfer", self.alice, self.bob, u64(7))
+        entry = self.world.authorize(self.alice, root, nonce=5)
+        self.token.call("transfer", self.alice, self.bob, u64(7), auth=[entry])
+        self.token.attempt("transfer", self.alice, self.bob, u64(7), auth=[entry]).expect_failure()  # its nonce is used
+        other = wallet.Key.named("bob")
+        forged = self.world.authorize(self.alice, root, sign=lambda payload: other.account_signature(payload.hex()))
+        self.token.attempt("transfer", self.alice, self.bob, u64(7), auth=[forged]).expect_failure()
+        self.assertEqual(self.token.read("balance", self.bob), 14)
+
+    def test_time(self) -> None:
+        key = envelopes.contract_key(self.token, self.balance_key(self.alice))
+        until = self.world.live_until(key)
+        self.assertTrue(self.world.extend([key], 6000).ok)
+        self.assertEqual(self.world.live_until(key), self.world.seq + 6000)
+        self.world.travel(ledgers=until - self.world.seq, seconds=60)
+        self.token.attempt("balance", self.alice).expect_failure("entry_archived")
+
+    def test_stages(self) -> None:
+        carol, dave = self.world.accounts("carol", "dave")
+        self.token.call("mint", carol, u64(10), by=self.admin)
+        first = self.world.prepare(
+            envelopes.call(self.token, "transfer", [self.alice, self.bob, u64(1)]), by=self.alice
+        )
+        other = self.world.prepare(envelopes.call(self.token, "transfer", [carol, dave, u64(2)]), by=carol)
+        again = self.world.prepare(envelopes.call(self.token, "transfer", [self.alice, dave, u64(3)]), by=self.alice)
+        outcomes = self.world.close([[[first], [other]], [[again]]], workers=2)
+        self.assertEqual([outcome.code for outcome in outcomes], ["success"] * 3)
+        self.assertEqual(self.token.read("balance", dave), 5)
+        with self.assertRaises(Refused):
+            self.world.close([[[first], [again]]])  # both write the balance of alice
