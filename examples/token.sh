@@ -11,7 +11,7 @@ program=${SOROBAN:-$PWD/../crates/soroban_cmd/out/soroban_cmd}
 parts=$PWD/token
 [ -x "$program" ] || { echo "there is no program yet: examples/run.sh builds it" >&2 && exit 1; }
 if command -v clang >/dev/null && command -v wasm-ld >/dev/null; then
-    sh token/build.sh || echo 'This goes on with token.hex.'
+    sh build.sh token || echo 'This goes on with token.hex.'
 fi
 folder=$(mktemp -d)
 trap 'rm -rf "$folder"' EXIT

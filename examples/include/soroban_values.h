@@ -25,6 +25,11 @@ static inline U32Val u32_val(uint32_t number) {
     return (Val)number << 32 | 4;
 }
 
+// Says whether a word is a U32. The host checks the types of what its functions are given, and of nothing else.
+static inline int is_u32(Val val) {
+    return (val & 255) == 4;
+}
+
 // The number of a word that is known to be a U32.
 static inline uint32_t u32_of(U32Val val) {
     return val >> 32;

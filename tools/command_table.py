@@ -1,0 +1,297 @@
+#!/usr/bin/env python3
+"""Makes the pages about the command line from one table, tools/commands.json.
+
+python3 tools/command_table.py help [COMMAND]     what `soroban help` prints
+python3 tools/command_table.py man                the page soroban.1
+python3 tools/command_table.py bash               completions for bash
+python3 tools/command_table.py zsh                completions for zsh
+python3 tools/command_table.py check [PROGRAM]    says whether the README has the table's usage lines, and whether the
+                                                  program knows the table's options: it must reject a command if one of them
+                                                  is left out, twice there, or out of its range. The status is 1 if not.
+"""
+import json
+import pathlib
+import subprocess
+import sys
+import tempfile
+
+HERE = pathlib.Path(__file__).resolve().parent
+README = HERE.parent / "README.md"
+WIDTH = 100
+
+
+def load():
+    return json.loads((HERE / "commands.json").read_text(encoding="utf-8"))
+
+
+def find(table, name):
+    """Returns the command of this name, or None."""
+    return next((command for command in table["commands"] if command["name"] == name), None)
+
+
+def is_flag(option):
+    return "value" not in option
+
+
+def shown(option):
+    """Returns the option as a usage line has it."""
+    return f"[--{option['name']}]" if is_flag(option) else f"--{option['name']} {option['value']}"
+
+
+def usage(table, command):
+    return " ".join([table["program"], command["name"], *map(shown, command["options"])])
+
+
+def limits(option):
+    """Returns a remark on the option's values, or an empty text."""
+    if "least" in option:
+        return f" ({option['least']} to {option['greatest']})"
+    return {"read": " (input)", "store": " (output)", None: ""}[option.get("access")]
+
+
+def wrap(words, first, rest):
+    """Returns the words in lines. The first line begins with `first`, and the others with `rest`."""
+    lines = []
+    line = first
+    for word in words:
+        if len(line) + len(word) + 1 > WIDTH and line.strip():
+            lines.append(line.rstrip())
+            line = rest
+        line += word + " "
+    return "\n".join([*lines, line.rstrip()]) + "\n"
+
+
+# Help.
+
+
+def help_of(table, command):
+    """Returns the help of one command."""
+    usage_words = ["soroban", command["name"], *map(shown, command["options"])]
+    text = wrap(usage_words, "usage: ", "    ") + f"\nIt {command['about']}.\n\n"
+    wide = max(len(shown(option).strip("[]")) for option in command["options"]) + 2
+    for option in command["options"]:
+        text += f"  {shown(option).strip('[]'):{wide}}{option['about']}{limits(option)}\n"
+    return text
+
+
+def help_of_all(table):
+    """Returns the help of the whole program."""
+    text = "usage: soroban COMMAND OPTIONS\n       soroban help [COMMAND]\n       soroban version\n\n"
+    for command in table["commands"]:
+        text += f"  {command['name']:10}{command['about']}\n"
+    text += "\n"
+    for sentence in table["description"]:
+        text += wrap(sentence.split(), "", "")
+    text += f"`soroban` tests the options, the files and the close time, and then runs `{table['program']}`.\n\n"
+    for code, about in table["codes"]:
+        text += f"  status {code}: {about}\n"
+    return text
+
+
+# The man page.
+
+
+def troff(text):
+    """Returns the text with the characters that troff reads as words of its own replaced."""
+    text = text.replace("\\", "\\e").replace("-", "\\-")
+    return "\\&" + text if text.startswith((".", "'")) else text
+
+
+def man_page(table):
+    lines = [f'.TH SOROBAN 1 "" "{table["program"]}" "User Commands"', ".SH NAME"]
+    lines += [f"soroban, {troff(table['program'])} \\- {troff(table['about'])}", ".SH SYNOPSIS", ".nf"]
+    for command in table["commands"]:
+        lines += [f".B soroban {command['name']}", troff(" ".join(map(shown, command["options"])))]
+    lines += [".B soroban help\n[COMMAND]", ".B soroban version", ".fi", ".SH DESCRIPTION"]
+    lines += map(troff, table["description"])
+    lines += [".PP", ".B soroban", "tests the options, the files and the close time, and then runs"]
+    lines += [f".BR {troff(table['program'])} ,", "the proved program, with the same words.", ".SH COMMANDS"]
+    for command in table["commands"]:
+        lines += [f".SS {command['name']}", troff(f"It {command['about']}.")]
+        for option in command["options"]:
+            lines += [".TP", f".B {troff(shown(option).strip('[]'))}", troff(option["about"] + limits(option))]
+    lines.append(".SH EXIT STATUS")
+    for code, about in table["codes"]:
+        lines += [".TP", f".B {code}", troff(about)]
+    lines += [".SH ENVIRONMENT", ".TP", ".B SOROBAN_CMD", "names another program to run"]
+    return "\n".join(lines) + "\n"
+
+
+# Completions.
+
+
+def bash_completions(table):
+    """Returns the completions for bash. A file name is completed by bash itself."""
+    names = " ".join(command["name"] for command in table["commands"])
+    cases = ""
+    values = ""
+    for command in table["commands"]:
+        options = " ".join(f"--{option['name']}" for option in command["options"])
+        cases += f'        {command["name"]}) words="{options}" ;;\n'
+        for option in command["options"]:
+            if "words" in option:
+                values += f'        {command["name"]}--{option["name"]}) words="{" ".join(option["words"])}" ;;\n'
+            elif "least" in option:
+                values += f'        {command["name"]}--{option["name"]}) return ;;\n'
+            elif not is_flag(option):
+                values += f'        {command["name"]}--{option["name"]}) COMPREPLY=($(compgen -f -- "$word")) && return ;;\n'
+    return f"""\
+# Completions of soroban and {table['program']} for bash. tools/command_table.py made this file.
+_soroban() {{
+    local word=${{COMP_WORDS[COMP_CWORD]}} command=${{COMP_WORDS[1]}} before=${{COMP_WORDS[COMP_CWORD - 1]}} words= it
+    COMPREPLY=()
+    if [ "$COMP_CWORD" -eq 1 ]; then
+        words="{names}"
+        [ "${{1##*/}}" = soroban ] && words="$words help version"
+        COMPREPLY=($(compgen -W "$words" -- "$word"))
+        return
+    fi
+    case $command$before in
+        helphelp) words="{names}" ;;
+{values}    esac
+    if [ -n "$words" ]; then
+        COMPREPLY=($(compgen -W "$words" -- "$word"))
+        return
+    fi
+    case $command in
+{cases}    esac
+    # Each option stands once.
+    for it in "${{COMP_WORDS[@]:2:COMP_CWORD-2}}"; do
+        words=" $words "
+        words=${{words/ $it / }}
+    done
+    COMPREPLY=($(compgen -W "$words" -- "$word"))
+}}
+complete -F _soroban soroban {table['program']}
+"""
+
+
+def zsh_quoted(text):
+    return "'" + text.replace("'", "'\\''") + "'"
+
+
+def zsh_action(option):
+    """Returns what _arguments completes behind the option."""
+    if is_flag(option):
+        return ""
+    if "words" in option:
+        return f":{option['name']}:({' '.join(option['words'])})"
+    return f":{option['name']}:" if "least" in option else f":{option['name']}:_files"
+
+
+def zsh_completions(table):
+    text = f"#compdef soroban {table['program']}\n# tools/command_table.py made this file.\n\n_soroban() {{\n"
+    text += "    local -a commands\n    commands=(\n"
+    for command in table["commands"]:
+        text += f"        {zsh_quoted(command['name'] + ':' + command['about'])}\n"
+    text += "    )\n    if (( CURRENT == 2 )); then\n"
+    text += "        [[ ${words[1]:t} == soroban ]] && commands+=('help:prints help' 'version:prints what is installed')\n"
+    text += "        _describe command commands\n        return\n    fi\n    local command=$words[2]\n"
+    text += "    shift words\n    (( CURRENT-- ))\n    case $command in\n"
+    text += "        help) _describe command commands ;;\n"
+    for command in table["commands"]:
+        text += f"        {command['name']})\n            _arguments \\\n"
+        rows = [zsh_quoted(f"--{it['name']}[{it['about']}]{zsh_action(it)}") for it in command["options"]]
+        text += " \\\n".join(" " * 16 + row for row in rows) + "\n            ;;\n"
+    return text + '    esac\n}\n\n_soroban "$@"\n'
+
+
+# The check.
+
+
+def sample(option, folder, number):
+    """Returns a right value of the option. Names of files differ."""
+    if "words" in option:
+        return option["words"][0]
+    return str(option["least"]) if "least" in option else f"{folder}/{number}"
+
+
+def wrong_words(command, right):
+    """Returns commands that the program has to reject, made of a right one: (what is wrong, words)."""
+    rows = [("an option that is not there", [command["name"], *sum(right, []), "--no-such-option"])]
+    for i, option in enumerate(command["options"]):
+        others = [words for j, words in enumerate(right) if j != i]
+        name = f"--{option['name']}"
+        rows.append((f"{name} twice", [command["name"], *sum(right, []), *right[i]]))
+        if is_flag(option):
+            continue
+        bad = ["x" * 9] if "words" in option else [""]
+        if "least" in option:
+            bad += [str(option["greatest"] + 1), "x"] + ([str(option["least"] - 1)] if option["least"] else [])
+        rows.append((f"no {name}", [command["name"], *sum(others, [])]))
+        rows += [(f"{name} {value!r}", [command["name"], *sum(others, []), f"{name}={value}"]) for value in bad]
+    return rows
+
+
+def check_program(table, program):
+    """Returns what the program does otherwise than the table says."""
+    faults = []
+
+    def is_usage(words):
+        # Wrong words are rejected at once. A large `gen` takes longer, so its words are right.
+        try:
+            return subprocess.run([program, *words], stdout=subprocess.PIPE, timeout=10, check=False).stdout == b"usage\n"
+        except subprocess.TimeoutExpired:
+            return False
+
+    with tempfile.TemporaryDirectory() as folder:
+        for command in table["commands"]:
+            options = [it for it in command["options"] if not is_flag(it)]
+            right = [[f"--{it['name']}", sample(it, folder, number)] for number, it in enumerate(options)]
+            flags = [[f"--{it['name']}"] for it in command["options"] if is_flag(it)]
+            for option, words in zip(options, right):
+                # Numbers at both ends of their range, and each of an option's words.
+                values = option.get("words") or ([str(option["least"]), str(option["greatest"])] if "least" in option else [])
+                for value in values:
+                    others = [it for it in right if it is not words]
+                    if is_usage([command["name"], *sum(others, []), f"--{option['name']}={value}"]):
+                        faults.append(f"{command['name']}: the program rejects --{option['name']} {value}")
+            if is_usage([command["name"], *sum(right + flags, [])]):
+                faults.append(f"{command['name']}: the program rejects all options together")
+            ordered = [[f"--{it['name']}", sample(it, folder, n)] if not is_flag(it) else [f"--{it['name']}"]
+                       for n, it in enumerate(command["options"])]
+            for what, words in wrong_words(command, ordered):
+                if not is_usage(words):
+                    faults.append(f"{command['name']}: the program accepts {what}")
+        for words in ([], ["help"], ["version"], ["--help"]):
+            if not is_usage(words):
+                faults.append(f"the program accepts {' '.join(words) or 'no words'}")
+    return faults
+
+
+def check_readme(table):
+    """Returns what the README has otherwise than the table."""
+    text = README.read_text(encoding="utf-8")
+    lines = [line for line in text.split("\n") if line.startswith(table["program"] + " ")]
+    wanted = [usage(table, command) for command in table["commands"]]
+    return [f"README.md has no line: {line}" for line in wanted if line not in lines] + [
+        f"README.md has a line that tools/commands.json does not have: {line}" for line in lines if line not in wanted
+    ]
+
+
+def check(table, programs):
+    faults = check_readme(table)
+    for program in programs:
+        faults += check_program(table, program)
+    if faults:
+        sys.exit("\n".join(faults))
+    agreeing = " and ".join(["README.md", *map(str, programs)])
+    print(f"tools/commands.json agrees with {agreeing}: {len(table['commands'])} commands")
+
+
+def main(words):
+    table = load()
+    if words == ["help"]:
+        sys.stdout.write(help_of_all(table))
+    elif words[:1] == ["help"] and len(words) == 2 and find(table, words[1]):
+        sys.stdout.write(help_of(table, find(table, words[1])))
+    elif words in (["man"], ["bash"], ["zsh"]):
+        sys.stdout.write({"man": man_page, "bash": bash_completions, "zsh": zsh_completions}[words[0]](table))
+    elif words[:1] == ["check"] and len(words) <= 2:
+        check(table, words[1:])
+    else:
+        sys.exit(__doc__)
+
+
+if __name__ == "__main__":
+    main(sys.argv[1:])

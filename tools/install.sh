@@ -1,0 +1,75 @@
+#!/bin/sh
+# Installs the program, `soroban`, a man page, and completions for bash and zsh.
+#
+# sh tools/install.sh [--prefix FOLDER] [--program FILE]
+#
+# FOLDER is ~/.local, unless it is named. Without FILE the program is proved and built first, if it is not yet. FILE is
+# another program, such as one that examples/unproved.sh keeps: `soroban version` says that it was not proved here.
+set -eu
+top=$(cd "$(dirname "$0")/.." && pwd)
+prefix=${HOME:-/usr}/.local
+program=
+
+usage() {
+    echo "usage: $0 [--prefix FOLDER] [--program FILE]" >&2
+    exit 2
+}
+
+while [ $# -gt 0 ]; do
+    [ $# -ge 2 ] || usage
+    case $1 in
+        --prefix) prefix=$2 ;;
+        --program) program=$2 ;;
+        *) usage ;;
+    esac
+    shift 2
+done
+command -v python3 >/dev/null || { echo "$0 needs the command python3" >&2; exit 1; }
+
+if [ -z "$program" ]; then
+    command -v rt >/dev/null || { echo "$0 needs the command rt to prove the program; --program names a built one" >&2; exit 1; }
+    python3 "$top/tools/prove.py" soroban_cmd
+    program=$top/crates/soroban_cmd/out/soroban_cmd
+    proof="proved with $(rt version)"
+else
+    proof='not proved by this installation'
+fi
+[ -f "$program" ] && [ -x "$program" ] || { echo "$program is no program" >&2; exit 1; }
+python3 "$top/tools/command_table.py" check "$program"
+
+commit=$(git -C "$top" rev-parse HEAD 2>/dev/null || echo unknown)
+if [ "$commit" != unknown ] && [ -n "$(git -C "$top" status --porcelain 2>/dev/null)" ]; then
+    commit="$commit with changes"
+fi
+
+mkdir -p "$prefix"
+prefix=$(cd "$prefix" && pwd)
+share=$prefix/share/soroban
+man=$prefix/share/man/man1
+bash=$prefix/share/bash-completion/completions
+zsh=$prefix/share/zsh/site-functions
+mkdir -p "$prefix/bin" "$share" "$man" "$bash" "$zsh"
+install -m 755 "$program" "$prefix/bin/soroban_cmd"
+install -m 644 "$top/tools/soroban.py" "$top/tools/command_table.py" "$top/tools/commands.json" "$share"
+cat >"$share/installed.json" <<END
+{
+  "proof": "$proof",
+  "commit": "$commit",
+  "sha256": "$(sha256sum "$prefix/bin/soroban_cmd" | cut -c 1-64)"
+}
+END
+cat >"$prefix/bin/soroban" <<END
+#!/bin/sh
+exec python3 "\$(dirname "\$(readlink -f "\$0")")/../share/soroban/soroban.py" "\$@"
+END
+chmod 755 "$prefix/bin/soroban"
+table() {
+    python3 "$top/tools/command_table.py" "$1"
+}
+table man >"$man/soroban.1"
+echo '.so man1/soroban.1' >"$man/soroban_cmd.1"
+table bash >"$bash/soroban"
+cp "$bash/soroban" "$bash/soroban_cmd"
+table zsh >"$zsh/_soroban"
+(unset SOROBAN_CMD; "$prefix/bin/soroban" version)
+echo "installed in $prefix"
