@@ -1,2 +1,5 @@
-pub mod Mapping
+pub mod Sorted
+pub mod Places
+pub mod MapLaws
+pub mod Search
 pub mod Walk

@@ -146,7 +146,7 @@ impl EntryMap {
             data,
         };
         let (key, stored) = store_entry(alloc, entry, live_until)?;
-        let _old = self.insert(key, stored)?;
+        let _old = self.insert(&key, stored)?;
         Ok(())
     }
 }

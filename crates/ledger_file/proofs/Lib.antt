@@ -6,3 +6,4 @@ pub mod Written
 pub mod FromFile
 pub mod ToFile
 pub mod Refused
+pub mod Starts

@@ -8,7 +8,7 @@ ghost use Rattle.ledger_types.specs.Key.{key_format};
 ghost use Rattle.ledger_types.specs.Entry.{key_of as key_of_entry};
 ghost use Rattle.ledger_types.specs.Record.{record_format};
 ghost use Rattle.ledger_spec.specs.LedgerMap.{key_bytes};
-ghost use Rattle.ledger_spec.specs.LedgerFile.{first_fault, fault_of, map_of, record_key, kept_of, is_above as is_above_key};
+ghost use Rattle.ledger_spec.specs.LedgerFile.{first_fault, fault_of, map_of, record_key, kept_of};
 ghost use Rattle.entry_map.specs.Entries.{last_key};
 ghost use Rattle.ledger_file.specs.Records.{pair_of, IsFaultUnlessMemory, IsFirstUnlessMemory};
 
@@ -16,20 +16,9 @@ use crate::error::LedgerErr;
 use crate::rules::record_fault;
 use entry_map::{EntryMap, StoredEntry};
 use ledger_spec::{Kept, LedgerRefusal};
-use ledger_types::{BoxedRecord, LedgerKey, LedgerRecord, cmp_keys, key_hash, key_of};
+use ledger_types::{BoxedRecord, LedgerKey, LedgerRecord, key_hash, key_of};
 use std::alloc::Global;
 use xdr_core::NoMemory;
-
-/// Whether a key is above those of all entries.
-fn is_above(entries: &EntryMap, key: &LedgerKey) -> bool
-    requires { key_format.fits key.now }
-    ensures { result ≡ is_above_key (last_key (entries_of entries.now)) (key_bytes key.now) }
-{
-    match entries.last_key() {
-        None => true,
-        Some(last) => cmp_keys(last, key).is_lt(),
-    }
-}
 
 /// Tests the record that follows those of the map, whose key this is.
 fn judge(
@@ -44,7 +33,7 @@ fn judge(
     ensures err { IfErr result (IsFaultUnlessMemory (len entries.now) (fault_of (last_key (entries_of entries.now)) item.now)) }
 {
     let hash = key_hash(alloc, key)?;
-    match record_fault(is_above(entries, key), &hash, item) {
+    match record_fault(entries.ends_below(key), &hash, item) {
         None => Ok(()),
         Some(why) => Err(LedgerErr::Refused(LedgerRefusal {
             why,
@@ -53,21 +42,14 @@ fn judge(
     }
 }
 
-/// Tests the record that follows those of the map, and returns its key.
-fn judged_key(
-    alloc: Global,
-    entries: &EntryMap,
-    item: &LedgerRecord,
-) -> Result<LedgerKey, LedgerErr>
+/// Tests the record that follows those of the map.
+fn judge_record(alloc: Global, entries: &EntryMap, item: &LedgerRecord) -> Result<(), LedgerErr>
     requires { record_format.fits item.now }
     ensures good { OnOk result (fault_of (last_key (entries_of entries.now)) item.now ≡ None) }
-    ensures key { IfOk result (λ key. key ≡ key_of_entry item.now.entry) }
-    ensures fits { IfOk result key_format.fits }
     ensures err { IfErr result (IsFaultUnlessMemory (len entries.now) (fault_of (last_key (entries_of entries.now)) item.now)) }
 {
     let key = key_of(&item.entry)?;
-    judge(alloc, entries, &key, item)?;
-    Ok(key)
+    judge(alloc, entries, &key, item)
 }
 
 /// Pairs a value with the result of another call. An error drops the value.
@@ -106,10 +88,10 @@ fn add_record(alloc: Global, entries: &mut EntryMap, item: LedgerRecord) -> Resu
     ensures ok { OnOk result (entries_of entries.new ≡ entries_of entries.old ++ pair_of item ∷ []) }
     ensures err { IfErr result (IsFaultUnlessMemory (len entries.old) (fault_of (last_key (entries_of entries.old)) item)) }
 {
-    let judged = judged_key(alloc, entries, &item);
-    let (item, key) = beside(item, judged)?;
-    let (key, entry) = beside(key, stored(alloc, item))?;
-    entries.push(key, entry)?;
+    let judged = judge_record(alloc, entries, &item);
+    let (item, ()) = beside(item, judged)?;
+    let entry = stored(alloc, item)?;
+    entries.push(entry)?;
     Ok(())
 }
 

@@ -2,11 +2,12 @@
 
 ghost use Rattle.std.specs.Prelude.{◌≡◌, ◌++◌, OnOk, OnErr, IfOk};
 ghost use Rattle.std.specs.FinMap.{entries as entries_of};
-ghost use Rattle.std.specs.List.{flat_map};
+ghost use Rattle.std.specs.List.{AllByRecursion, flat_map};
 ghost use Rattle.xdr_core.specs.Writes.{StartsWith};
 ghost use Rattle.ledger_types.specs.Header.{header_format};
 ghost use Rattle.ledger_types.specs.Record.{record_format};
 ghost use Rattle.ledger_spec.specs.LedgerFile.{record_of, ledger_bytes};
+ghost use Rattle.entry_map.specs.Entries.{pairs_of, IsAt};
 ghost use Rattle.ledger_file.specs.Records.{record_bytes, IsKept};
 
 use crate::ledger::Ledger;
@@ -33,13 +34,25 @@ fn write_record(stored: &StoredEntry, out: &mut Out) -> Result<(), NoMemory>
     ttl.write(out)
 }
 
+/// Writes the records of a row of entries.
+fn write_row(row: &[Box<StoredEntry>], out: &mut Out) -> Result<(), NoMemory>
+    requires { AllByRecursion IsAt (pairs_of row.now) }
+    ensures ok { OnOk result (out.new ≡ out.old ++ flat_map record_bytes (pairs_of row.now)) }
+    ensures err { OnErr result (StartsWith out.new out.old) }
+{
+    for stored in row {
+        write_record(stored, out)?;
+    }
+    Ok(())
+}
+
 /// Writes the records of all entries.
 fn write_records(entries: &EntryMap, out: &mut Out) -> Result<(), NoMemory>
     ensures ok { OnOk result (out.new ≡ out.old ++ flat_map record_bytes (entries_of entries.now)) }
     ensures err { OnErr result (StartsWith out.new out.old) }
 {
-    for (_key, stored) in entries.iter() {
-        write_record(stored, out)?;
+    for row in entries.rows() {
+        write_row(row, out)?;
     }
     Ok(())
 }

@@ -137,7 +137,7 @@ fn add(entries: &mut EntryMap, alloc: Global, entry: LedgerEntry) -> Result<(), 
     ensures { OnOk result (entries.new ≡ with_entry entries.old (record { entry = entry; live_until = 5000 })) }
 {
     let (key, stored) = store_entry(alloc, entry, LIVE_UNTIL)?;
-    let _old = entries.insert(key, stored)?;
+    let _old = entries.insert(&key, stored)?;
     Ok(())
 }
 

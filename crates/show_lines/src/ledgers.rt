@@ -1,10 +1,11 @@
 //! The lines that show a value or a ledger.
 
 ghost use Rattle.std.specs.Prelude.{◌≡◌, ◌++◌, length, OnOk, IfOk};
-ghost use Rattle.std.specs.List.{flat_map};
+ghost use Rattle.std.specs.List.{AllByRecursion, flat_map};
 ghost use Rattle.std.specs.FinMap.{entries as entries_of};
 ghost use Rattle.ledger_types.specs.Entry.{key_of};
 ghost use Rattle.ledger_spec.specs.LedgerMap.{key_bytes};
+ghost use Rattle.entry_map.specs.Entries.{pairs_of, IsAt};
 ghost use Rattle.show_lines.specs.LedgerLines.{header_line, ledger_lines, record_line, value_line};
 ghost use Rattle.value_types.specs.Formats.{scval_format};
 
@@ -51,7 +52,17 @@ fn header_line(alloc: Global, header: &Header, records: usize) -> Result<Vec<u8>
 fn push_records(alloc: Global, lines: &mut Vec<u8>, entries: &EntryMap) -> Result<(), AllocError>
     ensures { OnOk result (lines.new.items ≡ lines.old.items ++ flat_map record_line (entries_of entries.now)) }
 {
-    for (_key, stored) in entries.iter() {
+    for row in entries.rows() {
+        push_row(alloc, lines, row)?;
+    }
+    Ok(())
+}
+
+fn push_row(alloc: Global, lines: &mut Vec<u8>, row: &[Box<StoredEntry>]) -> Result<(), AllocError>
+    requires { AllByRecursion IsAt (pairs_of row.now) }
+    ensures { OnOk result (lines.new.items ≡ lines.old.items ++ flat_map record_line (pairs_of row.now)) }
+{
+    for stored in row {
         push_record(alloc, lines, stored)?;
     }
     Ok(())

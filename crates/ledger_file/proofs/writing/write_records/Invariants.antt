@@ -1,7 +1,9 @@
-use Rattle.std.specs.FinMap.{entries}
-use Rattle.entry_map.proofs.Walk.{Walked}
+use Rattle.std.proofs.Common.{◌≡◌, ◌++◌, take}
+use Rattle.std.specs.List.{flat_map}
+use Rattle.entry_map.specs.Entries.{pairs_of}
+use Rattle.entry_map.specs.Rows.{rows_of, joined}
 use Rattle.ledger_file.specs.Records.{record_bytes}
 use Rattle.ledger_file.proofs.writing.write_records.Given as goal
 
-abbrev pub invariant-loop-key : goal.invariant-loop-key
-invariant-loop-key l = Walked record_bytes l.fn.out l.out l._key-iterator (entries l.entries)
+abbrev pub invariant-loop-row : goal.invariant-loop-row
+invariant-loop-row l = l.out ≡ l.initial.out ++ flat_map record_bytes (pairs_of (joined (rows_of (take l.row-index l.row-items))))

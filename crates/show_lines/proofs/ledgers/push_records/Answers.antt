@@ -1,22 +1,29 @@
-use Rattle.std.proofs.Common.{◌∙◌, ◌++◌, ap}
+use Rattle.std.proofs.Common.{◌∙◌, ◌++◌, List, sym, ap, subst}
 use Rattle.std.specs.FinMap.{entries}
-use Rattle.ledger_types.specs.Entry.{key_of}
-use Rattle.ledger_spec.specs.LedgerMap.{key_bytes}
-use Rattle.entry_map.specs.Entries.{pairs_of}
-use Rattle.entry_map.specs.declared.stored.StoredEntry.{StoredEntry}
-use Rattle.entry_map.proofs.Walk.{walked_none, walked_more, walked_all}
+use Rattle.std.specs.List.{AllByRecursion, flat_map}
+use Rattle.entry_map.specs.Entries.{Boxed, pairs_of, IsAt}
+use Rattle.entry_map.specs.Rows.{rows_of, joined}
+use Rattle.entry_map.proofs.Walk.{rows_none, rows_more, rows_all, kept_all, kept_row}
 use Rattle.show_lines.specs.LedgerLines.{record_line}
 use Rattle.show_lines.proofs.ledgers.push_records.Goals as goal
 
-pub loop-key-init : goal.loop-key-init
-loop-key-init c =
-    walked_none record_line c.args.lines.now.items c.args.entries.now c.into_iter-key-iterator.result c.iter-key-items.ensures.map
-    (ap pairs_of c.into_iter-key-iterator.ensures.into_iter_gives ∙ c.iter-key-items.ensures.entries)
+pub loop-row-init : goal.loop-row-init
+loop-row-init c = rows_none record_line c.args.lines.now.items c.rows-row-items.result.now
 
-pub loop-key-preserved : goal.loop-key-preserved
-loop-key-preserved c =
-    walked_more record_line c.args.lines.now.items c.loop-key.lines.items c.push_record.new.lines.items c.loop-key._key-iterator (entries c.args.entries.now) (c.in-Some._key.now, c.in-Some.stored.now) c.next.new.self c.loop-key.invariant c.in-Some.ensures.steps
-    (c.in_ok-push_record.ensures ∙ ap (λ (s : StoredEntry). c.loop-key.lines.items ++ record_line (key_bytes (key_of s.kept.entry), s.kept)) c.deref.ensures)
+pub push_row-requires : goal.push_row-requires
+push_row-requires c =
+    subst (λ (r : List Boxed). AllByRecursion IsAt (pairs_of r)) (sym c.deref.ensures.value)
+    (kept_row c.rows-row-items.result.now c.loop-row.row-index c.row-item.result
+    (kept_all c.args.entries.now (joined (rows_of c.rows-row-items.result.now)) c.rows-row-items.ensures.map c.rows-row-items.ensures.entries)
+    c.loop-row-test.true c.row-item.is)
+
+pub loop-row-preserved : goal.loop-row-preserved
+loop-row-preserved c =
+    rows_more record_line c.args.lines.now.items c.loop-row.lines.items c.push_row.new.lines.items c.rows-row-items.result.now c.loop-row.row-index c.row-item.result
+    c.loop-row-test.true c.row-item.is c.loop-row.invariant
+    (c.in_ok-push_row.ensures ∙ ap (λ (r : List Boxed). c.loop-row.lines.items ++ flat_map record_line (pairs_of r)) c.deref.ensures.value)
 
 pub returns : goal.returns
-returns c = walked_all record_line c.args.lines.now.items c.loop-key.lines.items c.loop-key._key-iterator (entries c.args.entries.now) c.loop-key.invariant c.in-None.ensures.steps.0
+returns c =
+    rows_all record_line c.args.lines.now.items c.loop-row.lines.items c.rows-row-items.result.now c.loop-row.row-index (entries c.args.entries.now)
+    c.loop-row-test.false c.loop-row.invariant c.rows-row-items.ensures.entries

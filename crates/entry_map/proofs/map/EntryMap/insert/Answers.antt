@@ -1,38 +1,75 @@
-use Rattle.std.proofs.Common.{◌∙◌, ◌+◌, ◌<◌, ◌^◌, cond, List, length, Result, Ok, Err, OnErr, ap, sym, subst}
-use Rattle.std.specs.Prelude.{is_some}
-use Rattle.std.specs.Option.{option_map}
-use Rattle.std.specs.FinMap.{get, insert, len}
+use Rattle.std.proofs.Common.{◌∙◌, ℕ, List, Some, sym, ap, subst}
+use Rattle.std.specs.FinMap.{get, insert}
+use Rattle.ledger_types.specs.KeyOrder.{ranked_key}
 use Rattle.ledger_spec.specs.LedgerMap.{LedgerMap, key_bytes}
-use Rattle.ledger_types.specs.declared.key.LedgerKey.{LedgerKey}
-use Rattle.entry_map.specs.Entries.{Boxed, kept_of, map_of, AreEntries}
-use Rattle.entry_map.proofs.Mapping.{found, few_after, inserted, inserted_map}
+use Rattle.entry_map.specs.Entries.{Boxed, kept_of}
+use Rattle.entry_map.specs.Rows.{rows_of, IsFoundAt, IsGapAt}
+use Rattle.entry_map.proofs.Places.{Row, Rows, on_err}
+use Rattle.entry_map.proofs.MapLaws.{replace_rows, add_rows, found_entry, found_none, some_entry}
 use Rattle.entry_map.proofs.map.EntryMap.insert.Goals as goal
 
-pub invariant_of-self-2 : goal.invariant_of-self-2
-invariant_of-self-2 c =
-    let es = c.self.inside.map.entries in
-    let room : len (map_of es) + cond (is_some (get (map_of es) (key_bytes c.args.key))) 0 1 < 2 ^ 32 =
-    subst (λ (m : LedgerMap). len m + cond (is_some (get m (key_bytes c.args.key))) 0 1 < 2 ^ 32) (sym c.self.view_is) c.in_ok-room_for.ensures.ok in
-    let few = few_after es _ (key_bytes c.args.key) c.in_ok-old.old c.self.invariant.sorted c.in_ok-old.ensures.len
-    (ap (option_map kept_of) c.in_ok-old.ensures.old ∙ found c.args.key es c.self.invariant.sorted c.requires.fits) room in
-    subst AreEntries (sym c.in_ok-old.ensures.entries) (inserted c.args.key c.args.stored es c.self.invariant c.requires.fits c.requires.kept (subst (λ (xs : List (LedgerKey × Boxed)). length xs < 2 ^ 32) c.in_ok-old.ensures.entries few))
+pub invariant_of-self : goal.invariant_of-self
+invariant_of-self c =
+    let q : List ℕ = ranked_key c.args.key.now in
+    let rows : Rows = rows_of c.self.inside.rows.items in
+    let found : IsFoundAt q rows c.in-Ok.at = subst (λ (vs : List Row). IsFoundAt q (rows_of vs) c.in-Ok.at) c.deref.ensures.value c.in-Ok.ensures in
+    (replace_rows rows (rows_of c.replace_at.new.rows.items) c.in-Ok.at c.args.key.now c.args.stored c.self.inside.count c.self.invariant found c.requires.fits c.requires.kept
+    c.replace_at.ensures.new c.replace_at.ensures.full).rows
 
-pub returns-clause-old : goal.returns-clause-old
-returns-clause-old c =
-    ap (option_map kept_of) c.in_ok-old.ensures.old ∙ found c.args.key c.self.inside.map.entries c.self.invariant.sorted c.requires.fits
-    ∙ ap (λ (m : LedgerMap). get m (key_bytes c.args.key)) c.self.view_is
+pub returns-in-Ok-clause-old : goal.returns-in-Ok-clause-old
+returns-in-Ok-clause-old c =
+    let q : List ℕ = ranked_key c.args.key.now in
+    let rows : Rows = rows_of c.self.inside.rows.items in
+    let found : IsFoundAt q rows c.in-Ok.at = subst (λ (vs : List Row). IsFoundAt q (rows_of vs) c.in-Ok.at) c.deref.ensures.value c.in-Ok.ensures in
+    let d : Boxed = some_entry q rows c.in-Ok.at found in
+    ap (λ (b : Boxed). Some (kept_of b)) (c.replace_at.ensures.entry d)
+    ∙ found_entry rows c.in-Ok.at c.args.key.now d c.self.invariant.entries found c.requires.fits
+    ∙ ap (λ (m : LedgerMap). get m (key_bytes c.args.key.now)) c.self.view_is
 
-pub returns-clause-ok : goal.returns-clause-ok
-returns-clause-ok c =
-    ap map_of c.in_ok-old.ensures.entries ∙ sym (inserted_map c.args.key c.args.stored c.self.inside.map.entries c.self.invariant.sorted c.requires.fits)
-    ∙ ap (λ (m : LedgerMap). insert m (key_bytes c.args.key) c.args.stored.value.kept) c.self.view_is
+pub returns-in-Ok-clause-ok : goal.returns-in-Ok-clause-ok
+returns-in-Ok-clause-ok c =
+    let q : List ℕ = ranked_key c.args.key.now in
+    let rows : Rows = rows_of c.self.inside.rows.items in
+    let found : IsFoundAt q rows c.in-Ok.at = subst (λ (vs : List Row). IsFoundAt q (rows_of vs) c.in-Ok.at) c.deref.ensures.value c.in-Ok.ensures in
+    sym (replace_rows rows (rows_of c.replace_at.new.rows.items) c.in-Ok.at c.args.key.now c.args.stored c.self.inside.count c.self.invariant found c.requires.fits c.requires.kept
+    c.replace_at.ensures.new c.replace_at.ensures.full).map
+    ∙ ap (λ (m : LedgerMap). insert m (key_bytes c.args.key.now) c.args.stored.value.kept) c.self.view_is
 
-on_err : {A E : Type 0} (r : Result A E) (P : Type 0) → P → OnErr r P
-on_err (Ok x) P p = tt
-on_err (Err e) P p = p
+pub returns-then-self-ge-MOST_ENTRIES-clause-absent : goal.returns-then-self-ge-MOST_ENTRIES-clause-absent
+returns-then-self-ge-MOST_ENTRIES-clause-absent c =
+    let q : List ℕ = ranked_key c.args.key.now in
+    let rows : Rows = rows_of c.self.inside.rows.items in
+    let gap : IsGapAt q rows c.in-Err.at = subst (λ (vs : List Row). IsGapAt q (rows_of vs) c.in-Err.at) c.deref.ensures.value c.in-Err.ensures in
+    ap (λ (m : LedgerMap). get m (key_bytes c.args.key.now)) (sym c.self.view_is) ∙ sym (found_none rows c.in-Err.at c.args.key.now c.self.invariant.entries gap c.requires.fits)
 
-pub returns-in_err-old-clause-absent : goal.returns-in_err-old-clause-absent
-returns-in_err-old-clause-absent c =
-    on_err c.from_residual-in_err-old.result _
-    (ap (λ (m : LedgerMap). get m (key_bytes c.args.key)) (sym c.self.view_is) ∙ sym (found c.args.key c.self.inside.map.entries c.self.invariant.sorted c.requires.fits)
-    ∙ ap (option_map kept_of) c.in_err-old.ensures.absent)
+pub returns-in_err-insert_at-in-Err-clause-absent : goal.returns-in_err-insert_at-in-Err-clause-absent
+returns-in_err-insert_at-in-Err-clause-absent c =
+    let q : List ℕ = ranked_key c.args.key.now in
+    let rows : Rows = rows_of c.self.inside.rows.items in
+    let gap : IsGapAt q rows c.in-Err.at = subst (λ (vs : List Row). IsGapAt q (rows_of vs) c.in-Err.at) c.deref.ensures.value c.in-Err.ensures in
+    on_err _ _
+    (ap (λ (m : LedgerMap). get m (key_bytes c.args.key.now)) (sym c.self.view_is) ∙ sym (found_none rows c.in-Err.at c.args.key.now c.self.invariant.entries gap c.requires.fits))
+
+pub invariant_of-self-in-Err : goal.invariant_of-self-in-Err
+invariant_of-self-in-Err c =
+    let q : List ℕ = ranked_key c.args.key.now in
+    let rows : Rows = rows_of c.self.inside.rows.items in
+    let gap : IsGapAt q rows c.in-Err.at = subst (λ (vs : List Row). IsGapAt q (rows_of vs) c.in-Err.at) c.deref.ensures.value c.in-Err.ensures in
+    (add_rows rows (rows_of c.insert_at.new.rows.items) c.in-Err.at c.args.key.now c.args.stored c.self.inside.count c.self.invariant gap c.requires.fits c.requires.kept
+    c.if-self-ge-MOST_ENTRIES.false c.in_ok-insert_at-in-Err.ensures.ok c.in_ok-insert_at-in-Err.ensures.full).rows
+
+pub returns-in_ok-insert_at-in-Err-clause-old : goal.returns-in_ok-insert_at-in-Err-clause-old
+returns-in_ok-insert_at-in-Err-clause-old c =
+    let q : List ℕ = ranked_key c.args.key.now in
+    let rows : Rows = rows_of c.self.inside.rows.items in
+    let gap : IsGapAt q rows c.in-Err.at = subst (λ (vs : List Row). IsGapAt q (rows_of vs) c.in-Err.at) c.deref.ensures.value c.in-Err.ensures in
+    found_none rows c.in-Err.at c.args.key.now c.self.invariant.entries gap c.requires.fits ∙ ap (λ (m : LedgerMap). get m (key_bytes c.args.key.now)) c.self.view_is
+
+pub returns-in_ok-insert_at-in-Err-clause-ok : goal.returns-in_ok-insert_at-in-Err-clause-ok
+returns-in_ok-insert_at-in-Err-clause-ok c =
+    let q : List ℕ = ranked_key c.args.key.now in
+    let rows : Rows = rows_of c.self.inside.rows.items in
+    let gap : IsGapAt q rows c.in-Err.at = subst (λ (vs : List Row). IsGapAt q (rows_of vs) c.in-Err.at) c.deref.ensures.value c.in-Err.ensures in
+    sym (add_rows rows (rows_of c.insert_at.new.rows.items) c.in-Err.at c.args.key.now c.args.stored c.self.inside.count c.self.invariant gap c.requires.fits c.requires.kept
+    c.if-self-ge-MOST_ENTRIES.false c.in_ok-insert_at-in-Err.ensures.ok c.in_ok-insert_at-in-Err.ensures.full).map
+    ∙ ap (λ (m : LedgerMap). insert m (key_bytes c.args.key.now) c.args.stored.value.kept) c.self.view_is

@@ -1,41 +1,34 @@
-use Rattle.std.proofs.Common.{◌≡◌, ◌∙◌, Some, None, max, ap, sym}
-use Rattle.std.specs.Map.{lookup}
-use Rattle.std.specs.BTreeMap.{is_at}
-use Rattle.ledger_types.specs.KeyOrder.{key_cmp}
+use Rattle.std.proofs.Common.{◌∙◌, ℕ, List, sym, ap, subst}
+use Rattle.ledger_types.specs.KeyOrder.{ranked_key}
 use Rattle.ledger_spec.specs.LedgerMap.{LedgerMap}
 use Rattle.ledger_spec.specs.Changes.{raise}
-use Rattle.entry_map.specs.Entries.{Boxed}
-use Rattle.entry_map.specs.declared.stored.StoredEntry.{StoredEntry}
-use Rattle.entry_map.proofs.Mapping.{raised_entries, raised_map, raised_nowhere}
+use Rattle.entry_map.specs.Rows.{rows_of, IsFoundAt, IsGapAt}
+use Rattle.entry_map.proofs.Places.{Row, Rows}
+use Rattle.entry_map.proofs.MapLaws.{raise_rows, raise_none}
 use Rattle.entry_map.proofs.map.EntryMap.raise.Goals as goal
-use Rattle.entry_map.proofs.map.EntryMap.raise.Goals.{in-Some, in_default}
 
 pub invariant_of-self : goal.invariant_of-self
-invariant_of-self c = elim c.match-get_mut.branch [
-  | in-Some w ↦
-      let es = c.self.inside.map.entries in
-      let looked : lookup (is_at (key_cmp c.args.key.now)) es ≡ Some w.in-Some.stored.now = sym w.in-Some.ensures.value in
-      rw w.self-inside-is
-      (raised_entries c.args.key.now es (λ (v : Boxed). (c.get_mut.follows.lender v).entries) (λ (v : Boxed). (c.get_mut.follows.holds v).0) c.self.invariant w.in-Some.stored.now looked
-      w.deref_mut.result.now w.deref_mut.ensures.value w.later.result _ w.later.type_inv)
-  | in_default w ↦ rw (w.self-inside-is, c.get_mut.follows.holds-at-none) c.self.invariant
-]
+invariant_of-self c =
+    let q : List ℕ = ranked_key c.args.key.now in
+    let rows : Rows = rows_of c.self.inside.rows.items in
+    let found : IsFoundAt q rows c.in-Ok.at = subst (λ (vs : List Row). IsFoundAt q (rows_of vs) c.in-Ok.at) c.deref.ensures.value c.in-Ok.ensures in
+    (raise_rows rows (rows_of c.raise_at.new.rows.items) c.in-Ok.at c.args.key.now c.args.live_until c.self.inside.count c.self.invariant found c.requires c.ranges.live_until.fits
+    c.raise_at.ensures.new c.raise_at.ensures.full).rows
 
-pub returns : goal.returns
-returns c = elim c.match-get_mut.branch [
-  | in-Some w ↦
-      let es = c.self.inside.map.entries in
-      let looked : lookup (is_at (key_cmp c.args.key.now)) es ≡ Some w.in-Some.stored.now = sym w.in-Some.ensures.value in
-      let longer : w.later.result ≡ max w.deref_mut.result.now.kept.live_until c.args.live_until =
-      w.later.ensures ∙ ap (λ (v : StoredEntry). max v.kept.live_until c.args.live_until) (w.deref.ensures ∙ sym w.deref_mut.ensures.value) in
-      rw w.self-inside-is
-      (raised_map c.args.key.now es (λ (v : Boxed). (c.get_mut.follows.lender v).entries) (λ (v : Boxed). (c.get_mut.follows.holds v).0) c.self.invariant w.in-Some.stored.now looked
-      w.deref_mut.result.now w.deref_mut.ensures.value w.later.result _ c.args.live_until c.requires longer
-      ∙ ap (λ (m : LedgerMap). raise m c.args.key.now c.args.live_until) c.self.view_is)
-  | in_default w ↦
-      let es = c.self.inside.map.entries in
-      let looked : lookup (is_at (key_cmp c.args.key.now)) es ≡ None = sym w.in_default.ensures.value in
-      rw (w.self-inside-is, c.get_mut.follows.holds-at-none)
-      (raised_nowhere c.args.key.now es c.args.live_until c.self.invariant.sorted c.requires looked
-      ∙ ap (λ (m : LedgerMap). raise m c.args.key.now c.args.live_until) c.self.view_is)
-]
+pub returns-in-Ok : goal.returns-in-Ok
+returns-in-Ok c =
+    let q : List ℕ = ranked_key c.args.key.now in
+    let rows : Rows = rows_of c.self.inside.rows.items in
+    let found : IsFoundAt q rows c.in-Ok.at = subst (λ (vs : List Row). IsFoundAt q (rows_of vs) c.in-Ok.at) c.deref.ensures.value c.in-Ok.ensures in
+    sym (raise_rows rows (rows_of c.raise_at.new.rows.items) c.in-Ok.at c.args.key.now c.args.live_until c.self.inside.count c.self.invariant found c.requires c.ranges.live_until.fits
+    c.raise_at.ensures.new c.raise_at.ensures.full).map
+    ∙ ap (λ (m : LedgerMap). raise m c.args.key.now c.args.live_until) c.self.view_is
+
+pub returns-in_default : goal.returns-in_default
+returns-in_default c =
+    let q : List ℕ = ranked_key c.args.key.now in
+    let rows : Rows = rows_of c.self.inside.rows.items in
+    let gap : IsGapAt q rows c.in_default.field-0 = subst (λ (vs : List Row). IsGapAt q (rows_of vs) c.in_default.field-0) c.deref.ensures.value c.in_default.ensures in
+    sym c.self.view_is
+    ∙ raise_none rows c.in_default.field-0 c.args.key.now c.args.live_until c.self.invariant.entries gap c.requires
+    ∙ ap (λ (m : LedgerMap). raise m c.args.key.now c.args.live_until) c.self.view_is
