@@ -25,4 +25,4 @@ pub use codes::{find_code, upload};
 pub use frames::{charge_run, returned_value, show_args};
 pub use ids::new_id;
 pub use instances::{clone_copy, find_instance, is_same, make_instance, write_instance};
-pub use modules::{call_module, load_module, paid_module, start_instance};
+pub use modules::{cached_module, call_module, paid_module, start_instance};

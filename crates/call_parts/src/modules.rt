@@ -14,6 +14,7 @@ use crate::charges::pay;
 use crate::codes::find_code;
 use crate::errors::{NO_FUNCTION, NO_MODULE, OTHER_ARITY, SEGMENT_OUTSIDE};
 use budget_meter::{Budget, Kind};
+use code_cache::{Cache, HeldModule, module_for};
 use contract_storage::Storage;
 use entry_lookup::Ground;
 use host_ledger::{code_key, end_of};
@@ -24,7 +25,7 @@ use value_types::Hash;
 use wasm_run::{Instance, StartErr};
 
 /// Loads the valid, linked module that a code encodes, if it encodes one. Its only error is memory.
-pub fn load_module(alloc: Global, code: &[u8]) -> Result<Option<LinkedModule>, HostErr>
+pub(crate) fn load_module(alloc: Global, code: &[u8]) -> Result<Option<LinkedModule>, HostErr>
     ensures ok { IfOk result (λ m. module_of code.now ≡ m) }
     ensures memory { IfErr result (λ e. e ≡ ends.NoMemory) }
 {
@@ -35,9 +36,26 @@ pub fn load_module(alloc: Global, code: &[u8]) -> Result<Option<LinkedModule>, H
     }
 }
 
+/// Returns the valid, linked module that a code encodes, if it encodes one. If the cache has the code with this hash, its module
+/// is borrowed from there. The only error is memory.
+pub fn cached_module<'c>(
+    alloc: Global,
+    codes: Option<&'c Cache<'c>>,
+    hash: Hash,
+    code: &[u8],
+) -> Result<Option<HeldModule<'c>>, HostErr>
+    ensures ok { IfOk result (λ m. module_of code.now ≡ m) }
+    ensures memory { IfErr result (λ e. e ≡ ends.NoMemory) }
+{
+    match module_for(alloc, codes, &hash, code) {
+        Ok(module) => Ok(module),
+        Err(_) => Err(HostErr::NoMemory),
+    }
+}
+
 /// The module, if there is one.
-fn linked(module: Option<LinkedModule>) -> Result<LinkedModule, HostErr>
-    ensures { Returns result (λ m. m) (with_module «module» (λ m. gives m)) }
+fn linked<'c>(module: Option<HeldModule<'c>>) -> Result<HeldModule<'c>, HostErr>
+    ensures { Returns result (λ m. m) (with_module «module».entry (λ m. gives m)) }
 {
     match module {
         Some(module) => Ok(module),
@@ -46,13 +64,13 @@ fn linked(module: Option<LinkedModule>) -> Result<LinkedModule, HostErr>
 }
 
 /// Charges for the module of a code of this length, and takes the module.
-pub fn paid_module(
+pub fn paid_module<'c>(
     budget: &mut Budget,
     len: u64,
-    module: Option<LinkedModule>,
-) -> Result<LinkedModule, HostErr>
+    module: Option<HeldModule<'c>>,
+) -> Result<HeldModule<'c>, HostErr>
     ensures { Charges result (λ m. m) (paying kinds.VmInstantiation len
-        (with_module «module» (λ m. gives m))) budget.old budget.new }
+        (with_module «module».entry (λ m. gives m))) budget.old budget.new }
 {
     match pay(budget, Kind::VmInstantiation, len) {
         Ok(()) => linked(module),
@@ -60,41 +78,54 @@ pub fn paid_module(
     }
 }
 
-/// Loads the module of a code, which has to have one.
-fn loaded(alloc: Global, code: &[u8]) -> Result<LinkedModule, HostErr>
+/// Finds the module of a code, which has to have one.
+fn found<'c>(
+    alloc: Global,
+    codes: Option<&'c Cache<'c>>,
+    hash: Hash,
+    code: &[u8],
+) -> Result<HeldModule<'c>, HostErr>
     ensures { Returns result (λ m. m) (with_module (module_of code.now) (λ m. gives m)) }
 {
-    match load_module(alloc, code) {
+    match cached_module(alloc, codes, hash, code) {
         Ok(module) => linked(module),
         Err(error) => Err(error),
     }
 }
 
-/// Charges for the module of a code, and loads it.
-fn read_module(alloc: Global, budget: &mut Budget, code: &[u8]) -> Result<LinkedModule, HostErr>
+/// Charges for the module of a code, and finds it.
+fn read_module<'c>(
+    alloc: Global,
+    budget: &mut Budget,
+    codes: Option<&'c Cache<'c>>,
+    hash: Hash,
+    code: &[u8],
+) -> Result<HeldModule<'c>, HostErr>
     ensures { Charges result (λ m. m) (paying kinds.VmInstantiation (length code.now)
         (with_module (module_of code.now) (λ m. gives m))) budget.old budget.new }
 {
     match pay(budget, Kind::VmInstantiation, code.len() as u64) {
-        Ok(()) => loaded(alloc, code),
+        Ok(()) => found(alloc, codes, hash, code),
         Err(error) => Err(error),
     }
 }
 
-/// Finds the code with a hash, and loads its module. The charge comes before the code is read.
-pub fn call_module<G: Ground>(
+/// Finds the code with a hash, and its module. The charge comes before the code is read, and is the same if the cache has the
+/// module.
+pub fn call_module<'c, G: Ground>(
     alloc: Global,
     storage: &mut Storage<'_, G>,
     budget: &mut Budget,
+    codes: Option<&'c Cache<'c>>,
     hash: Hash,
-) -> Result<LinkedModule, HostErr>
+) -> Result<HeldModule<'c>, HostErr>
     ensures does { Steps result (λ m. m) (λ env. after (code_at env hash)
         (λ code. paying kinds.VmInstantiation (length code) (with_module (module_of code) (λ m. gives m))))
         storage.old storage.new budget.old budget.new }
     ensures read { IsRead storage.old storage.new }
 {
     match find_code(storage, hash) {
-        Ok(code) => read_module(alloc, budget, code),
+        Ok(code) => read_module(alloc, budget, codes, hash, code),
         Err(error) => Err(end_of(code_key(hash), error)),
     }
 }

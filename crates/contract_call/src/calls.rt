@@ -118,7 +118,7 @@ fn call_target<G: Ground>(
     host: &mut Host<'_, G>,
     room: u32,
     path: Vec<u64>,
-    found: Target,
+    found: Target<'_>,
     call: ContractCall<'_>,
 ) -> Result<ScVal, HostErr>
     requires ready { MayRun host.old }
@@ -127,7 +127,7 @@ fn call_target<G: Ground>(
     requires args { AreMade (datums call.args.items) }
     ensures does { DoesAround result datum
         (λ env. enters_at (framed env (host_of env (opener_of env room))) (call_of call.entry) path.items
-        (target found)) host.old host.new }
+        (target found.entry)) host.old host.new }
     ensures hosted { IfOk result (λ value. IsHosted (datum value)) }
     ensures stays { Stays host.old host.new }
 {
@@ -140,7 +140,7 @@ fn call_target<G: Ground>(
     match new_place(alloc, call.function, call.args.as_slice(), path) {
         Ok(place) => {
             let frame = running(alloc, contract, call.caller, copy);
-            enter(host, room, frame, place, &module, call.args)
+            enter(host, room, frame, place, module.linked(), call.args)
         }
         Err(error) => Err(error),
     }
@@ -570,7 +570,7 @@ fn build<G: Ground>(
     ensures stays { Stays host.old host.new }
 {
     match made(host, id, contract.code) {
-        Ok(module) => construct(host, room, path, creator, id, &module, contract),
+        Ok(module) => construct(host, room, path, creator, id, module.linked(), contract),
         Err(error) => Err(error),
     }
 }

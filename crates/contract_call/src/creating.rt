@@ -27,7 +27,8 @@ use crate::host::Host;
 use crate::place::{Place, below, clone_args, new_place};
 use crate::works::NewContract;
 use budget_meter::Budget;
-use call_parts::{find_code, load_module, make_instance, new_id, paid_module};
+use call_parts::{cached_module, find_code, make_instance, new_id, paid_module};
+use code_cache::{Cache, HeldModule};
 use contract_storage::Storage;
 use entry_lookup::Ground;
 use host_frame::Answer;
@@ -42,9 +43,9 @@ use wasm_run::function_named;
 
 /// The length of a code, and the module that it encodes, if it encodes one.
 #[derive(Drop)]
-struct SizedCode {
+struct SizedCode<'c> {
     pub length: u64,
-    pub module: Option<LinkedModule>,
+    pub module: Option<HeldModule<'c>>,
 }
 
 /// The id of a new contract, after its charge, over the ledger's state.
@@ -124,18 +125,19 @@ pub(crate) fn create_function(alloc: Global, contract: &NewContract) -> Result<F
     }
 }
 
-/// Finds the code with a hash, and loads its module.
-fn sized_code<G: Ground>(
+/// Finds the code with a hash, and its module.
+fn sized_code<'c, G: Ground>(
     alloc: Global,
     storage: &mut Storage<'_, G>,
+    codes: Option<&'c Cache<'c>>,
     hash: Hash,
-) -> Result<SizedCode, HostErr>
+) -> Result<SizedCode<'c>, HostErr>
     ensures does { Accesses result sized (λ env. code_of env hash) storage.old storage.new }
     ensures read { IsRead storage.old storage.new }
 {
     match find_code(storage, hash) {
         Err(error) => Err(end_of(code_key(hash), error)),
-        Ok(code) => match load_module(alloc, code) {
+        Ok(code) => match cached_module(alloc, codes, hash, code) {
             Err(error) => Err(error),
             Ok(module) => Ok(SizedCode {
                 length: code.len() as u64,
@@ -146,7 +148,7 @@ fn sized_code<G: Ground>(
 }
 
 /// Makes the instance of a new contract in ledger `n`, and takes the module of its code, after the module's charge.
-fn instantiate<G: Ground>(
+fn instantiate<'c, G: Ground>(
     storage: &mut Storage<'_, G>,
     budget: &mut Budget,
     n: u32,
@@ -154,13 +156,13 @@ fn instantiate<G: Ground>(
     id: Hash,
     hash: Hash,
     length: u64,
-    module: Option<LinkedModule>,
-) -> Result<LinkedModule, HostErr>
+    module: Option<HeldModule<'c>>,
+) -> Result<HeldModule<'c>, HostErr>
     requires number { storage.old.n ≡ n }
     requires settings { storage.old.lives ≡ settings.now }
     requires bounds { HasBounds n settings.now }
     ensures does { Steps result (λ m. m)
-        (λ env. instantiating env id hash (length, «module»)) storage.old storage.new budget.old budget.new }
+        (λ env. instantiating env id hash (length, «module».entry)) storage.old storage.new budget.old budget.new }
     ensures later { IsLater storage.old storage.new }
 {
     match make_instance(storage, budget, n, settings, id, hash) {
@@ -170,22 +172,23 @@ fn instantiate<G: Ground>(
 }
 
 /// Finds the code of a new contract, makes the contract's instance in ledger `n`, and takes the code's module.
-fn build<G: Ground>(
+fn build<'c, G: Ground>(
     alloc: Global,
     storage: &mut Storage<'_, G>,
     budget: &mut Budget,
+    codes: Option<&'c Cache<'c>>,
     n: u32,
     settings: &Settings,
     id: Hash,
     hash: Hash,
-) -> Result<LinkedModule, HostErr>
+) -> Result<HeldModule<'c>, HostErr>
     requires number { storage.old.n ≡ n }
     requires settings { storage.old.lives ≡ settings.now }
     requires bounds { HasBounds n settings.now }
     ensures does { Steps result (λ m. m) (λ env. building env id hash) storage.old storage.new budget.old budget.new }
     ensures later { IsLater storage.old storage.new }
 {
-    match sized_code(alloc, storage, hash) {
+    match sized_code(alloc, storage, codes, hash) {
         Err(error) => Err(error),
         Ok(SizedCode { length, module }) => {
             instantiate(storage, budget, n, settings, id, hash, length, module)
@@ -194,11 +197,12 @@ fn build<G: Ground>(
 }
 
 /// Finds the code of a new contract, makes the contract's instance, and takes the code's module, over the ledger's state.
-fn build_in<G: Ground>(
+fn build_in<'c, G: Ground>(
     ledger: &mut HostLedger<'_, G>,
+    codes: Option<&'c Cache<'c>>,
     id: Hash,
     code: Hash,
-) -> Result<LinkedModule, HostErr>
+) -> Result<HeldModule<'c>, HostErr>
     requires ready { IsReady ledger.old }
     ensures does { Steps result (λ m. m)
         (λ env. building env id code) ledger.old.storage ledger.new.storage ledger.old.budget ledger.new.budget }
@@ -210,6 +214,7 @@ fn build_in<G: Ground>(
         ledger.objects.allocator(),
         &mut ledger.storage,
         &mut ledger.budget,
+        codes,
         n,
         &ledger.header.settings,
         id,
@@ -218,16 +223,16 @@ fn build_in<G: Ground>(
 }
 
 /// Makes the instance of a new contract with an id, and returns the module of its code.
-pub(crate) fn made<G: Ground>(
-    host: &mut Host<'_, G>,
+pub(crate) fn made<'c, G: Ground>(
+    host: &mut Host<'c, G>,
     id: Hash,
     code: Hash,
-) -> Result<LinkedModule, HostErr>
+) -> Result<HeldModule<'c>, HostErr>
     requires ready { MayRun host.old }
     ensures does { DoesAround result (λ m. m) (λ env. building env id code) host.old host.new }
     ensures stays { Stays host.old host.new }
 {
-    build_in(&mut host.ledger, id, code)
+    build_in(&mut host.ledger, host.codes, id, code)
 }
 
 /// The arguments of a constructor, none if there are none.

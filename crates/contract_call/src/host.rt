@@ -10,6 +10,7 @@ ghost use Rattle.contract_call.specs.Worlds.{numbered, IsOpened, IsClosed, MayRu
 use crate::place::{Place, outermost};
 use auth_trees::Marks;
 use budget_meter::Budget;
+use code_cache::Cache;
 use contract_storage::Storage;
 use entry_lookup::Ground;
 use host_ledger::{Events, HostLedger, InstanceCopy, Running};
@@ -32,6 +33,8 @@ pub struct Host<'a, G: Ground> {
     pub verdicts: &'a Verdicts,
     /// Where the running frame is.
     pub place: Place,
+    /// Codes that threads share. They save the loading of modules, and change no result.
+    pub codes: Option<&'a Cache<'a>>,
 }
 
 /// A frame that waits while another one runs, with its values.
@@ -61,7 +64,8 @@ fn outside(alloc: Global) -> Running
 
 impl<'a, G: Ground> Host<'a, G> {
     /// Makes a host without events and open frames. `header` is that of the ledger before the one that is made, with the close
-    /// time of the one that is made. `marks` has the operation's authorisation entries.
+    /// time of the one that is made. `marks` has the operation's authorisation entries. A code that `codes` has is loaded there, once
+    /// for all hosts.
     pub fn new(
         alloc: Global,
         storage: Storage<'a, G>,
@@ -69,6 +73,7 @@ impl<'a, G: Ground> Host<'a, G> {
         budget: Budget,
         marks: Marks<'a>,
         verdicts: &'a Verdicts,
+        codes: Option<&'a Cache<'a>>,
     ) -> Host<'a, G>
         requires bounds { HasBounds (next_seq header.now) header.now.settings }
         requires number { storage.n ≡ next_seq header.now }
@@ -100,6 +105,7 @@ impl<'a, G: Ground> Host<'a, G> {
             marks,
             verdicts,
             place: outermost(alloc),
+            codes,
         }
     }
 

@@ -19,11 +19,11 @@ use crate::errors::{OTHER_TYPE, REENTERED, RESERVED_NAME};
 use crate::host::Host;
 use budget_meter::Budget;
 use call_parts::{call_module, find_instance};
+use code_cache::{Cache, HeldModule};
 use contract_storage::Storage;
 use entry_lookup::Ground;
 use host_ledger::{HostLedger, InstanceCopy};
 use host_spec::HostErr;
-use module_loader::LinkedModule;
 use std::alloc::Global;
 use value_types::{Hash, ScAddress, ScVal};
 
@@ -41,10 +41,10 @@ pub(crate) struct ContractCall<'c> {
 
 /// What is called: a contract, with its instance and the module of the instance's code.
 #[derive(Drop)]
-pub(crate) struct Target {
+pub(crate) struct Target<'c> {
     pub contract: Hash,
     pub copy: InstanceCopy,
-    pub module: LinkedModule,
+    pub module: HeldModule<'c>,
 }
 
 /// Whether only the host may call functions of this name.
@@ -86,20 +86,21 @@ fn admitted(open: &[Hash], address: ScAddress, named: bool) -> Result<Hash, Host
 }
 
 /// Finds the module of the code of a contract's instance.
-fn with_module<G: Ground>(
+fn with_module<'c, G: Ground>(
     alloc: Global,
     storage: &mut Storage<'_, G>,
     budget: &mut Budget,
+    codes: Option<&'c Cache<'c>>,
     contract: Hash,
     copy: InstanceCopy,
-) -> Result<Target, HostErr>
+) -> Result<Target<'c>, HostErr>
     requires { IsHeld copy.storage }
     ensures does { Steps result target (λ env. after (module_at env copy.code)
         (λ m. gives (record { contract = contract; instance = copied copy; module_ = m }))) storage.old storage.new budget.old budget.new }
     ensures held { IfOk result (λ t. IsHeld t.copy.storage) }
     ensures read { IsRead storage.old storage.new }
 {
-    match call_module(alloc, storage, budget, copy.code) {
+    match call_module(alloc, storage, budget, codes, copy.code) {
         Ok(module) => Ok(Target {
             contract,
             copy,
@@ -110,31 +111,33 @@ fn with_module<G: Ground>(
 }
 
 /// Finds the instance of a contract, and the module of its code.
-fn target_at<G: Ground>(
+fn target_at<'c, G: Ground>(
     alloc: Global,
     storage: &mut Storage<'_, G>,
     budget: &mut Budget,
+    codes: Option<&'c Cache<'c>>,
     contract: Hash,
-) -> Result<Target, HostErr>
+) -> Result<Target<'c>, HostErr>
     ensures does { Steps result target (λ env. target_at_in env contract) storage.old storage.new budget.old budget.new }
     ensures held { IfOk result (λ t. IsHeld t.copy.storage) }
     ensures read { IsRead storage.old storage.new }
 {
     match find_instance(storage, budget, contract) {
-        Ok(copy) => with_module(alloc, storage, budget, contract, copy),
+        Ok(copy) => with_module(alloc, storage, budget, codes, contract, copy),
         Err(error) => Err(error),
     }
 }
 
 /// Finds the target of a call, by the call's tests in their order.
-pub(crate) fn target_of<G: Ground>(
+pub(crate) fn target_of<'c, G: Ground>(
     alloc: Global,
     open: &[Hash],
     storage: &mut Storage<'_, G>,
     budget: &mut Budget,
+    codes: Option<&'c Cache<'c>>,
     address: ScAddress,
     named: bool,
-) -> Result<Target, HostErr>
+) -> Result<Target<'c>, HostErr>
     ensures does { (env : Env) → Serves env storage.old → (w : World) → w.entries ≡ storage.old.map → w.meter ≡ budget.old
         → w.contracts ≡ reverse open.now
         → Says result target (target_of_in named address env w)
@@ -144,18 +147,19 @@ pub(crate) fn target_of<G: Ground>(
     ensures read { IsRead storage.old storage.new }
 {
     match admitted(open, address, named) {
-        Ok(contract) => target_at(alloc, storage, budget, contract),
+        Ok(contract) => target_at(alloc, storage, budget, codes, contract),
         Err(error) => Err(error),
     }
 }
 
 /// Finds the target of a call in the host's ledger.
-fn target_in<G: Ground>(
+fn target_in<'c, G: Ground>(
     ledger: &mut HostLedger<'_, G>,
     open: &[Hash],
+    codes: Option<&'c Cache<'c>>,
     contract: ScAddress,
     named: bool,
-) -> Result<Target, HostErr>
+) -> Result<Target<'c>, HostErr>
     ensures does { (env : Env) → Serves env ledger.old.storage → (w : World) → w.entries ≡ ledger.old.storage.map
         → w.meter ≡ ledger.old.budget → w.contracts ≡ reverse open.now
         → Says result target (target_of_in named contract env w)
@@ -170,21 +174,22 @@ fn target_in<G: Ground>(
         open,
         &mut ledger.storage,
         &mut ledger.budget,
+        codes,
         contract,
         named,
     )
 }
 
 /// Finds the target of a call.
-pub(crate) fn find_target<G: Ground>(
-    host: &mut Host<'_, G>,
+pub(crate) fn find_target<'c, G: Ground>(
+    host: &mut Host<'c, G>,
     contract: ScAddress,
     named: bool,
-) -> Result<Target, HostErr>
+) -> Result<Target<'c>, HostErr>
     requires ready { MayRun host.old }
     ensures does { DoesAround result target (target_of_in named contract) host.old host.new }
     ensures held { IfOk result (λ t. IsHeld t.copy.storage) }
     ensures stays { Stays host.old host.new }
 {
-    target_in(&mut host.ledger, &host.open, contract, named)
+    target_in(&mut host.ledger, &host.open, host.codes, contract, named)
 }

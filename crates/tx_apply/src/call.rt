@@ -31,6 +31,7 @@ use crate::writing::writes_more;
 use auth_parts::enter_all;
 use auth_trees::Marks;
 use budget_meter::{Budget, Limits, Used};
+use code_cache::Cache;
 use contract_call::Host;
 use contract_storage::Storage;
 use entry_lookup::Ground;
@@ -136,6 +137,7 @@ fn events_of<G: Ground>(host: Host<'_, G>) -> Events
         marks: _,
         verdicts: _,
         place: _,
+        codes: _,
     } = host;
     let HostLedger {
         header: _,
@@ -183,6 +185,7 @@ fn run<G: Ground>(
     authority: &Authority<'_>,
     job: &Job<'_>,
     budget: Budget,
+    codes: Option<&Cache<'_>>,
 ) -> Result<TransactionDone, NoMemory>
     requires spelled { IsSpelled job.now }
     requires hosted { AreHosted (datums (values_in job.now)) }
@@ -206,7 +209,15 @@ fn run<G: Ground>(
         resources.footprint.read_write.as_slice(),
     )?;
     let marks = Marks::prepare(alloc, authority.entries, authority.source)?;
-    let mut host = Host::new(alloc, storage, header, budget, marks, authority.verdicts);
+    let mut host = Host::new(
+        alloc,
+        storage,
+        header,
+        budget,
+        marks,
+        authority.verdicts,
+        codes,
+    );
     match run_job(alloc, &mut host, job) {
         Ok(value) => returned(alloc, ground, n, resources, host, value),
         Err(end) => ended(alloc, &end, host.ledger.budget.spent()),
@@ -221,6 +232,7 @@ fn enter_and_run<G: Ground>(
     resources: &SorobanData,
     authority: &Authority<'_>,
     job: &Job<'_>,
+    codes: Option<&Cache<'_>>,
 ) -> Result<TransactionDone, NoMemory>
     requires spelled { IsSpelled job.now }
     requires entries { All auth_entry_format.fits authority.now.entries.now }
@@ -235,7 +247,9 @@ fn enter_and_run<G: Ground>(
 {
     let mut budget = budget_of(&header.settings, resources.instructions);
     match enter_all(&mut budget, values(job)) {
-        Ok(()) => run(alloc, ground, header, resources, authority, job, budget),
+        Ok(()) => run(
+            alloc, ground, header, resources, authority, job, budget, codes,
+        ),
         Err(end) => ended(alloc, &HostErr::from(end), budget.spent()),
     }
 }
@@ -248,6 +262,7 @@ pub(crate) fn call<G: Ground>(
     resources: &SorobanData,
     authority: &Authority<'_>,
     function: &HostFunction,
+    codes: Option<&Cache<'_>>,
 ) -> Result<TransactionDone, NoMemory>
     requires function { host_function_format.fits function.now }
     requires entries { All auth_entry_format.fits authority.now.entries.now }
@@ -269,5 +284,5 @@ pub(crate) fn call<G: Ground>(
     if reads_more(ground, n, &resources.footprint, resources.disk_read_bytes) {
         return failed_call(alloc, InvokeResult::ResourceLimitExceeded, nothing_used());
     }
-    enter_and_run(alloc, ground, header, resources, authority, &job)
+    enter_and_run(alloc, ground, header, resources, authority, &job, codes)
 }

@@ -13,6 +13,7 @@ ghost use Rattle.tx_apply.specs.Done.{effect_of, IsWithin};
 
 use crate::transaction::run_transaction;
 use budget_meter::Used;
+use code_cache::Cache;
 use entry_lookup::Ground;
 use invoke_types::SuccessPreimage;
 use ledger_types::{Header, Verdicts};
@@ -116,13 +117,15 @@ fn result_pair(
 /// judged.
 ///
 /// `header` is that of the previous ledger, with the close time of the ledger that is being made. An account's signature of an
-/// authorisation entry is good if `verdicts` has the account's key with the hash of the entry's payload.
+/// authorisation entry is good if `verdicts` has the account's key with the hash of the entry's payload. A code that `codes` has is
+/// loaded once for all transactions. The effect does not depend on `codes`.
 pub fn enforce<G: Ground>(
     alloc: Global,
     ground: &G,
     header: &Header,
     verdicts: &Verdicts,
     envelope: &Envelope,
+    codes: Option<&Cache<'_>>,
 ) -> Result<TxDone, NoMemory>
     requires fits { envelope_format.fits envelope.now }
     requires settings { IsTrue (are_settings header.now.settings) }
@@ -133,7 +136,14 @@ pub fn enforce<G: Ground>(
     ensures frame { IfOk result (λ done. (other : LedgerMap) → AgreeOn (declares envelope.now) (G.map ground.now) other
         → enforced header.now verdicts.now other envelope.now ≡ effect_of done) }
 {
-    let done = run_transaction(alloc, ground, header, verdicts, envelope.transaction())?;
+    let done = run_transaction(
+        alloc,
+        ground,
+        header,
+        verdicts,
+        envelope.transaction(),
+        codes,
+    )?;
     let result = result_pair(alloc, &header.network_id, envelope, done.outcome)?;
     Ok(TxDone {
         result,

@@ -22,4 +22,4 @@ mod writing;
 
 pub use envelope::{TxDone, enforce};
 pub use footprint::{read_only_of, read_write_of};
-pub use simulating::{Simulated, simulate};
+pub use simulating::{Simulated, simulate, simulate_with};

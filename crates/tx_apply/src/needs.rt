@@ -20,6 +20,7 @@ use crate::job::job_of;
 use crate::recording::record;
 use crate::results::nothing_used;
 use budget_meter::Used;
+use code_cache::Cache;
 use entry_lookup::Ground;
 use invoke_types::HostFunction;
 use ledger_types::{Header, Verdicts};
@@ -63,6 +64,7 @@ fn call_needs<G: Ground>(
     instructions: u32,
     authority: &Authority<'_>,
     function: &HostFunction,
+    codes: Option<&Cache<'_>>,
 ) -> Result<Needs, NoMemory>
     requires function { host_function_format.fits function.now }
     requires entries { All auth_entry_format.fits authority.now.entries.now }
@@ -74,7 +76,7 @@ fn call_needs<G: Ground>(
 {
     match job_of(function) {
         None => Ok(nothing(alloc)),
-        Some(job) => record(alloc, ground, header, instructions, authority, &job),
+        Some(job) => record(alloc, ground, header, instructions, authority, &job, codes),
     }
 }
 
@@ -86,6 +88,7 @@ fn operation_needs<G: Ground>(
     verdicts: &Verdicts,
     tx: &Transaction,
     operation: &Operation,
+    codes: Option<&Cache<'_>>,
 ) -> Result<Needs, NoMemory>
     requires body { body_format.fits operation.now.body }
     requires settings { IsTrue (are_settings header.now.settings) }
@@ -112,6 +115,7 @@ fn operation_needs<G: Ground>(
         resources.instructions,
         &authority,
         host_function,
+        codes,
     )
 }
 
@@ -147,6 +151,7 @@ pub(crate) fn needed<G: Ground>(
     header: &Header,
     verdicts: &Verdicts,
     tx: &Transaction,
+    codes: Option<&Cache<'_>>,
 ) -> Result<Needs, NoMemory>
     requires fits { transaction_format.fits tx.now }
     requires settings { IsTrue (are_settings header.now.settings) }
@@ -165,6 +170,6 @@ pub(crate) fn needed<G: Ground>(
     }
     match tx.operations.as_slice() {
         [] => Ok(nothing(alloc)),
-        [operation, ..] => operation_needs(alloc, ground, header, verdicts, tx, operation),
+        [operation, ..] => operation_needs(alloc, ground, header, verdicts, tx, operation, codes),
     }
 }

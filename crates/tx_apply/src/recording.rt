@@ -27,6 +27,7 @@ use crate::run::run_job;
 use auth_parts::enter_all;
 use auth_trees::Marks;
 use budget_meter::{Budget, Used};
+use code_cache::Cache;
 use contract_call::Host;
 use contract_storage::{Access, Storage, Touch};
 use entry_lookup::Ground;
@@ -144,6 +145,7 @@ fn run_recorded<G: Ground>(
     authority: &Authority<'_>,
     job: &Job<'_>,
     budget: Budget,
+    codes: Option<&Cache<'_>>,
 ) -> Result<Needs, NoMemory>
     requires spelled { IsSpelled job.now }
     requires hosted { AreHosted (datums (values_in job.now)) }
@@ -156,7 +158,15 @@ fn run_recorded<G: Ground>(
 {
     let storage = Storage::recording(alloc, ground, header.seq + 1, &header.settings);
     let marks = Marks::prepare(alloc, authority.entries, authority.source)?;
-    let mut host = Host::new(alloc, storage, header, budget, marks, authority.verdicts);
+    let mut host = Host::new(
+        alloc,
+        storage,
+        header,
+        budget,
+        marks,
+        authority.verdicts,
+        codes,
+    );
     let end = run_job(alloc, &mut host, job);
     needs_after(alloc, &host, &end)
 }
@@ -182,6 +192,7 @@ pub(crate) fn record<G: Ground>(
     instructions: u32,
     authority: &Authority<'_>,
     job: &Job<'_>,
+    codes: Option<&Cache<'_>>,
 ) -> Result<Needs, NoMemory>
     requires spelled { IsSpelled job.now }
     requires entries { All auth_entry_format.fits authority.now.entries.now }
@@ -193,7 +204,7 @@ pub(crate) fn record<G: Ground>(
 {
     let mut budget = budget_of(&header.settings, instructions);
     match enter_all(&mut budget, values(job)) {
-        Ok(()) => run_recorded(alloc, ground, header, authority, job, budget),
+        Ok(()) => run_recorded(alloc, ground, header, authority, job, budget, codes),
         Err(error) => not_entered(alloc, error, budget.spent()),
     }
 }

@@ -20,6 +20,7 @@ ghost use Rattle.tx_apply.specs.Simulating.{simulated_in};
 use crate::envelope::{TxDone, enforce};
 use crate::needs::{Needs, needed};
 use budget_meter::Used;
+use code_cache::Cache;
 use entry_lookup::Ground;
 use ledger_types::{Header, Verdicts};
 use std::alloc::Global;
@@ -67,16 +68,18 @@ fn with_footprint(mut envelope: Envelope, footprint: Footprint) -> Envelope
 /// Simulates an envelope over the entries of a ledger: finds the footprint that its transaction needs, and its effect with that
 /// footprint. The declared footprint of a call is not read.
 ///
-/// To find the footprint, a call runs once for each of its keys, once more for each key that it writes, and once with all of them.
-/// Then the envelope runs as in `enforce`.
+/// To find the footprint, a call runs once over a storage that allows every access and records the keys. Then the envelope runs as in
+/// `enforce`.
 ///
-/// `header` is that of the previous ledger, with the close time of the ledger that is being made.
-pub fn simulate<G: Ground>(
+/// `header` is that of the previous ledger, with the close time of the ledger that is being made. A code that `codes` has is loaded
+/// once for all runs. The result does not depend on `codes`.
+pub fn simulate_with<G: Ground>(
     alloc: Global,
     ground: &G,
     header: &Header,
     verdicts: &Verdicts,
     envelope: &Envelope,
+    codes: Option<&Cache<'_>>,
 ) -> Result<Simulated, NoMemory>
     requires fits { envelope_format.fits envelope.now }
     requires settings { IsTrue (are_settings header.now.settings) }
@@ -102,14 +105,44 @@ pub fn simulate<G: Ground>(
         header,
         verdicts,
         envelope.transaction(),
+        codes,
     )?;
     let again = footprint.clone()?;
     let envelope = with_footprint(envelope.clone()?, again);
-    let done = enforce(alloc, ground, header, verdicts, &envelope)?;
+    let done = enforce(alloc, ground, header, verdicts, &envelope, codes)?;
     Ok(Simulated {
         done,
         footprint,
         envelope,
         used,
     })
+}
+
+/// Simulates an envelope, as `simulate_with` does, without codes that are shared.
+pub fn simulate<G: Ground>(
+    alloc: Global,
+    ground: &G,
+    header: &Header,
+    verdicts: &Verdicts,
+    envelope: &Envelope,
+) -> Result<Simulated, NoMemory>
+    requires fits { envelope_format.fits envelope.now }
+    requires settings { IsTrue (are_settings header.now.settings) }
+    requires next { IsTrue (has_next header.now) }
+    ensures simulated { IfOk result (λ s. simulated_in s
+        ≡ simulated header.now verdicts.now (G.map ground.now) envelope.now) }
+    ensures within { IfOk result (λ s. IsWithin s.done) }
+    ensures footprint { IfOk result (λ s. footprint_format.fits s.footprint) }
+    ensures envelope { IfOk result (λ s. envelope_format.fits s.envelope) }
+    // On every map that agrees on the recorded keys, the same is enforced.
+    ensures enforced { IfOk result (λ s. (other : LedgerMap) → AgreeOn (declares s.envelope) (G.map ground.now) other
+        → enforced header.now verdicts.now other s.envelope ≡ effect_of s.done) }
+    // If a call succeeded, each smaller footprint traps there.
+    ensures smaller { IfOk result (λ s. (other : LedgerMap) (smaller : FootprintData)
+        → AgreeOn (declares s.envelope) (G.map ground.now) other
+        → has_preimage (outcome_in s.done.result.result.outcome) ≡ true → IsSmaller smaller s.footprint
+        → IsTrapped header.now (with_footprint_in smaller envelope.now)
+        (enforced header.now verdicts.now other (with_footprint_in smaller envelope.now))) }
+{
+    simulate_with(alloc, ground, header, verdicts, envelope, None)
 }

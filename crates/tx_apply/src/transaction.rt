@@ -19,6 +19,7 @@ use crate::checks::refusal_of;
 use crate::extend::{extensions, may_extend};
 use crate::footprint::{read_only_of, read_write_of};
 use crate::results::{TransactionDone, failed, nothing_used, one_result, without_effect};
+use code_cache::Cache;
 use entry_lookup::Ground;
 use invoke_types::HostFunction;
 use ledger_types::{Header, Verdicts};
@@ -72,6 +73,7 @@ fn call_with<G: Ground>(
     authority: &Authority<'_>,
     ext: &TransactionExt,
     function: &HostFunction,
+    codes: Option<&Cache<'_>>,
 ) -> Result<TransactionDone, NoMemory>
     requires function { host_function_format.fits function.now }
     requires entries { All auth_entry_format.fits authority.now.entries.now }
@@ -87,7 +89,7 @@ fn call_with<G: Ground>(
         // The checks reject a transaction without Soroban data.
         TransactionExt::None => Ok(without_effect(alloc, TransactionOutcome::Malformed)),
         TransactionExt::Soroban(resources) => {
-            call(alloc, ground, header, resources, authority, function)
+            call(alloc, ground, header, resources, authority, function, codes)
         }
     }
 }
@@ -100,6 +102,7 @@ fn perform<G: Ground>(
     verdicts: &Verdicts,
     tx: &Transaction,
     operation: &Operation,
+    codes: Option<&Cache<'_>>,
 ) -> Result<TransactionDone, NoMemory>
     requires body { body_format.fits operation.now.body }
     requires read_only { All (λ key. key_format.fits key) (footprint_of tx.now).read_only }
@@ -120,7 +123,15 @@ fn perform<G: Ground>(
             auth,
         } => {
             let authority = authority_of(verdicts, tx, operation.source, auth.as_slice());
-            call_with(alloc, ground, header, &authority, &tx.ext, host_function)
+            call_with(
+                alloc,
+                ground,
+                header,
+                &authority,
+                &tx.ext,
+                host_function,
+                codes,
+            )
         }
     }
 }
@@ -132,6 +143,7 @@ pub fn run_transaction<G: Ground>(
     header: &Header,
     verdicts: &Verdicts,
     tx: &Transaction,
+    codes: Option<&Cache<'_>>,
 ) -> Result<TransactionDone, NoMemory>
     requires fits { transaction_format.fits tx.now }
     requires settings { IsTrue (are_settings header.now.settings) }
@@ -144,6 +156,6 @@ pub fn run_transaction<G: Ground>(
     }
     match tx.operations.as_slice() {
         [] => Ok(without_effect(alloc, TransactionOutcome::MissingOperation)),
-        [operation, ..] => perform(alloc, ground, header, verdicts, tx, operation),
+        [operation, ..] => perform(alloc, ground, header, verdicts, tx, operation, codes),
     }
 }

@@ -15,7 +15,8 @@ use Rattle.wasm_spec.specs.Instances.{Ready, start_of}
 use Rattle.contract_call.specs.Running.{entered}
 use Rattle.contract_call.proofs.Calling.{env_later, around_begins, numbered_stays, stays_then, call_enters, target_enters, call_refused, start_ready, start_refused}
 use Rattle.contract_call.specs.Targets.{may_name, call_of, call_at}
-use Rattle.contract_call.specs.Made.{authorising}
+use Rattle.contract_call.specs.Made.{authorising, constructing}
+use Rattle.call_spec.specs.Found.{with_start}
 use Rattle.value_types.specs.declared.value.ScVal.{ScVal}
 use Rattle.std.specs.Prelude.{Vec}
 use Rattle.std.specs.declared.alloc.Global.{Global}
@@ -79,7 +80,13 @@ pub call_target-returns-in-Ok-clause-does : goal.call_target-returns-in-Ok-claus
 call_target-returns-in-Ok-clause-does g t c =
     target_enters c.args.room c.args.call c.args.found c.running-frame.result c.in-Ok.place c.enter.result c.args.host.now c.enter.new.host c.args.path.items
     (subst (λ (vs : List ScVal). IsNewPlace c.in-Ok.place c.args.call.function.now vs c.args.path.items) c.as_slice.ensures.value c.in-Ok.ensures.ok) c.running-frame.ensures.contract c.running-frame.ensures.caller
-    c.running-frame.ensures.copy c.enter.ensures.does
+    c.running-frame.ensures.copy
+    (subst
+    (λ (m : Module). DoesAround c.enter.result datum
+    (λ env. with_start (start_of m c.in-Ok.place.function.items (length (datums c.args.call.args.items)))
+    (λ index store. framed env (host_of env (opener_of env c.args.room)) (entered c.running-frame.result c.in-Ok.place.function.items (datums c.args.call.args.items) c.in-Ok.place.path.items m index store)))
+    c.args.host.now c.enter.new.host)
+    c.linked.ensures c.enter.ensures.does)
 
 pub enter-returns-in-Ok-clause-does : goal.enter-returns-in-Ok-clause-does
 enter-returns-in-Ok-clause-does g t c =
@@ -385,7 +392,11 @@ construct-returns-in-Ok-clause-does g t c =
 pub build-returns-in-Ok-clause-does : goal.build-returns-in-Ok-clause-does
 build-returns-in-Ok-clause-does g t c =
     builds_does c.args.room (option_map address_of c.args.creator) (creation_of c.args.contract) c.args.path.items c.args.id c.in-Ok.module c.construct.result c.args.host.now c.made.new.host c.construct.new.host c.in-Ok.ensures.stays
-    c.in-Ok.ensures.does c.construct.ensures.does
+    c.in-Ok.ensures.does
+    (subst
+    (λ (m : Module). DoesAround c.construct.result (λ id. id)
+    (λ env. constructing (opener_of env c.args.room) (option_map address_of c.args.creator) c.args.id (creation_of c.args.contract) c.args.path.items m) c.made.new.host c.construct.new.host)
+    c.linked.ensures c.construct.ensures.does)
 
 pub build-returns-in-Err-clause-does : goal.build-returns-in-Err-clause-does
 build-returns-in-Err-clause-does g t c =

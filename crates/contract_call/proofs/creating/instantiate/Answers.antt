@@ -1,8 +1,8 @@
 use Rattle.contract_call.proofs.Constructing.{instantiated, instance_failed}
 use Rattle.contract_call.proofs.creating.instantiate.Goals as goal
 
-pub returns-in-Ok-clause-does : goal.returns-in-Ok-clause-does
-returns-in-Ok-clause-does g c =
+pub returns-clause-does : goal.returns-clause-does
+returns-clause-does g c =
     instantiated c.paid_module.result c.args.id c.args.hash c.args.length c.args.module c.args.storage.now c.make_instance.new.storage c.args.budget.now c.make_instance.new.budget c.paid_module.new.budget c.make_instance.ensures.later
     c.in-Ok.ensures.does c.paid_module.ensures
 

@@ -1,0 +1,7 @@
+//! Finds the codes that the transactions of a stage share.
+#![tactic(auto)]
+
+mod found;
+mod stage;
+
+pub use stage::{cluster_codes, stage_codes};
