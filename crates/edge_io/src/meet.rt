@@ -1,62 +1,65 @@
-//! A gate at which two clusters of transactions meet.
+//! A gate at which clusters of transactions meet.
 
 use crate::gate::Gate;
-use std::sync::atomic::{AtomicBool, Ordering};
+use std::sync::atomic::{AtomicU64, Ordering};
 use std::thread::yield_now;
-
-/// How often a cluster looks for the other one.
-const TURNS: u32 = 100_000_000;
 
 /// After this many looks the thread lets other threads run, so that two threads also meet on one processor.
 const LOOKS: u32 = 1_000;
 
-/// A gate for tests: it holds each of clusters 0 and 1 until the other one has entered, for at most 100,000,000 turns. Other
-/// clusters enter at once. One gate serves one stage.
+/// A gate for tests, at which clusters of a stage meet: it holds each of them until all have entered, for at most so many turns.
+/// Other clusters enter at once. One gate serves one stage.
 #[derive(Drop)]
 pub struct MeetGate {
-    first_entered: AtomicBool,
-    second_entered: AtomicBool,
-    first_met: AtomicBool,
-    second_met: AtomicBool,
+    expected: u64,
+    turns: u32,
+    entered: AtomicU64,
+    met: AtomicU64,
+}
+
+/// Returns the bit of a cluster, or 0 if its index is above 63.
+fn bit_of(cluster: usize) -> u64 {
+    if cluster < 64 { 1 << cluster } else { 0 }
 }
 
 impl MeetGate {
-    /// Makes a gate that no cluster has entered.
-    pub fn new() -> MeetGate {
+    /// Makes a gate that no cluster has entered. The clusters that meet are those whose bits `expected` has: bit n is that of the
+    /// cluster at index n.
+    pub fn new(expected: u64, turns: u32) -> MeetGate {
         MeetGate {
-            first_entered: AtomicBool::new(false),
-            second_entered: AtomicBool::new(false),
-            first_met: AtomicBool::new(false),
-            second_met: AtomicBool::new(false),
+            expected,
+            turns,
+            entered: AtomicU64::new(0),
+            met: AtomicU64::new(0),
         }
     }
 
-    /// Whether each of the two clusters saw the other one enter before its turns were spent.
+    /// Whether each of the clusters saw that all had entered, before its turns were spent.
     pub fn met(&self) -> bool {
-        self.first_met.load(Ordering::SeqCst) && self.second_met.load(Ordering::SeqCst)
+        self.met.load(Ordering::SeqCst) == self.expected
     }
-}
 
-/// Enters as one of two, and waits for the other one.
-fn meet(mine: &AtomicBool, other: &AtomicBool, met: &AtomicBool) {
-    mine.store(true, Ordering::SeqCst);
-    for turn in 0..TURNS {
-        if other.load(Ordering::SeqCst) {
-            met.store(true, Ordering::SeqCst);
-            return;
-        }
-        if turn % LOOKS == 0 {
-            yield_now();
-        }
+    /// Whether all clusters that meet have entered.
+    fn all_entered(&self) -> bool {
+        self.entered.load(Ordering::SeqCst) == self.expected
     }
 }
 
 impl Gate for MeetGate {
     fn enter(&self, _stage: usize, cluster: usize) {
-        match cluster {
-            0 => meet(&self.first_entered, &self.second_entered, &self.first_met),
-            1 => meet(&self.second_entered, &self.first_entered, &self.second_met),
-            _ => {}
+        let bit = bit_of(cluster) & self.expected;
+        if bit == 0 {
+            return;
+        }
+        self.entered.fetch_or(bit, Ordering::SeqCst);
+        for turn in 0..self.turns {
+            if self.all_entered() {
+                self.met.fetch_or(bit, Ordering::SeqCst);
+                return;
+            }
+            if turn % LOOKS == 0 {
+                yield_now();
+            }
         }
     }
 }

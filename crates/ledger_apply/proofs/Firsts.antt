@@ -31,3 +31,10 @@ first_at stages i item a b key lt is before least = record {
 -- the clusters of the stages that are listed for a set
 pub clusters_listed : (stages : List SetStage) (in_set : List SetOfClusters) → map stage_of stages ≡ in_set → clusters_of stages ≡ map clusters_in in_set
 clusters_listed stages in_set e = sym (map-map clusters_in stage_of stages) ∙ ap (map clusters_in) e
+
+-- a stage of stages without a conflict
+pub free_at : (stages : List SetStage) (i : ℕ) (item : SetStage) → i < length stages → item ≡ get_or stages i item
+    → AllByRecursion HasNoConflict (clusters_of stages) → HasNoConflict (clusters_in (stage_of item))
+free_at [] i item lt is h = absurd (omega arith)
+free_at (s ∷ stages) zero item lt is h = subst (λ (t : SetStage). HasNoConflict (clusters_in (stage_of t))) (sym is) h.0
+free_at (s ∷ stages) (suc i) item lt is h = free_at stages i item (omega arith) is h.1

@@ -6,3 +6,10 @@ pub mod Written
 pub mod Spelling
 pub mod Firsts
 pub mod Merging
+pub mod Moved
+pub mod Cutting
+pub mod Jobs
+pub mod Back
+pub mod Crosses
+pub mod Searching
+pub mod Steps

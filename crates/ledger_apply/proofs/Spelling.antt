@@ -28,6 +28,9 @@ use Rattle.ledger_apply.proofs.Lists.{recursion_append, all_also}
 pub written_spelled : (envelope : Envelope) → envelope_format.fits envelope → All (λ key. key_format.fits key) (declared_by envelope).read_write
 written_spelled envelope h = (declared_spelled (transaction_in envelope) (transaction_in_fits envelope h)).1
 
+pub read_spelled : (envelope : Envelope) → envelope_format.fits envelope → All (λ key. key_format.fits key) (declared_by envelope).read_only
+read_spelled envelope h = (declared_spelled (transaction_in envelope) (transaction_in_fits envelope h)).0
+
 declares_spelled : (envelope : Envelope) → envelope_format.fits envelope → plan.DeclaresSpelled envelope
 declares_spelled envelope h =
     let both = declared_spelled (transaction_in envelope) (transaction_in_fits envelope h) in
@@ -35,6 +38,9 @@ declares_spelled envelope h =
 
 cluster_declares : (cluster : Cluster) → IsCluster cluster → plan.IsCluster cluster.envelopes
 cluster_declares cluster h = all_also (λ e. envelope_format.fits e) plan.DeclaresSpelled cluster.envelopes declares_spelled h
+
+pub component_declares : (component : Component) → IsComponent component → plan.IsCluster component.envelopes
+component_declares component h = all_also (λ e. envelope_format.fits e) plan.DeclaresSpelled component.envelopes declares_spelled h
 
 pub stage_declares : (stage : Stage) → IsStage stage → plan.IsStage stage
 stage_declares stage h = all_also IsCluster (λ c. plan.IsCluster c.envelopes) stage.clusters cluster_declares h
@@ -48,9 +54,13 @@ weaker P Q (x ∷ xs) f h = (f x h.0, weaker P Q xs f h.1)
 all_weaker : {A : Type 0} (P Q : A → Type 0) (xs : List A) → ((x : A) → P x → Q x) → AllByRecursion P xs → All Q xs
 all_weaker P Q xs f h = All-from_recursion Q xs (weaker P Q xs f h)
 
+-- a component is a stage of one cluster
+pub one_cluster : (component : Component) → IsComponent component → IsStage (component_stage component)
+one_cluster component h = All-from_recursion IsCluster (component_stage component).clusters (h, tt)
+
 component_spelled : (component : Component) → component_format.fits component → IsStage (component_stage component)
 unfolding component_format list
-component_spelled component h = All-from_recursion IsCluster (component_stage component).clusters (All-from_recursion envelope_format.fits component.envelopes h.1.2, tt)
+component_spelled component h = one_cluster component (All-from_recursion envelope_format.fits component.envelopes h.1.2)
 
 -- the only cluster of a component
 pub component_in : (component : Component) → IsStage (component_stage component) → IsComponent component

@@ -1,4 +1,3 @@
-pub mod Seen
 pub mod Reports
 pub mod Pending
 pub mod State
@@ -6,3 +5,5 @@ pub mod Spelled
 pub mod Stages
 pub mod Refused
 pub mod Final
+pub mod Job
+pub mod Search

@@ -1,5 +1,5 @@
 -- The state of the code in the terms of the definitions (own).
-use Rattle.std.specs.Prelude.{List, [], ◌++◌, All}
+use Rattle.std.specs.Prelude.{List, [], All}
 use Rattle.std.specs.List.{flat_map}
 use Rattle.ledger_types.specs.Key.{key_format}
 use Rattle.ledger_spec.specs.LedgerMap.{LedgerMap}
@@ -27,10 +27,6 @@ pending_of done = flat_map (λ d. d.pending.items) done
 -- the reports of clusters, in their order
 abbrev pub reports_of : List ClusterDone → List Reported
 reports_of done = flat_map (λ d. d.reports) done
-
--- the clusters of a stage that ran, joined to what was reported before the stage
-abbrev pub stage_in : LedgerMap → List Reported → List ClusterDone → RunState
-stage_in entries before done = record { entries = entries; pending = pending_of done; results = before ++ reports_of done }
 
 -- the keys of the pending extensions are within their XDR format
 abbrev pub IsKeyed : ClusterDone → Type 0

@@ -4,15 +4,16 @@ ghost use Rattle.std.specs.Prelude.{◌≡◌, IfOk, IsTrue};
 ghost use Rattle.ledger_spec.specs.LedgerFile.{are_settings, has_next};
 ghost use Rattle.stage_runs.specs.Runs.{run_all as run_all_in, run_cluster as run_cluster_in};
 ghost use Rattle.apply_spec.specs.Enforced.{enforced};
-ghost use Rattle.ledger_apply.specs.Seen.{shown_step};
+ghost use Rattle.ledger_parts.specs.Shown.{shown_step};
 ghost use Rattle.ledger_apply.specs.State.{running_in, done_in, IsKeyed};
 ghost use Rattle.ledger_apply.specs.Spelled.{AreEnvelopes};
 
-use crate::entries::Entries;
 use crate::pending::Pending;
 use crate::reports::Reports;
 use crate::running::{ClusterDone, ClusterRun};
 use crate::step::run_transaction;
+use code_cache::Cache;
+use ledger_parts::Entries;
 use ledger_types::{Header, Verdicts};
 use std::alloc::Global;
 use tx_xdr::Envelope;
@@ -26,6 +27,7 @@ fn run_all<E: Entries>(
     verdicts: &Verdicts,
     running: ClusterRun,
     envelopes: &[Envelope],
+    codes: Option<&Cache<'_>>,
 ) -> Result<ClusterRun, NoMemory>
     requires fits { AreEnvelopes envelopes.now }
     requires settings { IsTrue (are_settings header.now.settings) }
@@ -37,20 +39,22 @@ fn run_all<E: Entries>(
 {
     let mut running = running;
     for envelope in envelopes {
-        running = run_transaction(alloc, entries, header, verdicts, running, envelope)?;
+        running = run_transaction(alloc, entries, header, verdicts, running, envelope, codes)?;
     }
     Ok(running)
 }
 
 /// Runs a cluster: its transactions in their order, on the entries. It starts without pending extensions.
 ///
-/// `header` is that of the previous ledger, with the close time of the ledger that is being made.
+/// `header` is that of the previous ledger, with the close time of the ledger that is being made. A code that `codes` has is loaded
+/// where it is first needed, and kept. The result does not depend on `codes`.
 pub fn run_cluster<E: Entries>(
     alloc: Global,
     entries: &mut E,
     header: &Header,
     verdicts: &Verdicts,
     envelopes: &[Envelope],
+    codes: Option<&Cache<'_>>,
 ) -> Result<ClusterDone, NoMemory>
     requires fits { AreEnvelopes envelopes.now }
     requires settings { IsTrue (are_settings header.now.settings) }
@@ -68,7 +72,7 @@ pub fn run_cluster<E: Entries>(
         reports,
     };
     let ClusterRun { pending, reports } = run_all(
-        alloc, entries, header, verdicts, running, envelopes,
+        alloc, entries, header, verdicts, running, envelopes, codes,
     )?;
     Ok(ClusterDone {
         pending: pending.into_vec(alloc)?,

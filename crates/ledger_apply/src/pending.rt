@@ -7,7 +7,7 @@ ghost use Rattle.ledger_spec.specs.LedgerMap.{key_bytes};
 ghost use Rattle.stage_runs.specs.Runs.{put_all_in};
 ghost use Rattle.ledger_apply.specs.Pending.{has_bytes, is_awaited as is_awaited_in};
 
-use crate::entries::Entries;
+use ledger_parts::Entries;
 use ledger_types::LedgerKey;
 use stage_runs::Extension;
 use std::alloc::Global;

@@ -13,19 +13,19 @@ ghost use Rattle.stage_runs.specs.Runs.{run_stage as run_stage_in, run_set as ru
 ghost use Rattle.apply_spec.specs.Enforced.{enforced};
 ghost use Rattle.apply_spec.specs.Outputs.{results_of, preimages_of};
 ghost use Rattle.apply_spec.specs.Runs.{run_set, new_header};
-ghost use Rattle.ledger_apply.specs.Seen.{shown_step};
 ghost use Rattle.ledger_apply.specs.State.{between};
 ghost use Rattle.ledger_apply.specs.Stages.{stage_of, clusters_of, IsSpelled};
 ghost use Rattle.ledger_apply.specs.Final.{run_stages_over};
 ghost use Rattle.ledger_apply.specs.Refused.{IsConflictUnlessMemory};
 
 use crate::conflict::first_conflict;
-use crate::entries::Entries;
 use crate::error::ApplyErr;
 use crate::reports::Reports;
 use crate::stage::{run_component, run_stage};
 use crate::stages::{SetStage, stages_of};
+use crate::workers::Workers;
 use edge_io::Gate;
+use entry_map::EntryMap;
 use invoke_types::SuccessPreimage;
 use ledger_file::Ledger;
 use ledger_types::{Header, Verdicts};
@@ -45,35 +45,39 @@ pub struct Applied {
     pub successes: Items<Option<SuccessPreimage>, 4294967295>,
 }
 
-/// Runs one stage of a set.
-fn run_one<E: Entries>(
+/// Runs one stage of a set. `index` is its index in the set.
+fn run_one<R: Threads + Sync, T: Gate + Sync>(
+    workers: &Workers<'_, R, T>,
     alloc: Global,
-    entries: &mut E,
+    entries: &mut EntryMap,
     header: &Header,
     verdicts: &Verdicts,
     reports: &mut Reports,
+    index: usize,
     stage: SetStage<'_>,
 ) -> Result<(), NoMemory>
     requires fits { IsSpelled stage }
     requires settings { IsTrue (are_settings header.now.settings) }
     requires next { IsTrue (has_next header.now) }
-    ensures run { OnOk result (between (E.own entries.new) reports.new
-        ≡ run_stage_in (shown_step (E.shown entries.old) (enforced header.now verdicts.now))
-        (between (E.own entries.old) reports.old) (clusters_in (stage_of stage.entry))) }
-    ensures shown { OnOk result (E.shown entries.new ≡ E.shown entries.old) }
+    requires free { HasNoConflict (clusters_in (stage_of stage)) }
+    ensures { OnOk result (between entries.new reports.new
+        ≡ run_stage_in (enforced header.now verdicts.now) (between entries.old reports.old) (clusters_in (stage_of stage.entry))) }
 {
     match stage {
-        SetStage::Component(component) => {
-            run_component(alloc, entries, header, verdicts, reports, component)
-        }
-        SetStage::Parallel(stage) => run_stage(alloc, entries, header, verdicts, reports, stage),
+        SetStage::Component(component) => run_component(
+            workers, alloc, entries, header, verdicts, reports, index, component,
+        ),
+        SetStage::Parallel(stage) => run_stage(
+            workers, alloc, entries, header, verdicts, reports, index, stage,
+        ),
     }
 }
 
 /// Runs stages in their order.
-fn run_stages<E: Entries>(
+fn run_stages<R: Threads + Sync, T: Gate + Sync>(
+    workers: &Workers<'_, R, T>,
     alloc: Global,
-    entries: &mut E,
+    entries: &mut EntryMap,
     header: &Header,
     verdicts: &Verdicts,
     reports: &mut Reports,
@@ -82,19 +86,21 @@ fn run_stages<E: Entries>(
     requires fits { All IsSpelled stages.now }
     requires settings { IsTrue (are_settings header.now.settings) }
     requires next { IsTrue (has_next header.now) }
-    ensures run { OnOk result (between (E.own entries.new) reports.new
-        ≡ run_stages_in (shown_step (E.shown entries.old) (enforced header.now verdicts.now))
-        (between (E.own entries.old) reports.old) (clusters_of stages.now)) }
-    ensures shown { OnOk result (E.shown entries.new ≡ E.shown entries.old) }
+    requires free { AllByRecursion HasNoConflict (clusters_of stages.now) }
+    ensures { OnOk result (between entries.new reports.new
+        ≡ run_stages_in (enforced header.now verdicts.now) (between entries.old reports.old) (clusters_of stages.now)) }
 {
-    for stage in stages {
-        run_one(alloc, entries, header, verdicts, reports, *stage)?;
+    for (index, stage) in stages.iter().enumerate() {
+        run_one(
+            workers, alloc, entries, header, verdicts, reports, index, *stage,
+        )?;
     }
     Ok(())
 }
 
 /// Runs the stages of a set over a ledger, and makes the new ledger's header.
-fn run_on(
+fn run_on<R: Threads + Sync, T: Gate + Sync>(
+    workers: &Workers<'_, R, T>,
     alloc: Global,
     ledger: Ledger,
     close_time: u64,
@@ -104,6 +110,7 @@ fn run_on(
     requires fits { All IsSpelled stages.now }
     requires settings { IsTrue (are_settings ledger.header.settings) }
     requires next { IsTrue (has_next ledger.header) }
+    requires free { AllByRecursion HasNoConflict (clusters_of stages.now) }
     ensures header { IfOk result (λ a. a.ledger.header ≡ new_header ledger.header close_time) }
     ensures entries { IfOk result (λ a. a.ledger.entries ≡ (run_stages_over ledger.header verdicts.now ledger.entries
         (clusters_of stages.now) close_time).entries) }
@@ -116,16 +123,25 @@ fn run_on(
     ensures each { IfOk result (λ a. length a.successes ≡ length a.results.pairs) }
     ensures preimages { IfOk result (λ a. HavePreimages a.results.pairs a.successes) }
 {
-    let mut ledger = ledger;
-    let header = ledger.header;
+    let Ledger {
+        header,
+        mut entries,
+    } = ledger;
     let running = Header {
         close_time,
         ..header
     };
     let mut reports = Reports::new(alloc);
-    run_stages(alloc, &mut ledger, &running, verdicts, &mut reports, stages)?;
+    run_stages(
+        workers,
+        alloc,
+        &mut entries,
+        &running,
+        verdicts,
+        &mut reports,
+        stages,
+    )?;
     let (results, successes) = reports.into_parts();
-    let Ledger { entries, .. } = ledger;
     Ok(Applied {
         ledger: Ledger {
             header: Header {
@@ -141,17 +157,19 @@ fn run_on(
 
 /// Applies a set to a ledger, unless two clusters of one of its stages conflict. All stages are tested before anything runs.
 ///
-/// `close_time` is that of the new ledger, in seconds since 1970. One thread runs the set, whatever the number of workers, and the
-/// gate is not entered.
+/// `close_time` is that of the new ledger, in seconds since 1970. The clusters of a stage go to the workers in runs of
+/// ceil(clusters / workers) clusters that follow one another. A worker enters the gate before each cluster. The stages run one after
+/// the other, and the outcome is the same for every number of workers. The workers look for the conflicts, too, if there are many
+/// stages.
 pub fn apply_set<'a, R: Threads + Sync, T: Gate + Sync>(
-    _rt: &R,
+    rt: &R,
     alloc: Global,
     ledger: Ledger,
     set: &'a TxSet,
     close_time: u64,
     verdicts: &Verdicts,
     workers: usize,
-    _gate: &T,
+    gate: &T,
 ) -> Result<Applied, ApplyErr<'a>>
     requires fits { set_format.fits set.now }
     requires settings { IsTrue (are_settings ledger.header.settings) }
@@ -176,15 +194,19 @@ pub fn apply_set<'a, R: Threads + Sync, T: Gate + Sync>(
     ensures each { IfOk result (λ a. length a.successes ≡ length a.results.pairs) }
     ensures preimages { IfOk result (λ a. HavePreimages a.results.pairs a.successes) }
 {
-    let _workers = workers;
     let stages = stages_of(alloc, set)?;
-    if let Some(conflict) = first_conflict(alloc, &stages)? {
+    let workers = Workers {
+        rt,
+        count: workers,
+        gate,
+    };
+    if let Some(conflict) = first_conflict(&workers, alloc, &stages)? {
         return Err(ApplyErr::Conflict {
             stage: conflict.stage,
             found: conflict.found,
             ledger,
         });
     }
-    let applied = run_on(alloc, ledger, close_time, verdicts, &stages)?;
+    let applied = run_on(&workers, alloc, ledger, close_time, verdicts, &stages)?;
     Ok(applied)
 }

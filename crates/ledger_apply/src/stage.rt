@@ -1,75 +1,51 @@
 //! Runs stages.
 
-ghost use Rattle.std.specs.Prelude.{◌≡◌, ◌++◌, List, All, IfOk, OnOk, IsTrue, map};
+ghost use Rattle.std.specs.Prelude.{◌≡◌, ◌++◌, All, OnOk, IsTrue, map};
 ghost use Rattle.ledger_spec.specs.LedgerFile.{are_settings, has_next};
-ghost use Rattle.stage_runs.specs.Runs.{Reported, put_all_in, run_clusters as run_clusters_in, run_stage as run_stage_in, clusters_in};
+ghost use Rattle.stage_runs.specs.Runs.{put_all_in, ended, run_stage as run_stage_in, clusters_in, HasNoConflict};
+ghost use Rattle.stage_runs.specs.Parts.{owns_back};
+ghost use Rattle.ledger_parts.specs.Cut.{runs_over};
 ghost use Rattle.apply_spec.specs.Enforced.{enforced};
 ghost use Rattle.tx_xdr.specs.Stages.{component_stage};
-ghost use Rattle.ledger_apply.specs.Seen.{shown_step};
-ghost use Rattle.ledger_apply.specs.State.{between, stage_in, pending_of, reports_of, IsKeyed};
-ghost use Rattle.ledger_apply.specs.Spelled.{IsCluster, IsStage, IsComponent};
+ghost use Rattle.ledger_apply.specs.State.{between, pending_of, reports_of, IsKeyed};
+ghost use Rattle.ledger_apply.specs.Spelled.{IsStage, IsComponent};
+ghost use Rattle.ledger_apply.specs.Stages.{stage_of, IsSpelled};
+ghost use Rattle.ledger_apply.specs.Job.{cluster_of, own_of, IsCut, AreMoved};
 
-use crate::cluster::run_cluster;
-use crate::entries::{Entries, put_all};
+use crate::entries::put_all;
+use crate::job::Job;
+use crate::parts::{cut, cut_one, put_back, work_through};
 use crate::reports::Reports;
 use crate::running::ClusterDone;
+use crate::stages::SetStage;
+use crate::workers::Workers;
+use edge_io::Gate;
+use entry_map::EntryMap;
 use ledger_types::{Header, Verdicts};
 use std::alloc::Global;
-use tx_xdr::{Cluster, Component, Stage};
+use std::thread::Threads;
+use tx_xdr::{Component, Stage};
 use xdr_core::NoMemory;
 
-/// Counts the transactions of clusters. More than 2^64 - 1 count as 2^64 - 1.
-fn count_envelopes(clusters: &[Cluster]) -> usize {
+/// Counts the transactions of jobs. More than 2^64 - 1 count as 2^64 - 1.
+fn count_envelopes(jobs: &[Job<'_>]) -> usize {
     let mut count: usize = 0;
-    for cluster in clusters {
-        count = count.saturating_add(cluster.envelopes.as_slice().len());
+    for job in jobs {
+        count = count.saturating_add(job.envelopes.len());
     }
     count
 }
 
-/// Runs the clusters of a stage in order, and returns what they leave beside the entries.
-fn run_clusters<E: Entries>(
-    alloc: Global,
-    entries: &mut E,
-    header: &Header,
-    verdicts: &Verdicts,
-    clusters: &[Cluster],
-) -> Result<Vec<ClusterDone>, NoMemory>
-    requires fits { All IsCluster clusters.now }
-    requires settings { IsTrue (are_settings header.now.settings) }
-    requires next { IsTrue (has_next header.now) }
-    // The state of the stage, whatever was reported before it.
-    ensures run { IfOk result (λ done. (before : List Reported) → stage_in (E.own entries.new) before done.items
-        ≡ run_clusters_in (shown_step (E.shown entries.old) (enforced header.now verdicts.now))
-        (between (E.own entries.old) before) (map (λ c. c.envelopes) clusters.now)) }
-    ensures keyed { IfOk result (λ done. All IsKeyed done.items) }
-    ensures shown { IfOk result (λ _. E.shown entries.new ≡ E.shown entries.old) }
-{
-    let mut done = Vec::with_capacity(alloc, clusters.len())?;
-    for cluster in clusters {
-        let one = run_cluster(
-            alloc,
-            entries,
-            header,
-            verdicts,
-            cluster.envelopes.as_slice(),
-        )?;
-        done.push(one)?;
-    }
-    Ok(done)
-}
-
 /// Ends a stage: puts in all pending extensions, and adds the reports in the order of the clusters. If there is room for the
 /// reports, it takes no memory.
-fn end_stage<E: Entries>(
-    entries: &mut E,
+pub fn end_stage(
+    entries: &mut EntryMap,
     reports: &mut Reports,
     done: Vec<ClusterDone>,
 ) -> Result<(), NoMemory>
     requires { All IsKeyed done.items }
-    ensures entries { OnOk result (E.own entries.new ≡ put_all_in (E.own entries.old) (pending_of done.items)) }
+    ensures entries { OnOk result (entries.new ≡ put_all_in entries.old (pending_of done.items)) }
     ensures reports { OnOk result (reports.new ≡ reports.old ++ reports_of done.items) }
-    ensures shown { OnOk result (E.shown entries.new ≡ E.shown entries.old) }
 {
     for one in done {
         put_all(entries, &one.pending);
@@ -78,49 +54,103 @@ fn end_stage<E: Entries>(
     Ok(())
 }
 
-/// Runs a stage: its clusters in order, and then its end. Room for their reports is made before they run.
-pub fn run_stage<E: Entries>(
+/// Runs the parts that were cut out of the entries, puts them back, and ends the stage. Room for what the clusters leave is made
+/// before they run.
+fn run_parts<R: Threads + Sync, T: Gate + Sync>(
+    workers: &Workers<'_, R, T>,
     alloc: Global,
-    entries: &mut E,
+    entries: &mut EntryMap,
     header: &Header,
     verdicts: &Verdicts,
     reports: &mut Reports,
+    index: usize,
+    stage: SetStage<'_>,
+    parts: Vec<Job<'_>>,
+) -> Result<(), NoMemory>
+    requires spelled { IsSpelled stage }
+    requires same { map cluster_of parts.items ≡ clusters_in (stage_of stage) }
+    requires settings { IsTrue (are_settings header.now.settings) }
+    requires next { IsTrue (has_next header.now) }
+    requires cut { All IsCut parts.items }
+    requires moved { AreMoved entries.old parts.items }
+    ensures { OnOk result (between entries.new reports.new
+        ≡ ended (owns_back (between entries.old reports.old) (runs_over (enforced header.now verdicts.now) entries.old
+        (map own_of parts.entry.items) (map cluster_of parts.entry.items)))) }
+{
+    reports.reserve(count_envelopes(&parts))?;
+    let room = Vec::with_capacity(alloc, parts.len())?;
+    let jobs = work_through(
+        workers, alloc, entries, header, verdicts, index, stage, parts,
+    )?;
+    let done = put_back(entries, room, jobs)?;
+    end_stage(entries, reports, done)?;
+    Ok(())
+}
+
+/// Runs a stage without a conflict: its clusters by workers, each on its part of the entries, and then its end. `index` is that of
+/// the stage in its set.
+pub fn run_stage<R: Threads + Sync, T: Gate + Sync>(
+    workers: &Workers<'_, R, T>,
+    alloc: Global,
+    entries: &mut EntryMap,
+    header: &Header,
+    verdicts: &Verdicts,
+    reports: &mut Reports,
+    index: usize,
     stage: &Stage,
 ) -> Result<(), NoMemory>
     requires fits { IsStage stage.now }
     requires settings { IsTrue (are_settings header.now.settings) }
     requires next { IsTrue (has_next header.now) }
-    ensures run { OnOk result (between (E.own entries.new) reports.new
-        ≡ run_stage_in (shown_step (E.shown entries.old) (enforced header.now verdicts.now))
-        (between (E.own entries.old) reports.old) (clusters_in stage.now)) }
-    ensures shown { OnOk result (E.shown entries.new ≡ E.shown entries.old) }
+    requires free { HasNoConflict (clusters_in stage.now) }
+    ensures { OnOk result (between entries.new reports.new
+        ≡ run_stage_in (enforced header.now verdicts.now) (between entries.old reports.old) (clusters_in stage.now)) }
 {
-    let clusters = stage.clusters.as_slice();
-    reports.reserve(count_envelopes(clusters))?;
-    let done = run_clusters(alloc, entries, header, verdicts, clusters)?;
-    end_stage(entries, reports, done)
+    let parts = cut(alloc, entries, stage.clusters.as_slice())?;
+    run_parts(
+        workers,
+        alloc,
+        entries,
+        header,
+        verdicts,
+        reports,
+        index,
+        SetStage::Parallel(stage),
+        parts,
+    )?;
+    Ok(())
 }
 
-/// Runs a component: a stage of one cluster.
-pub fn run_component<E: Entries>(
+/// Runs a component: a stage of one cluster. `index` is that of the stage in its set.
+pub fn run_component<R: Threads + Sync, T: Gate + Sync>(
+    workers: &Workers<'_, R, T>,
     alloc: Global,
-    entries: &mut E,
+    entries: &mut EntryMap,
     header: &Header,
     verdicts: &Verdicts,
     reports: &mut Reports,
+    index: usize,
     component: &Component,
 ) -> Result<(), NoMemory>
     requires fits { IsComponent component.now }
     requires settings { IsTrue (are_settings header.now.settings) }
     requires next { IsTrue (has_next header.now) }
-    ensures run { OnOk result (between (E.own entries.new) reports.new
-        ≡ run_stage_in (shown_step (E.shown entries.old) (enforced header.now verdicts.now))
-        (between (E.own entries.old) reports.old) (clusters_in (component_stage component.now))) }
-    ensures shown { OnOk result (E.shown entries.new ≡ E.shown entries.old) }
+    ensures { OnOk result (between entries.new reports.new
+        ≡ run_stage_in (enforced header.now verdicts.now) (between entries.old reports.old) (clusters_in (component_stage component.now))) }
 {
-    let envelopes = component.envelopes.as_slice();
-    reports.reserve(envelopes.len())?;
-    let done = run_cluster(alloc, entries, header, verdicts, envelopes)?;
-    put_all(entries, &done.pending);
-    reports.append(done.reports)
+    let part = cut_one(alloc, entries, component.envelopes.as_slice())?;
+    let mut parts = Vec::with_capacity(alloc, 1)?;
+    parts.push(part)?;
+    run_parts(
+        workers,
+        alloc,
+        entries,
+        header,
+        verdicts,
+        reports,
+        index,
+        SetStage::Component(component),
+        parts,
+    )?;
+    Ok(())
 }

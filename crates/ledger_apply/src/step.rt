@@ -6,12 +6,14 @@ ghost use Rattle.tx_xdr.specs.Envelope.{envelope_format};
 ghost use Rattle.stage_runs.specs.Runs.{after as after_in, is_written, put_all_in, run_transaction as run_transaction_in};
 ghost use Rattle.apply_spec.specs.Enforced.{enforced};
 ghost use Rattle.tx_apply.specs.Done.{effect_of, IsWithin};
-ghost use Rattle.ledger_apply.specs.Seen.{shown_step};
+ghost use Rattle.ledger_parts.specs.Shown.{shown_step};
 ghost use Rattle.ledger_apply.specs.State.{running_in};
 
-use crate::entries::{Entries, change_all};
+use crate::entries::change_all;
 use crate::pending::Pending;
 use crate::running::ClusterRun;
+use code_cache::Cache;
+use ledger_parts::Entries;
 use ledger_types::{Header, Verdicts};
 use std::alloc::Global;
 use tx_apply::{TxDone, enforce, read_write_of};
@@ -64,7 +66,7 @@ fn after<E: Entries>(
 ///
 /// Before it runs, the pending extensions of its read-write keys are put in, even if it fails. Its changes are made at once. Its own
 /// extensions are pending afterwards. For each of its keys this takes O(log n) comparisons, where n is the number of entries and of
-/// pending keys.
+/// pending keys. A code that `codes` has is loaded where it is first needed, and kept. The result does not depend on `codes`.
 pub fn run_transaction<E: Entries>(
     alloc: Global,
     entries: &mut E,
@@ -72,6 +74,7 @@ pub fn run_transaction<E: Entries>(
     verdicts: &Verdicts,
     running: ClusterRun,
     envelope: &Envelope,
+    codes: Option<&Cache<'_>>,
 ) -> Result<ClusterRun, NoMemory>
     requires fits { envelope_format.fits envelope.now }
     requires settings { IsTrue (are_settings header.now.settings) }
@@ -83,6 +86,6 @@ pub fn run_transaction<E: Entries>(
 {
     let mut running = running;
     put_written(alloc, entries, &mut running.pending, envelope)?;
-    let done = enforce(alloc, entries, header, verdicts, envelope)?;
+    let done = enforce(alloc, entries, header, verdicts, envelope, codes)?;
     after(alloc, entries, running, done)
 }

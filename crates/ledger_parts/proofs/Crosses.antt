@@ -115,10 +115,10 @@ pub stored_send : IsSend (StoredEntry.the_field).row
 stored_send = search (kept_send, hash.the_field_send, sendable) depth 20 fits 5000
 
 pub map_sync : IsSync (EntryMap.the_field).row
-map_sync = search (key_sync, stored_sync, heap_crosses, map_crosses, sendable) depth 20 fits 5000
+map_sync = search (stored_sync, heap_crosses, sendable) depth 20 fits 5000
 
 pub map_send : IsSend (EntryMap.the_field).row
-map_send = search (key_send, stored_send, heap_crosses, map_crosses, sendable) depth 20 fits 5000
+map_send = search (stored_send, heap_crosses, sendable) depth 20 fits 5000
 
 pub set_sync : IsSync (KeySet.the_field).row
 set_sync = search (key_sync, map_crosses, sendable) depth 20 fits 5000

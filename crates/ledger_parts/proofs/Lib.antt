@@ -4,3 +4,4 @@ pub mod Lists
 pub mod Crosses
 pub mod EnvelopeCrosses
 pub mod Seen
+pub mod Notes

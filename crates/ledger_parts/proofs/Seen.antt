@@ -1,18 +1,17 @@
 -- A cluster that sees its own entries over what is lent, and parts that are cut one after the other.
 use Rattle.std.specs.Ordering.{nat_cmp, eq_by_cmp}
 use Rattle.std.specs.Cmp.Lexicographic.{slice_cmp, nat_list_cmp_total}
-use Rattle.std.specs.FinMap.{get, find, entries, from_entries, retain_keys, get-entries, get-from_entries, slice_cmp-IsAntisymmetric, nat_cmp-IsAntisymmetric}
+use Rattle.std.specs.FinMap.{get, find, entries, retain_keys, get-entries, get-from_entries, slice_cmp-IsAntisymmetric, nat_cmp-IsAntisymmetric}
 use Rattle.std.specs.FinMap.Entries.{find-where_key}
 use Rattle.std.specs.List.{AllByRecursion}
-use Rattle.std.proofs.Common.{◌≡◌, Bool, true, false, not, ◌||◌, ◌&&◌, cond, List, [], ◌∷◌, ◌++◌, filter, Option, Some, None, refl, sym, ap, ap₂, ◌∙◌}
+use Rattle.std.proofs.Common.{◌≡◌, Bool, true, false, not, ◌||◌, cond, List, [], ◌∷◌, ◌++◌, filter, Option, Some, None, refl, sym, ap, ap₂, ◌∙◌}
 use Rattle.stage_runs.specs.Maps.{Bytes, Kept, LedgerMap, laid_over}
-use Rattle.stage_runs.specs.Transactions.{Envelope, Effect, Step, writes, declares, IsFramed}
+use Rattle.stage_runs.specs.Transactions.{Envelope, Effect, Step, declares, IsFramed}
 use Rattle.stage_runs.specs.Runs.{Cluster, Stage, RunState, before, after, start, run_transaction, run_all, run_stage, ended, writes_in, declares_in, AreApart, HasNoConflict}
-use Rattle.stage_runs.specs.Parts.{OwnPart, run_owned_transaction, run_owned_all, own_part, own_parts, lent_of, is_moved, owns_back, run_owned_parts}
+use Rattle.stage_runs.specs.Parts.{run_owned_all, own_parts, lent_of, is_moved, owns_back, run_owned_parts}
 use Rattle.ledger_parts.specs.Shown.{shown_step, shown_with, PassesRead}
 use Rattle.ledger_parts.specs.Cut.{without, left_of, cut_from, runs_over}
-use Rattle.stage_runs.proofs.Points.{left_true, right_true, left_false, right_false, cases, never, same, or_else, found_over, found_kept}
-use Rattle.stage_runs.proofs.Frames.{change_untouched, put_untouched}
+use Rattle.stage_runs.proofs.Points.{left_true, right_true, cases, never, same, or_else, found_over, found_kept}
 use Rattle.stage_runs.proofs.Parts.{write_declared, apart_unwritten}
 use Rattle.stage_runs.proofs.Owned.{moved_run}
 

@@ -1,3 +1,4 @@
 pub mod Shown
 pub mod Cut
 pub mod Laws
+pub mod Notes

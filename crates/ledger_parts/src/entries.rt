@@ -52,7 +52,7 @@ fn put(alloc: Global, entries: &mut EntryMap, key: LedgerKey, kept: Kept) -> Res
 {
     let key_hash = key_hash(alloc, &key)?;
     let stored = Box::new(alloc, StoredEntry { key_hash, kept })?;
-    match entries.insert(key, stored) {
+    match entries.insert(&key, stored) {
         Ok(_old) => Ok(()),
         Err(e) => Err(e),
     }

@@ -9,6 +9,6 @@ mod part;
 
 pub use entries::Entries;
 pub use key_set::KeySet;
-pub use laws::parts_as_they_are_cut;
+pub use laws::{parts_as_they_are_cut, parts_note_the_same};
 pub use moving::move_all;
-pub use part::{OnPart, Part};
+pub use part::{Lent, OnPart, Part};

@@ -18,7 +18,7 @@ fn move_one(from: &mut EntryMap, to: &mut EntryMap, key: &LedgerKey) -> Result<(
     ensures to { OnOk result (to.new ≡ with_found to.old key.now (find_in from.old key.now)) }
 {
     match from.take(key) {
-        Some((key, stored)) => {
+        Some(stored) => {
             let _old = to.insert(key, stored)?;
             Ok(())
         }
@@ -26,7 +26,7 @@ fn move_one(from: &mut EntryMap, to: &mut EntryMap, key: &LedgerKey) -> Result<(
     }
 }
 
-/// Moves the entries at these keys from one map to another, where they replace what is there. Only the nodes of the other map take
+/// Moves the entries at these keys from one map to another, where they replace what is there. Only the rows of the other map take
 /// memory. After an error entries may be missing from both maps.
 pub fn move_all(from: &mut EntryMap, to: &mut EntryMap, keys: &[LedgerKey]) -> Result<(), NoMemory>
     requires { All key_format.fits keys.now }

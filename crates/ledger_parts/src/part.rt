@@ -35,6 +35,12 @@ pub struct OnPart<'a> {
     pub ghost few: { len part.own + len lent.now < 2 ^ 32 },
 }
 
+/// The entries that all parts of a stage borrow, for those who only find entries.
+#[derive(Clone, Copy)]
+pub struct Lent<'a> {
+    pub entries: &'a EntryMap,
+}
+
 /// Borrows an entry and its live-until ledger.
 fn lend(kept: &Kept) -> Found<'_>
     ensures { kept_of result ≡ kept.now }
@@ -96,6 +102,17 @@ impl<'a> Ground for OnPart<'a> {
         match self.part.own.find(key) {
             Some(kept) => Some(lend(kept)),
             None => self.lent_at(key),
+        }
+    }
+}
+
+impl<'a> Ground for Lent<'a> {
+    ghost map = { λ lent. lent.entries.now };
+
+    fn find(&self, key: &LedgerKey) -> Option<Found<'_>> {
+        match self.entries.find(key) {
+            Some(kept) => Some(lend(kept)),
+            None => None,
         }
     }
 }

@@ -2,7 +2,7 @@ use Rattle.std.proofs.Common.{sym, ap₂, ◌∙◌}
 use Rattle.ledger_spec.specs.LedgerMap.{LedgerMap}
 use Rattle.stage_runs.specs.Runs.{RunState, run_transaction}
 use Rattle.apply_spec.specs.Enforced.{enforced}
-use Rattle.ledger_apply.specs.Seen.{shown_step}
+use Rattle.ledger_parts.specs.Shown.{shown_step}
 use Rattle.ledger_apply.specs.State.{running_in}
 use Rattle.ledger_apply.proofs.Lists.{fold_more}
 use Rattle.ledger_apply.proofs.cluster.run_all.Goals as goal

@@ -1,7 +1,7 @@
 use Rattle.std.proofs.Common.{◌≡◌, take}
 use Rattle.stage_runs.specs.Runs.{run_all}
 use Rattle.apply_spec.specs.Enforced.{enforced}
-use Rattle.ledger_apply.specs.Seen.{shown_step}
+use Rattle.ledger_parts.specs.Shown.{shown_step}
 use Rattle.ledger_apply.specs.State.{running_in}
 use Rattle.ledger_apply.proofs.cluster.run_all.Given as goal
 

@@ -15,8 +15,8 @@ use Rattle.ledger_apply.proofs.Firsts.{clusters_listed}
 use Rattle.ledger_apply.proofs.Spelling.{listed_spelled}
 use Rattle.ledger_apply.proofs.set.apply_set.Goals as goal
 
-pub first_conflict-requires : goal.first_conflict-requires
-first_conflict-requires g c =
+pub first_conflict-requires-clause-spelled : goal.first_conflict-requires-clause-spelled
+first_conflict-requires-clause-spelled g c κs within =
     subst (λ (ss : List SetStage). All IsSpelled ss) (sym c.deref.ensures.value) (listed_spelled c.args.set.now c.in_ok-stages.stages.items c.requires.fits c.in_ok-stages.ensures)
 
 pub returns-in-Some-clause-conflict : goal.returns-in-Some-clause-conflict
@@ -32,8 +32,14 @@ returns-in-Some-clause-conflict g c =
     (subst (λ (ss : List Stage). IsFirstConflict ss conflict.stage conflict.found.a conflict.found.b (key_bytes conflict.found.key.now)) same first, refl, fits)
 
 pub run_on-requires-clause-fits : goal.run_on-requires-clause-fits
-run_on-requires-clause-fits g c =
+run_on-requires-clause-fits g c κs within =
     subst (λ (ss : List SetStage). All IsSpelled ss) (sym c.deref-2.ensures.value) (listed_spelled c.args.set.now c.in_ok-stages.stages.items c.requires.fits c.in_ok-stages.ensures)
+
+pub run_on-requires-clause-free : goal.run_on-requires-clause-free
+run_on-requires-clause-free g c κs within =
+    let free : AllByRecursion HasNoConflict (clusters_of c.deref.result.now) =
+    subst (λ (o : Option SetConflict). IfNone o (AllByRecursion HasNoConflict (clusters_of c.deref.result.now))) c.in_default.is c.in_ok-conflict.ensures.none in
+    subst (λ (ss : List SetStage). AllByRecursion HasNoConflict (clusters_of ss)) (c.deref.ensures.value ∙ sym c.deref-2.ensures.value) free
 
 pub returns-clause-free : goal.returns-clause-free
 returns-clause-free g c =

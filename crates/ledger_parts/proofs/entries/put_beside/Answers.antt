@@ -1,4 +1,4 @@
-use Rattle.std.proofs.Common.{◌+◌, ◌<◌, arith}
+use Rattle.std.proofs.Common.{arith}
 use Rattle.ledger_spec.specs.LedgerMap.{key_bytes}
 use Rattle.ledger_parts.proofs.Maps.{few_after}
 use Rattle.ledger_parts.proofs.entries.put_beside.Goals as goal

@@ -1,4 +1,4 @@
-use Rattle.std.proofs.Common.{◌+◌, ◌<◌, ap, arith}
+use Rattle.std.proofs.Common.{ap, arith}
 use Rattle.std.specs.FinMap.{len}
 use Rattle.ledger_spec.specs.LedgerMap.{LedgerMap, key_bytes}
 use Rattle.ledger_parts.proofs.Maps.{no_more_removed}

@@ -1,4 +1,4 @@
-use Rattle.std.proofs.Common.{◌≡◌, Option, Some, None, cond, sym, ap, ◌∙◌}
+use Rattle.std.proofs.Common.{Option, Some, None, cond, sym, ap, ◌∙◌}
 use Rattle.std.specs.FinMap.{get}
 use Rattle.ledger_spec.specs.declared.Kept.{Kept}
 use Rattle.ledger_spec.specs.LedgerMap.{key_bytes}

@@ -6,7 +6,7 @@ use Rattle.stage_runs.specs.Conflicts.{IsLeastConflict}
 use Rattle.stage_runs.specs.Runs.{clusters_in}
 use Rattle.ledger_apply.specs.Stages.{stage_of}
 use Rattle.ledger_apply.proofs.Firsts.{first_at}
-use Rattle.ledger_apply.proofs.conflict.first_conflict.Goals as goal
+use Rattle.ledger_apply.proofs.conflict.first_in_turn.Goals as goal
 
 pub returns-in-Some-clause-some : goal.returns-in-Some-clause-some
 returns-in-Some-clause-some c =

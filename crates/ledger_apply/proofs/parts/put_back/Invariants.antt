@@ -1,0 +1,12 @@
+use Rattle.std.proofs.Common.{◌≡◌, All}
+use Rattle.std.specs.List.{fold}
+use Rattle.ledger_apply.specs.Spelled.{AreEnvelopes}
+use Rattle.ledger_apply.specs.Job.{AreDone, back}
+use Rattle.ledger_apply.proofs.parts.put_back.Given as goal
+
+abbrev pub invariant-loop-job : goal.invariant-loop-job
+invariant-loop-job l = record {
+  entries : l.entries ≡ fold back l.initial.entries l.yielded;
+  done : AreDone l.yielded l.dones.items;
+  left : All (λ job. AreEnvelopes job.envelopes.now) l.job-iterator.rest.items;
+}

@@ -1,0 +1,51 @@
+-- The jobs of a stage: each cluster with its part, and what it left (own).
+use Rattle.std.specs.Prelude.{◌≡◌, true, false, List, [], ◌∷◌, None, Ok, IfOk}
+use Rattle.std.specs.List.{AllByRecursion}
+use Rattle.std.specs.FinMap.{get, retain_keys}
+use Rattle.ledger_parts.specs.Shown.{is_read, shown, shown_step, PassesRead}
+use Rattle.stage_runs.specs.Maps.{Bytes, LedgerMap, laid_over}
+use Rattle.stage_runs.specs.Transactions.{Step}
+use Rattle.stage_runs.specs.Runs.{Cluster, run_cluster, writes_in}
+use Rattle.ledger_apply.specs.Spelled.{AreEnvelopes}
+use Rattle.ledger_apply.specs.State.{done_in, IsKeyed}
+use Rattle.ledger_apply.specs.declared.running.ClusterDone.{ClusterDone}
+use Rattle.ledger_apply.specs.declared.job.Job.{Job}
+
+-- the transactions of a job
+abbrev pub cluster_of : Job → Cluster
+cluster_of job = job.envelopes.now
+
+-- the entries that the part of a job owns
+abbrev pub own_of : Job → LedgerMap
+own_of job = job.part.own
+
+-- The part owns only entries at keys that the cluster declares read-write, and it has the keys that the cluster declares read-only.
+pub record IsCut (job : Job) : Type 0 where
+  pub owned : (q : Bytes) → writes_in (cluster_of job) q ≡ false → get (own_of job) q ≡ None
+  pub reads : PassesRead (is_read job.part.read_only) (cluster_of job)
+  pub fits : AreEnvelopes (cluster_of job)
+
+-- The job's cluster ran on its part, unless memory ran out.
+pub record IsRun (step : Step) (lent : LedgerMap) (before after : Job) : Type 0 where
+  pub same : cluster_of after ≡ cluster_of before
+  pub run : IfOk after.done (λ d. done_in (own_of after) d ≡ run_cluster (shown_step (shown before.part.read_only lent) step) (own_of before) (cluster_of before))
+  pub keyed : IfOk after.done IsKeyed
+
+-- the map after what a job's part owns at the keys of its cluster came back
+abbrev pub back : LedgerMap → Job → LedgerMap
+back entries job = laid_over (retain_keys (own_of job) (writes_in (cluster_of job))) entries
+
+-- the jobs left these beside their entries, and memory did not run out in them
+abbrev pub AreDone : List Job → List ClusterDone → Type 0
+AreDone [] [] = Unit {0}
+AreDone [] (d ∷ ds) = ⊥
+AreDone (j ∷ js) [] = ⊥
+AreDone (j ∷ js) (d ∷ ds) = (j.done ≡ Ok d) × AreDone js ds
+
+-- nothing that the cluster declares read-write is lent
+abbrev pub IsMovedOf : LedgerMap → Cluster → Type 0
+IsMovedOf lent cluster = (q : Bytes) → writes_in cluster q ≡ true → get lent q ≡ None
+
+-- nothing that a job's cluster declares read-write is lent
+abbrev pub AreMoved : LedgerMap → List Job → Type 0
+AreMoved lent jobs = AllByRecursion (λ job. IsMovedOf lent (cluster_of job)) jobs

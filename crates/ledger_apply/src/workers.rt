@@ -1,0 +1,13 @@
+//! The workers of a set.
+
+ghost use Rattle.std.specs.Prelude.{◌<◌};
+
+/// The workers that run the clusters of a set: the runtime that starts their threads, how many they are, and the gate that a worker
+/// enters before each cluster.
+#[derive(Drop)]
+pub struct Workers<'a, R, T> {
+    pub rt: &'a R,
+    pub count: usize,
+    pub gate: &'a T,
+    pub ghost some: { 0 < count },
+}
