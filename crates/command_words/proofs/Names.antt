@@ -11,6 +11,10 @@ list_any-map : {A : Type 0} (now : A → Text) (test : Text → Bool) (xs : List
 list_any-map now test [] = refl
 list_any-map now test (x ∷ xs) = ap (λ b. test (now x) || b) (list_any-map now test xs)
 
+-- the names with one more in front
+pub more_names : {A : Type 0} (now : A → Text) (names : List A) (n : Text) → are_names (n ∷ map now names) ≡ not (nat_eq (length n) 0) && not (list_any (λ o. bytes_eq n (now o)) names) && are_names (map now names)
+more_names now names n = ap (λ b. not (nat_eq (length n) 0) && not b && are_names (map now names)) (list_any-map now (bytes_eq n) names)
+
 -- what stands from a place on, as the code says it
 take_rest : {A : Type 0} (xs : List A) (k : ℕ) → take (length xs - k) (drop k xs) ≡ drop k xs
 take_rest xs k = take_all (length xs - k) (drop k xs) (omega (arith, length-drop k xs))

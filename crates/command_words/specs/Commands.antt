@@ -8,6 +8,10 @@ use Rattle.clap.specs.declared.builder.action.ArgAction.TheVariants.{Set, SetTru
 abbrev pub option_rule : Text → Rule
 option_rule name = record (new_rule name) { long = Some name; action = Some Set; required = true }
 
+-- the same, but it need not be given
+abbrev pub optional_rule : Text → Rule
+optional_rule name = record (new_rule name) { long = Some name; action = Some Set }
+
 -- a flag
 abbrev pub flag_rule : Text → Rule
 flag_rule name = record (new_rule name) { long = Some name; action = Some SetTrue }
@@ -15,12 +19,16 @@ flag_rule name = record (new_rule name) { long = Some name; action = Some SetTru
 abbrev pub with_option : Text → App → App
 with_option name a = with_rule a (option_rule name)
 
+abbrev pub with_optional : Text → App → App
+with_optional name a = with_rule a (optional_rule name)
+
 abbrev pub with_flag : Text → App → App
 with_flag name a = with_rule a (flag_rule name)
 
--- apply --set FILE --ledger FILE --verdicts FILE --close-time SECONDS --workers COUNT --report FILE --ledger-out FILE [--base64]
+-- apply --set FILE --ledger FILE --verdicts FILE --close-time SECONDS --workers COUNT --report FILE --ledger-out FILE
+--   [--schedule FILE [--steps COUNT]] [--base64]
 unfoldable pub apply_app : App
-apply_app = with_flag (codes "base64") (with_option (codes "ledger-out") (with_option (codes "report") (with_option (codes "workers") (with_option (codes "close-time") (with_option (codes "verdicts") (with_option (codes "ledger") (with_option (codes "set") (new_app (codes "apply")))))))))
+apply_app = with_flag (codes "base64") (with_optional (codes "steps") (with_optional (codes "schedule") (with_option (codes "ledger-out") (with_option (codes "report") (with_option (codes "workers") (with_option (codes "close-time") (with_option (codes "verdicts") (with_option (codes "ledger") (with_option (codes "set") (new_app (codes "apply")))))))))))
 
 -- simulate --tx FILE --ledger FILE --verdicts FILE --close-time SECONDS --out FILE [--base64]
 unfoldable pub simulate_app : App

@@ -24,6 +24,10 @@ number_in least most text =
 abbrev pub number64_in : Text → Option ℕ
 number64_in = number_in 0 (2 ^ 64 - 1)
 
+-- the largest number of 64 bits
+abbrev pub all_steps : ℕ
+all_steps = 2 ^ 64 - 1
+
 -- from 1 to 64
 abbrev pub workers_in : Text → Option ℕ
 workers_in = number_in 1 64
@@ -43,6 +47,11 @@ kind_in text = if bytes_eq text (codes "set") then Some Set
 abbrev pub are_names : List Text → Bool
 are_names [] = true
 are_names (name ∷ names) = not (length name == 0) && not (list_any (bytes_eq name) names) && are_names names
+
+-- names of files, and the name of a file that need not be given
+abbrev pub with_name : Option Text → List Text → List Text
+with_name None names = names
+with_name (Some name) names = name ∷ names
 
 -- a flag's value
 abbrev pub is_set : Option Text → Bool

@@ -1,13 +1,14 @@
 -- The words of a command line, as clap reads them (own).
-use Rattle.std.specs.Prelude.{◌≤◌, ⊤, Bool, true, false, List, [], ◌∷◌, Option, Some, None, if◌then◌else◌, codes, option_and_then}
+use Rattle.std.specs.Prelude.{◌≤◌, ⊤, Bool, true, false, List, [], ◌∷◌, Option, Some, None, if◌then◌else◌, codes, option_and_then, option_map}
 use Rattle.std.specs.Str.{bytes_eq}
 use Rattle.clap.specs.Faults.{fault_of}
 use Rattle.clap.specs.Kinds.{Kinds}
 use Rattle.clap.specs.Simple.{subcommand_of}
 use Rattle.clap.specs.Walk.{Row, Text, first_of}
 use Rattle.command_words.specs.Commands.{soroban_app}
-use Rattle.command_words.specs.Values.{are_names, count_in, is_set, kind_in, number64_in, workers_in}
+use Rattle.command_words.specs.Values.{all_steps, are_names, count_in, is_set, kind_in, number64_in, with_name, workers_in}
 use Rattle.command_words.specs.declared.request.Request.{Request}
+use Rattle.command_words.specs.declared.request.ScheduleOptions.{ScheduleOptions}
 use Rattle.command_words.specs.declared.request.Request.TheVariants.{Apply, Simulate, Show, Vet, Migrate, Gen}
 
 infixl 10 ◌>>=◌
@@ -23,6 +24,16 @@ guard false = None
 abbrev pub has_base64 : List Row → Bool
 has_base64 rows = is_set (first_of (codes "base64") rows)
 
+-- The schedule of `apply`, if one is given: its file and the number of its steps, which is 2^64 - 1 if it is not given. A number
+-- of steps without a schedule is wrong.
+abbrev pub schedule_from : Option Text → Option Text → Option (Option ScheduleOptions)
+schedule_from None None = Some None
+schedule_from None (Some text) = None
+schedule_from (Some file) None = Some (Some (record { file = file; steps = all_steps }))
+schedule_from (Some file) (Some text) = do
+  steps ← number64_in text
+  Some (Some (record { file = file; steps = steps }))
+
 -- apply, with the values of its options
 abbrev pub apply_from : List Row → Option Request
 apply_from rows = do
@@ -33,7 +44,8 @@ apply_from rows = do
   workers ← option_and_then workers_in (first_of (codes "workers") rows)
   report ← first_of (codes "report") rows
   ledger_out ← first_of (codes "ledger-out") rows
-  _ ← guard (are_names (set ∷ ledger ∷ verdicts ∷ report ∷ ledger_out ∷ []))
+  schedule ← schedule_from (first_of (codes "schedule") rows) (first_of (codes "steps") rows)
+  _ ← guard (are_names (with_name (option_map (λ s. s.file) schedule) (set ∷ ledger ∷ verdicts ∷ report ∷ ledger_out ∷ [])))
   Some (Apply (record {
     set = set;
     ledger = ledger;
@@ -42,6 +54,7 @@ apply_from rows = do
     workers = workers;
     report = report;
     ledger_out = ledger_out;
+    schedule = schedule;
     base64 = has_base64 rows;
   }))
 

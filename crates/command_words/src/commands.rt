@@ -4,7 +4,7 @@ ghost use Rattle.std.specs.Prelude.{◌≡◌, false, IfOk};
 ghost use Rattle.clap.specs.Simple.{app_of, new_app, with_rule, with_subcommand};
 ghost use Rattle.clap.specs.Walk.{rule_of};
 ghost use Rattle.clap.specs.declared.builder.command.Command.TheViews.{out-Command as fields_of};
-ghost use Rattle.command_words.specs.Commands.{apply_app, bare_app, flag_rule, gen_app, migrate_app, option_rule, show_app, simulate_app, soroban_app, vet_app, with_flag, with_option};
+ghost use Rattle.command_words.specs.Commands.{apply_app, bare_app, flag_rule, gen_app, migrate_app, option_rule, optional_rule, show_app, simulate_app, soroban_app, vet_app, with_flag, with_option, with_optional};
 
 use clap::{Arg, ArgAction, Command};
 use std::alloc::{AllocError, Global};
@@ -42,6 +42,8 @@ fn apply_command<'a>(alloc: Global) -> Result<Command<'a>, AllocError>
     let command = with_options(command, alloc, "set", "ledger", "verdicts")?;
     let command = with_options(command, alloc, "close-time", "workers", "report")?;
     let command = with_option(command, alloc, "ledger-out")?;
+    let command = with_optional(command, alloc, "schedule")?;
+    let command = with_optional(command, alloc, "steps")?;
     with_flag(command, alloc, "base64")
 }
 
@@ -133,6 +135,18 @@ fn with_option<'a>(
     with_argument(command, long_option(alloc, name))
 }
 
+/// A long option that need not be given, with one value.
+fn with_optional<'a>(
+    command: Command<'a>,
+    alloc: Global,
+    name: &'a str,
+) -> Result<Command<'a>, AllocError>
+    ensures app { IfOk result (λ c. app_of c ≡ with_optional name.entry.now (app_of command.entry)) }
+    ensures local { IfOk result (λ c. (fields_of c).has_globals ≡ (fields_of command.entry).has_globals) }
+{
+    with_argument(command, optional_option(alloc, name))
+}
+
 fn with_flag<'a>(
     command: Command<'a>,
     alloc: Global,
@@ -160,6 +174,13 @@ fn long_option<'a>(alloc: Global, name: &'a str) -> Arg<'a>
         .long(name)
         .required(true)
         .action(ArgAction::Set)
+}
+
+fn optional_option<'a>(alloc: Global, name: &'a str) -> Arg<'a>
+    ensures rule { rule_of result ≡ optional_rule name.entry.now }
+    ensures local { result.global ≡ false }
+{
+    Arg::new(alloc, name).long(name).action(ArgAction::Set)
 }
 
 fn flag<'a>(alloc: Global, name: &'a str) -> Arg<'a>

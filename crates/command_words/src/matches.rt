@@ -1,17 +1,17 @@
 //! From clap's matches to a request.
 
-ghost use Rattle.std.specs.Prelude.{◌≡◌, ◌≤◌, IfOk, option_and_then, option_map};
+ghost use Rattle.std.specs.Prelude.{◌≡◌, ◌≤◌, IfOk, codes, is_some, option_and_then, option_map};
 ghost use Rattle.clap.specs.Matches.{found_of};
 ghost use Rattle.clap.specs.Simple.{subcommand_rows_of};
 ghost use Rattle.clap.specs.Walk.{first_of, rows_of};
 ghost use Rattle.command_words.specs.Answers.{ReadsWords};
 ghost use Rattle.command_words.specs.Values.{is_set, kind_in, number_in};
-ghost use Rattle.command_words.specs.Words.{IsInRange, apply_from, asked_from, gen_from, migrate_from, show_from, simulate_from, vet_from};
+ghost use Rattle.command_words.specs.Words.{IsInRange, apply_from, asked_from, gen_from, migrate_from, schedule_from, show_from, simulate_from, vet_from};
 
-use crate::values::{are_names, kind_in, number_in};
+use crate::values::{are_names, are_names_with, kind_in, number_in};
 use crate::{
-    ApplyRequest, GenRequest, MigrateRequest, Request, ShowKind, ShowRequest, SimulateRequest,
-    VetRequest, WordsErr,
+    ApplyRequest, GenRequest, MigrateRequest, Request, ScheduleOptions, ShowKind, ShowRequest,
+    SimulateRequest, VetRequest, WordsErr,
 };
 use clap::ArgMatches;
 use edge_io::Word;
@@ -59,7 +59,9 @@ fn apply_request(alloc: Global, found: &ArgMatches<'_>) -> Result<Request, Words
     let workers = number_of(found, "workers", 1, MAX_WORKERS)?;
     let report = value_of(alloc, found, "report")?;
     let ledger_out = value_of(alloc, found, "ledger-out")?;
-    if !are_names(&[&set, &ledger, &verdicts, &report, &ledger_out]) {
+    let schedule = schedule_of(alloc, found)?;
+    let more = schedule.as_ref().map(|s| &s.file);
+    if !are_names_with(more, &[&set, &ledger, &verdicts, &report, &ledger_out]) {
         return Err(WordsErr::Usage);
     }
     Ok(Request::Apply(ApplyRequest {
@@ -70,8 +72,30 @@ fn apply_request(alloc: Global, found: &ArgMatches<'_>) -> Result<Request, Words
         workers,
         report,
         ledger_out,
+        schedule,
         base64: is_set(found, "base64"),
     }))
+}
+
+/// The schedule of `apply`, if one is given.
+fn schedule_of(alloc: Global, found: &ArgMatches<'_>) -> Result<Option<ScheduleOptions>, WordsErr>
+    ensures { ReadsWords result (schedule_from (first_of (codes "schedule") (rows_of (found_of found.now)))
+        (first_of (codes "steps") (rows_of (found_of found.now)))) }
+{
+    if !is_given(found, "schedule") {
+        return if is_given(found, "steps") {
+            Err(WordsErr::Usage)
+        } else {
+            Ok(None)
+        };
+    }
+    let file = value_of(alloc, found, "schedule")?;
+    let steps = if is_given(found, "steps") {
+        number_of(found, "steps", 0, u64::MAX)?
+    } else {
+        u64::MAX
+    };
+    Ok(Some(ScheduleOptions { file, steps }))
 }
 
 fn simulate_request(alloc: Global, found: &ArgMatches<'_>) -> Result<Request, WordsErr>
@@ -154,6 +178,14 @@ fn gen_request(alloc: Global, found: &ArgMatches<'_>) -> Result<Request, WordsEr
         ledger,
         verdicts,
     }))
+}
+
+/// Whether an option is given.
+#[tactic(auto, using(crate::proofs::Parsing::first_of_rows))]
+fn is_given(found: &ArgMatches<'_>, id: &str) -> bool
+    ensures { result ≡ is_some (first_of id.now (rows_of (found_of found.now))) }
+{
+    found.get_str(id).is_some()
 }
 
 /// The value of an option.

@@ -18,8 +18,19 @@ pub struct ApplyRequest {
     pub report: Word,
     /// The file that gets the new ledger.
     pub ledger_out: Word,
+    /// The order in which the transactions run, if it is given.
+    pub schedule: Option<ScheduleOptions>,
     /// Whether the set's file is base64 text.
     pub base64: bool,
+}
+
+/// The order in which `apply` runs the transactions of a set.
+#[derive(Debug, Drop)]
+pub struct ScheduleOptions {
+    /// The file of the schedule.
+    pub file: Word,
+    /// How many transactions run, counted over all stages. More than a set has run all of them.
+    pub steps: u64,
 }
 
 /// The options of `simulate`.

@@ -1,9 +1,9 @@
 //! The values of options.
 
-ghost use Rattle.std.specs.Prelude.{◌≡◌, ◌≤◌, IfSome, map};
+ghost use Rattle.std.specs.Prelude.{◌≡◌, ◌≤◌, IfSome, map, option_map};
 ghost use Rattle.std.specs.List.{list_any};
 ghost use Rattle.std.specs.Str.{bytes_eq};
-ghost use Rattle.command_words.specs.Values.{are_names, begins_with, kind_in, number_in};
+ghost use Rattle.command_words.specs.Values.{are_names, begins_with, kind_in, number_in, with_name};
 
 use crate::ShowKind;
 use edge_io::Word;
@@ -54,6 +54,23 @@ pub fn are_names(names: &[&Word]) -> bool
         }
     }
     true
+}
+
+/// Whether the names of a command's files are right, if it may have one more file.
+#[tactic(auto, using(crate::proofs::Names::more_names))]
+pub fn are_names_with(more: Option<&Word>, names: &[&Word]) -> bool
+    ensures { result ≡ are_names (with_name (option_map (λ n. n.now) more.entry) (map (λ n. n.now) names.now)) }
+{
+    let Some(name) = more else {
+        return are_names(names);
+    };
+    if name.as_str().is_empty() {
+        return false;
+    }
+    if has_name(names, name) {
+        return false;
+    }
+    are_names(names)
 }
 
 fn has_name(names: &[&Word], name: &Word) -> bool

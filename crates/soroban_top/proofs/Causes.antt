@@ -39,6 +39,12 @@ pub by_cause : (files others : List File) (old new old' new' : ℕ → ℕ) (sta
 by_cause files others old new old' new' (Fault name) f h = f name h
 by_cause files others old new old' new' status f h = h
 
+-- a file that was read after three others
+pub cause_of_last : (a b c : File) (files : List File) (old one two three new : ℕ → ℕ) (status : Status) → NoLower old one → NoLower one two → NoLower two three → HasCause files three new status → HasCause (a ∷ b ∷ c ∷ files) old new status
+cause_of_last a b c files old one two three new status first second third h =
+    let up : NoLower old three = λ option. (let x = first option in let y = second option in let z = third option in omega (arith, x, y, z)) in
+    by_cause files (a ∷ b ∷ c ∷ files) three new old new status (λ name f. inr (inr (inr (faulted_since files name old three new up f)))) h
+
 -- the file at a place failed
 pub cause_at : {A : Type 0} (file_of : A → File) (xs : List A) (i : ℕ) (x : A) (old mid new : ℕ → ℕ) (status : Status) → i < length xs → x ≡ get_or xs i x → NoLower old mid → HasCause (file_of x ∷ []) mid new status → HasCause (map file_of xs) old new status
 cause_at file_of xs i x old mid new status lt is up h =

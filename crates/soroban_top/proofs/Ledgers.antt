@@ -1,9 +1,13 @@
 -- The status that is due where the bytes of the ledger's file are no ledger's.
-use Rattle.std.proofs.Common.{◌≡◌, ◌↔◌, ℕ, Bool, true, false, List, Result, Ok, Err, refl, ap, ap₂, ◌∙◌}
+use Rattle.std.proofs.Common.{◌≡◌, ◌↔◌, ℕ, Bool, true, false, List, Option, Some, None, Result, Ok, Err, refl, sym, ap, ap₂, ◌∙◌}
 use Rattle.std.specs.FinMap.{get}
+use Rattle.apply_spec.specs.Outputs.{Outputs}
 use Rattle.apply_spec.specs.Runs.{running_header}
 use Rattle.apply_spec.specs.Simulated.{simulated as simulated_in}
 use Rattle.apply_spec.proofs.Framed.{step_framed}
+use Rattle.command_words.specs.declared.request.ApplyRequest.{ApplyRequest}
+use Rattle.command_words.specs.declared.request.ScheduleOptions.{ScheduleOptions}
+use Rattle.edge_io.specs.Contents.{FileMap}
 use Rattle.ledger_file.specs.FileOf.{IsFileOf}
 use Rattle.ledger_file.proofs.FromFile.{file_read}
 use Rattle.ledger_file.proofs.Refused.{xdr_refused}
@@ -16,26 +20,31 @@ use Rattle.ledger_spec.specs.declared.LedgerWhy.TheVariants as ledger_why
 use Rattle.ledger_types.specs.File.{file_format}
 use Rattle.ledger_types.specs.Verdicts.{verdicts_format, verdicts_lawful}
 use Rattle.ledger_types.specs.declared.header.Header.{Header}
+use Rattle.ledger_types.specs.declared.verdicts.Verdicts.{Verdicts}
 use Rattle.show_lines.specs.LedgerLines.{ledger_lines}
 use Rattle.stage_runs.specs.Transactions.{Effect}
 use Rattle.tx_xdr.specs.Envelope.{envelope_format, envelope_lawful}
 use Rattle.tx_xdr.specs.Set.{set_format, set_lawful}
+use Rattle.tx_xdr.specs.declared.set.TxSet.{TxSet}
 use Rattle.xdr_spec.specs.Format.{IsBytes}
 use Rattle.xdr_spec.specs.Refusal.{Refuses}
 use Rattle.xdr_spec.specs.declared.Why.{Why}
 use Rattle.xdr_spec.proofs.Decoding.{spells_decoded}
 use Rattle.soroban_top.specs.FirstConflict.{free_of_conflict, stages_in}
-use Rattle.soroban_top.specs.Judged.{as_ledger, envelope_in, ledger_in, set_in, verdicts_in}
-use Rattle.soroban_top.specs.Laws.{AppliedLaw, found, LedgerDoneLaw, LedgerLaw, LedgerShownLaw, MigrateDoneLaw, MigrateLaw, MigrateRefusedLaw, NoLedgerLaw, SimulateEnforcedLaw, SimulateLaw, SimulateLedgerLaw, SimulateNoLedgerLaw}
+use Rattle.soroban_top.specs.Judged.{as_ledger, envelope_in, ledger_at, ledger_in, set_at, set_in, verdicts_at, verdicts_in}
+use Rattle.soroban_top.specs.Laws.{AppliedLaw, CanRun, found, IsFree, IsScheduled, IsSpelledIn, LedgerDoneLaw, LedgerLaw, LedgerShownLaw, MigrateDoneLaw, MigrateLaw, MigrateRefusedLaw, NoLedgerLaw, SimulateEnforcedLaw, SimulateLaw, SimulateLedgerLaw, SimulateNoLedgerLaw, StoppedLaw, WholeLaw}
 use Rattle.soroban_top.specs.Migrated.{migrated}
-use Rattle.soroban_top.specs.Outcome.{applied, only_said, outputs_of, simulated, simulation_of}
-use Rattle.soroban_top.specs.Product.{file}
+use Rattle.soroban_top.specs.Scheduled.{complete_for, may_run, outputs_by, outputs_of, outputs_stopped, scheduled_at}
+use Rattle.soroban_top.specs.Outcome.{applied, only_said, simulated, simulation_of}
+use Rattle.soroban_top.specs.Product.{Made, file}
 use Rattle.soroban_top.specs.Shown.{any_ledger_in}
 use Rattle.soroban_top.specs.Steps.{◌>>=◌, status_of}
+use Rattle.soroban_top.specs.declared.scheduled.ScheduledSteps.{ScheduledSteps}
 use Rattle.soroban_top.specs.declared.status.Status.{Status}
 use Rattle.soroban_top.specs.declared.status.Status.TheVariants as status
 use Rattle.soroban_top.proofs.FirstConflicts.{no_conflict_is}
 use Rattle.soroban_top.proofs.Later.{envelope_file, never_ledger, set_file, verdicts_file}
+use Rattle.soroban_top.proofs.BySchedule.{same_after, scheduled_found, whole_outputs}
 
 is_refusal : {B : Type 0} (r : Result (Header × LedgerMap) LedgerRefusal) (rest : Header × LedgerMap → Result B Status) (reason : LedgerWhy) (at : ℕ) → ((l : Header × LedgerMap) → status_of (rest l) ≡ status.Ledger reason at → ⊥)
     → status_of (as_ledger r >>= rest) ≡ status.Ledger reason at → r ≡ Err (refusal reason at)
@@ -58,7 +67,7 @@ unfolding ledger_in
 ledger_law a m bytes given at =
     let later = never_ledger ledger_why.Xdr at in
     rw given.has_ledger (ledger_due true bytes _ at given.are_bytes (λ l. verdicts_file _ later (λ place h. cc) (get m a.verdicts) a.verdicts _
-    (λ v. set_file _ later (get m a.set) a.base64 a.set (λ s. applied (file 3 a.report) (file 4 a.ledger_out) (outputs_of l v s a.close_time)))))
+    (λ v. set_file _ later m a.base64 a.set a.schedule (λ scheduled set. applied (file 3 a.report) (file 4 a.ledger_out) (outputs_by scheduled l v set a.close_time)))))
 
 pub simulate_ledger : SimulateLedgerLaw
 unfolding ledger_in
@@ -87,7 +96,7 @@ pub no_ledger_law : NoLedgerLaw
 unfolding ledger_in
 no_ledger_law a m bytes given =
     rw given.has_ledger (no_ledger bytes _ given.are_bytes (λ reason at l. verdicts_file _ (never_ledger reason at) (λ place h. cc) (get m a.verdicts) a.verdicts _
-    (λ v. set_file _ (never_ledger reason at) (get m a.set) a.base64 a.set (λ s. applied (file 3 a.report) (file 4 a.ledger_out) (outputs_of l v s a.close_time)))))
+    (λ v. set_file _ (never_ledger reason at) m a.base64 a.set a.schedule (λ scheduled set. applied (file 3 a.report) (file 4 a.ledger_out) (outputs_by scheduled l v set a.close_time)))))
 
 pub simulate_no_ledger : SimulateNoLedgerLaw
 unfolding ledger_in
@@ -97,12 +106,52 @@ simulate_no_ledger s m bytes given =
 
 pub applied_law : AppliedLaw
 unfolding ledger_in verdicts_in set_in free_of_conflict outputs_of
-applied_law a m header entries verdicts set given third free =
+applied_law a m header entries verdicts set given third free plain =
     let ledger = file_is_read true given.ledger header entries given.is_ledger in
     let read = spells_decoded verdicts_format verdicts_lawful verdicts given.bytes given.spells in
     let spelled = spells_decoded set_format set_lawful set third.bytes third.spells in
     let none = (no_conflict_is (stages_in set)).1 free in
-    rw (given.has_ledger, ledger, given.has_verdicts, read, third.has_text, third.opens, spelled, none) refl
+    rw (given.has_ledger, ledger, given.has_verdicts, read, third.has_text, third.opens, spelled, plain, none) refl
+
+-- what follows the ledger and the verdicts in `apply`, with this schedule or without one
+abbrev run_of : ApplyRequest → FileMap → Option ScheduleOptions → Header × LedgerMap → Verdicts → Result Made Status
+run_of a m options ledger verdicts = do
+  set ← set_at m a.base64 a.set
+  scheduled ← scheduled_at m options
+  _ ← may_run scheduled set
+  Ok (applied (file 3 a.report) (file 4 a.ledger_out) (outputs_by scheduled ledger verdicts set a.close_time))
+
+run_by_schedule : (a : ApplyRequest) (m : FileMap) (options : Option ScheduleOptions) (set : TxSet) (scheduled : ScheduledSteps) (ledger : Header × LedgerMap) (verdicts : Verdicts) → IsSpelledIn set_format set a.set a.base64 m
+    → IsScheduled options m (Some scheduled) → CanRun (Some scheduled) set
+    → run_of a m options ledger verdicts ≡ Ok (applied (file 3 a.report) (file 4 a.ledger_out) (outputs_stopped ledger verdicts set a.close_time scheduled))
+unfolding set_in free_of_conflict complete_for
+run_by_schedule a m options set scheduled ledger verdicts third is can =
+    let spelled = spells_decoded set_format set_lawful set third.bytes third.spells in
+    let none = (no_conflict_is (stages_in set)).1 can.0 in
+    rw (third.has_text, third.opens, spelled, scheduled_found options m (Some scheduled) is, none, can.1) refl
+
+run_by_itself : (a : ApplyRequest) (m : FileMap) (set : TxSet) (ledger : Header × LedgerMap) (verdicts : Verdicts) → IsSpelledIn set_format set a.set a.base64 m → IsFree set
+    → run_of a m None ledger verdicts ≡ Ok (applied (file 3 a.report) (file 4 a.ledger_out) (outputs_of ledger verdicts set a.close_time))
+unfolding set_in free_of_conflict
+run_by_itself a m set ledger verdicts third free =
+    let spelled = spells_decoded set_format set_lawful set third.bytes third.spells in
+    let none = (no_conflict_is (stages_in set)).1 free in
+    rw (third.has_text, third.opens, spelled, none) refl
+
+pub stopped_law : StoppedLaw
+unfolding ledger_in verdicts_in outputs_stopped
+stopped_law a m header entries verdicts set scheduled given third is can =
+    let ledger = file_is_read true given.ledger header entries given.is_ledger in
+    let read = spells_decoded verdicts_format verdicts_lawful verdicts given.bytes given.spells in
+    rw (given.has_ledger, ledger, given.has_verdicts, read) (run_by_schedule a m a.schedule set scheduled (header, entries) verdicts third is can)
+
+pub whole_law : WholeLaw
+whole_law a m set scheduled third is can all =
+    same_after (ledger_at m a.ledger) (λ l. verdicts_at m a.verdicts >>= run_of a m a.schedule l) (λ l. verdicts_at m a.verdicts >>= run_of a m None l)
+    (λ l. same_after (verdicts_at m a.verdicts) (run_of a m a.schedule l) (run_of a m None l)
+    (λ v. run_by_schedule a m a.schedule set scheduled l v third is can
+    ∙ ap (λ (o : Outputs). Ok (applied (file 3 a.report) (file 4 a.ledger_out) o)) (whole_outputs scheduled l v set a.close_time can all)
+    ∙ sym (run_by_itself a m set l v third can.0)))
 
 pub simulate_stores : SimulateLaw
 unfolding ledger_in verdicts_in envelope_in simulation_of

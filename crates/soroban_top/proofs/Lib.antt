@@ -6,6 +6,7 @@ mod Due
 mod FirstConflicts
 mod Generated
 mod Made
+mod BySchedule
 mod Leaving
 mod PutTogether
 mod Present

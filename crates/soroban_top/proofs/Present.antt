@@ -4,6 +4,7 @@ use Rattle.std.specs.Prelude.{⊤, nat_lt, if◌then◌else◌}
 use Rattle.std.specs.FinMap.{get}
 use Rattle.base64_text.specs.Text.{bytes_in}
 use Rattle.command_words.specs.declared.request.Request.{Request}
+use Rattle.command_words.specs.declared.request.ScheduleOptions.{ScheduleOptions}
 use Rattle.command_words.specs.declared.request.Request.TheVariants.{Apply, Simulate, Show, Vet, Migrate, Gen}
 use Rattle.command_words.specs.declared.request.ShowKind.{ShowKind}
 use Rattle.command_words.specs.declared.request.ShowKind.TheVariants as kinds
@@ -15,20 +16,25 @@ use Rattle.module_vet.specs.Verdict.{verdict_of}
 use Rattle.module_loader.specs.declared.error.Flaw.{Flaw}
 use Rattle.module_loader.specs.declared.error.Flaw.TheVariants as flaw
 use Rattle.module_vet.specs.declared.Sizes.{Sizes}
+use Rattle.schedule_runs.specs.Plans.{first_incomplete}
+use Rattle.schedule_runs.specs.Schedule.{schedule_format}
+use Rattle.schedule_runs.specs.declared.schedule.Schedule.{Schedule}
 use Rattle.tx_xdr.specs.Set.{set_format}
 use Rattle.tx_xdr.specs.Envelope.{envelope_format}
 use Rattle.tx_xdr.specs.declared.set.TxSet.{TxSet}
 use Rattle.value_types.specs.Formats.{scval_format}
 use Rattle.xdr_spec.specs.Decoded.{decoded}
 use Rattle.xdr_spec.specs.declared.XdrErr.{XdrErr}
-use Rattle.soroban_top.specs.Asked.{reads_named}
+use Rattle.soroban_top.specs.Asked.{reads_named, schedule_files}
 use Rattle.soroban_top.specs.FirstConflict.{FoundConflict, first_conflict, free_of_conflict, stages_in, unless_found}
 use Rattle.soroban_top.specs.Judged.{AreThere, as_bytes, as_ledger, as_spelled, as_verdicts, bytes_of, content_of, envelope_at, envelope_in, envelope_opened, ledger_at, ledger_in, opened, set_at, set_in, set_opened, verdicts_at, verdicts_in}
 use Rattle.soroban_top.specs.Migrated.{any_ledger_at}
+use Rattle.soroban_top.specs.Scheduled.{as_schedule, complete_for, may_run, scheduled_at, schedule_at, schedule_in, unless_incomplete}
 use Rattle.soroban_top.specs.Outcome.{due}
 use Rattle.soroban_top.specs.Shown.{any_ledger_in, shown, shown_at, shown_opened, value_in}
 use Rattle.soroban_top.specs.Steps.{◌>>=◌, UnlessFault, status_of}
 use Rattle.soroban_top.specs.Vetted.{as_vetted, vetted, vetted_at}
+use Rattle.soroban_top.specs.declared.scheduled.ScheduledSteps.{ScheduledSteps}
 use Rattle.soroban_top.specs.declared.status.Status.{Status}
 use Rattle.soroban_top.specs.declared.status.Status.TheVariants.{Fault, TooLong}
 
@@ -85,6 +91,18 @@ conflict_judged : (set : TxSet) → IsNoFault (status_of (free_of_conflict set))
 unfolding free_of_conflict
 conflict_judged set = unless_found_judged (first_conflict (stages_in set))
 
+unless_incomplete_judged : (o : Option ℕ) → IsNoFault (status_of (unless_incomplete o))
+unless_incomplete_judged None = tt
+unless_incomplete_judged (Some stage) = tt
+
+complete_judged : (schedule : Schedule) (set : TxSet) → IsNoFault (status_of (complete_for schedule set))
+unfolding complete_for
+complete_judged schedule set = unless_incomplete_judged (first_incomplete (stages_in set) schedule.stages)
+
+may_run_judged : (scheduled : Option ScheduledSteps) (set : TxSet) → IsNoFault (status_of (may_run scheduled set))
+may_run_judged None set = conflict_judged set
+may_run_judged (Some scheduled) set = both (free_of_conflict set) _ (conflict_judged set) (λ free. complete_judged scheduled.schedule set)
+
 -- text in Base64 is no fault
 bytes_judged : (name : List ℕ) (o : Option (List ℕ)) → IsNoFault (status_of (as_bytes name o))
 bytes_judged name None = tt
@@ -128,12 +146,25 @@ shown_opened_judged base64 kind name text = both (opened base64 name text) (show
 judged : {A : Type 0} (m : FileMap) (name : List ℕ) (judge : List ℕ → Result A Status) → IsSome (get m name) → ((bytes : List ℕ) → IsNoFault (status_of (judge bytes))) → IsNoFault (status_of (content_of m name >>= judge))
 judged m name judge there h = both (content_of m name) judge (read (get m name) name there) h
 
+as_schedule_judged : {A : Type 0} (r : Result A XdrErr) → IsNoFault (status_of (as_schedule r))
+as_schedule_judged (Ok x) = tt
+as_schedule_judged (Err e) = tt
+
+schedule_judged : (bytes : List ℕ) → IsNoFault (status_of (schedule_in bytes))
+unfolding schedule_in
+schedule_judged bytes = as_schedule_judged (decoded schedule_format bytes)
+
+scheduled_judged : (m : FileMap) (options : Option ScheduleOptions) → AreThere (schedule_files options) m → IsNoFault (status_of (scheduled_at m options))
+scheduled_judged m None there = tt
+scheduled_judged m (Some options) there = both (schedule_at m options.file) _ (judged m options.file schedule_in there.0 schedule_judged) (λ s. tt)
+
 no_fault : (asked : Option Request) (m : FileMap) → AreThere (reads_named asked) m → IsNoFault (due asked m)
 no_fault None m there = tt
 no_fault (Some (Apply a)) m there =
     both (ledger_at m a.ledger) _ (judged m a.ledger ledger_in there.0 ledger_judged)
     (λ ledger. both (verdicts_at m a.verdicts) _ (judged m a.verdicts verdicts_in there.1.0 verdicts_judged)
-    (λ verdicts. both (set_at m a.base64 a.set) _ (judged m a.set (set_opened a.base64 a.set) there.1.1.0 (set_opened_judged a.base64 a.set)) (λ set. both (free_of_conflict set) _ (conflict_judged set) (λ free. tt))))
+    (λ verdicts. both (set_at m a.base64 a.set) _ (judged m a.set (set_opened a.base64 a.set) there.1.1.0 (set_opened_judged a.base64 a.set))
+    (λ set. both (scheduled_at m a.schedule) _ (scheduled_judged m a.schedule there.1.1.1) (λ scheduled. both (may_run scheduled set) _ (may_run_judged scheduled set) (λ free. tt)))))
 no_fault (Some (Simulate s)) m there =
     both (ledger_at m s.ledger) _ (judged m s.ledger ledger_in there.0 ledger_judged)
     (λ ledger. both (verdicts_at m s.verdicts) _ (judged m s.verdicts verdicts_in there.1.0 verdicts_judged)

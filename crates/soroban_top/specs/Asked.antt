@@ -2,11 +2,17 @@
 use Rattle.std.specs.Prelude.{List, [], ◌∷◌, ◌++◌, Option, Some, None}
 use Rattle.soroban_top.specs.Product.{File, file}
 use Rattle.command_words.specs.declared.request.Request.{Request}
+use Rattle.command_words.specs.declared.request.ScheduleOptions.{ScheduleOptions}
 use Rattle.command_words.specs.declared.request.Request.TheVariants.{Apply, Simulate, Show, Vet, Migrate, Gen}
+
+-- the file of a schedule, if one is given
+abbrev pub schedule_files : Option ScheduleOptions → List File
+schedule_files None = []
+schedule_files (Some options) = file 5 options.file ∷ []
 
 -- the files that it reads, in order
 abbrev pub reads_of : Request → List File
-reads_of (Apply a) = file 1 a.ledger ∷ file 2 a.verdicts ∷ file 0 a.set ∷ []
+reads_of (Apply a) = file 1 a.ledger ∷ file 2 a.verdicts ∷ file 0 a.set ∷ schedule_files a.schedule
 reads_of (Simulate s) = file 1 s.ledger ∷ file 2 s.verdicts ∷ file 0 s.tx ∷ []
 reads_of (Show s) = file 0 s.file ∷ []
 reads_of (Vet v) = file 0 v.module_file ∷ []

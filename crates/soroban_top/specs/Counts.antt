@@ -4,7 +4,7 @@ use Rattle.std.specs.List.{AllByRecursion}
 use Rattle.edge_io.specs.Counts.{Rose}
 use Rattle.soroban_top.specs.Product.{File}
 use Rattle.soroban_top.specs.declared.status.Status.{Status}
-use Rattle.soroban_top.specs.declared.status.Status.TheVariants.{Done, Usage, Fault, Ledger, Verdicts, Malformed, NotBase64, Conflict, NotAModule, Ill, Unlinked, NoMemory}
+use Rattle.soroban_top.specs.declared.status.Status.TheVariants.{Done, Usage, Fault, Ledger, Verdicts, Malformed, NotBase64, Conflict, Schedule, Incomplete, NotAModule, Ill, Unlinked, NoMemory}
 
 abbrev pub NoLower : (ℕ → ℕ) → (ℕ → ℕ) → Type 0
 NoLower old new = (option : ℕ) → old option ≤ new option
@@ -35,6 +35,8 @@ IsOfBytes (Verdicts at) = ⊤
 IsOfBytes (Malformed at why) = ⊤
 IsOfBytes (NotBase64 name) = ⊤
 IsOfBytes (Conflict stage a b key) = ⊤
+IsOfBytes (Schedule at) = ⊤
+IsOfBytes (Incomplete stage) = ⊤
 IsOfBytes NotAModule = ⊤
 IsOfBytes (Ill func) = ⊤
 IsOfBytes (Unlinked k) = ⊤

@@ -7,9 +7,9 @@ use Rattle.std.specs.Ordering.{is_gt, nat_cmp}
 use Rattle.std.specs.Cmp.Lexicographic.{slice_cmp}
 use Rattle.stage_runs.specs.Maps.{Bytes, LedgerKey, key_bytes}
 use Rattle.stage_runs.specs.Transactions.{Envelope, declared_by}
-use Rattle.stage_runs.specs.Runs.{Cluster, Stage, clusters_in}
+use Rattle.stage_runs.specs.Runs.{Cluster, Stage}
 use Rattle.stage_runs.specs.Conflicts.{meet_at}
-use Rattle.tx_xdr.specs.Stages.{stages_of}
+pub use Rattle.schedule_runs.specs.Plans.{stages_in}
 use Rattle.tx_xdr.specs.declared.set.TxSet.{TxSet}
 use Rattle.soroban_top.specs.declared.status.Status.{Status}
 use Rattle.soroban_top.specs.declared.status.Status.TheVariants.{Conflict}
@@ -71,10 +71,6 @@ first_conflict [] = None
 first_conflict (clusters ∷ stages) = option_or (option_map (in_stage zero) (first_in clusters)) (option_map stage_later (first_conflict stages))
 
 -- ---- its status
-
--- the stages of a set, as lists of clusters
-abbrev pub stages_in : TxSet → List Stage
-stages_in set = map clusters_in (stages_of set)
 
 abbrev pub unless_found : Option FoundConflict → Result (Unit {0}) Status
 unless_found None = Ok tt

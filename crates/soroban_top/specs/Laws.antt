@@ -1,15 +1,17 @@
 -- The outcomes of the commands, in terms of the spellings (RFC 4506) of their files' bytes alone.
-use Rattle.std.specs.Prelude.{◌≡◌, ◌↔◌, ◌≤◌, ℕ, Bool, true, false, List, [], ◌∷◌, Result, Ok, Some, length}
+use Rattle.std.specs.Prelude.{◌≡◌, ◌↔◌, ◌≤◌, ℕ, Bool, true, false, List, [], ◌∷◌, Result, Ok, Option, Some, None, length}
 use Rattle.std.specs.List.{AllByRecursion}
 use Rattle.apply_spec.specs.Enforced.{enforced}
-use Rattle.apply_spec.specs.Outputs.{outputs}
-use Rattle.apply_spec.specs.Runs.{running_header}
+use Rattle.apply_spec.specs.Outputs.{outputs, outputs_after}
+use Rattle.apply_spec.specs.Runs.{new_header, running_header}
 use Rattle.apply_spec.specs.Simulated.{Simulated, simulated}
 use Rattle.apply_spec.specs.SimulationFile.{simulation_bytes, simulation_lines}
 use Rattle.command_words.specs.declared.request.ApplyRequest.{ApplyRequest}
 use Rattle.command_words.specs.declared.request.GenRequest.{GenRequest}
 use Rattle.command_words.specs.declared.request.MigrateRequest.{MigrateRequest}
 use Rattle.command_words.specs.declared.request.Request.TheVariants.{Apply, Simulate, Show, Vet, Migrate, Gen}
+use Rattle.command_words.specs.Values.{all_steps}
+use Rattle.command_words.specs.declared.request.ScheduleOptions.{ScheduleOptions}
 use Rattle.command_words.specs.declared.request.ShowKind.{ShowKind}
 use Rattle.command_words.specs.declared.request.ShowKind.TheVariants as kinds
 use Rattle.command_words.specs.declared.request.ShowRequest.{ShowRequest}
@@ -27,6 +29,9 @@ use Rattle.ledger_types.specs.declared.verdicts.Verdicts.{Verdicts}
 use Rattle.module_vet.specs.Verdict.{IsVerdict}
 use Rattle.module_loader.specs.declared.error.Flaw.{Flaw}
 use Rattle.module_vet.specs.declared.Sizes.{Sizes}
+use Rattle.schedule_runs.specs.Plans.{first_incomplete, run_stopped, steps_of}
+use Rattle.schedule_runs.specs.Schedule.{schedule_format}
+use Rattle.schedule_runs.specs.declared.schedule.Schedule.{Schedule}
 use Rattle.set_generator.specs.GeneratedLedger.{generated_entries, generated_header}
 use Rattle.set_generator.specs.GeneratedSet.{generated_set}
 use Rattle.stage_runs.specs.Conflicts.{IsFirstConflict}
@@ -46,10 +51,12 @@ use Rattle.soroban_top.specs.FirstConflict.{stages_in}
 use Rattle.soroban_top.specs.Generating.{job, made_line}
 use Rattle.soroban_top.specs.Judged.{content_of, ledger_at, opened}
 use Rattle.soroban_top.specs.Migrated.{migrated}
+use Rattle.soroban_top.specs.Scheduled.{with_steps}
 use Rattle.soroban_top.specs.Outcome.{applied, due, only_said, outcome_of}
 use Rattle.soroban_top.specs.Product.{Made, file}
 use Rattle.soroban_top.specs.Steps.{◌>>=◌}
 use Rattle.soroban_top.specs.Vetted.{as_vetted}
+use Rattle.soroban_top.specs.declared.scheduled.ScheduledSteps.{ScheduledSteps}
 use Rattle.soroban_top.specs.declared.status.Status.{Status}
 use Rattle.soroban_top.specs.declared.status.Status.TheVariants as status
 
@@ -101,6 +108,17 @@ pub record IsSpelledIn {A : Type 0} (F : Format A) (x : A) (name : List ℕ) (ba
 abbrev pub due_of : ApplyRequest → FileMap → Status
 due_of a m = due (Some (Apply a)) m
 
+-- the file spells this schedule
+pub record IsScheduleIn (schedule : Schedule) (name : List ℕ) (m : FileMap) : Type 0 where
+  pub bytes : List ℕ
+  pub has_bytes : content_of m name ≡ Ok bytes
+  pub spells : Spells schedule_format schedule bytes
+
+-- The set runs by the schedule that the file spells, with this number of steps, or without one if none is given.
+abbrev pub IsScheduled : Option ScheduleOptions → FileMap → Option ScheduledSteps → Type 0
+IsScheduled None m scheduled = scheduled ≡ None
+IsScheduled (Some options) m scheduled = (schedule : Schedule) × IsScheduleIn schedule options.file m × (scheduled ≡ Some (with_steps schedule options.steps))
+
 -- Ledger with reason Xdr is due exactly if the bytes are refused, at that offset, whatever else is wrong.
 abbrev pub LedgerLaw : Type 0
 LedgerLaw = (a : ApplyRequest) (m : FileMap) (bytes : List ℕ) → HasLedgerFile a.ledger m bytes → (at : ℕ)
@@ -121,25 +139,69 @@ abbrev pub MalformedLaw : Type 0
 MalformedLaw = (a : ApplyRequest) (m : FileMap) (bytes : List ℕ) → HasInputs a.ledger a.verdicts a.set a.base64 m bytes → (at : ℕ) (why : Why)
     → (due_of a m ≡ status.Malformed at why) ↔ Refuses set_format bytes at why
 
--- Conflict is due exactly if they spell a set, and this is its first conflict.
+-- If they spell a set, Schedule is due exactly if the bytes of the schedule's file are refused, at that offset.
+abbrev pub ScheduleLaw : Type 0
+ScheduleLaw = (a : ApplyRequest) (options : ScheduleOptions) (m : FileMap) (bytes schedule : List ℕ) (set : TxSet)
+    → HasInputs a.ledger a.verdicts a.set a.base64 m bytes → Spells set_format set bytes
+    → a.schedule ≡ Some options → content_of m options.file ≡ Ok schedule → IsBytes schedule → (at : ℕ)
+    → (due_of a m ≡ status.Schedule at) ↔ ((why : Why) × Refuses schedule_format schedule at why)
+
+-- If the schedule's file is accepted, or none is given, Conflict is due exactly if they spell a set, and this is its first conflict.
 abbrev pub ConflictLaw : Type 0
-ConflictLaw = (a : ApplyRequest) (m : FileMap) (bytes : List ℕ) → HasInputs a.ledger a.verdicts a.set a.base64 m bytes → (stage x y : ℕ) (key : List ℕ)
+ConflictLaw = (a : ApplyRequest) (m : FileMap) (bytes : List ℕ) (scheduled : Option ScheduledSteps) → HasInputs a.ledger a.verdicts a.set a.base64 m bytes
+    → IsScheduled a.schedule m scheduled → (stage x y : ℕ) (key : List ℕ)
     → (due_of a m ≡ status.Conflict stage x y key) ↔ ((set : TxSet) × Spells set_format set bytes × IsFirstConflict (stages_in set) stage x y key)
 
 -- no stage of the set has a conflict
 abbrev pub IsFree : TxSet → Type 0
 IsFree set = AllByRecursion HasNoConflict (stages_in set)
 
--- Done is due exactly if they spell a set without a conflict.
+-- The set has no conflict. If a schedule is given, each stage has its list, and each list is complete.
+abbrev pub CanRun : Option ScheduledSteps → TxSet → Type 0
+CanRun None set = IsFree set
+CanRun (Some scheduled) set = IsFree set × (first_incomplete (stages_in set) scheduled.schedule.stages ≡ None)
+
+-- The set has no conflict, and this is the least index at which a stage has no list, a list has no stage, or a list is not complete.
+abbrev pub IsIncompleteAt : ℕ → ScheduledSteps → TxSet → Type 0
+IsIncompleteAt stage scheduled set = IsFree set × (first_incomplete (stages_in set) scheduled.schedule.stages ≡ Some stage)
+
+-- Incomplete is due exactly if they spell a set without a conflict, and this is the least index at which the schedule is not complete.
+abbrev pub IncompleteLaw : Type 0
+IncompleteLaw = (a : ApplyRequest) (m : FileMap) (bytes : List ℕ) (scheduled : ScheduledSteps) → HasInputs a.ledger a.verdicts a.set a.base64 m bytes
+    → IsScheduled a.schedule m (Some scheduled) → (stage : ℕ)
+    → (due_of a m ≡ status.Incomplete stage) ↔ ((set : TxSet) × Spells set_format set bytes × IsIncompleteAt stage scheduled set)
+
+-- Done is due exactly if they spell a set without a conflict, and the schedule is complete, if one is given.
 abbrev pub DoneLaw : Type 0
-DoneLaw = (a : ApplyRequest) (m : FileMap) (bytes : List ℕ) → HasInputs a.ledger a.verdicts a.set a.base64 m bytes
-    → (due_of a m ≡ status.Done) ↔ ((set : TxSet) × Spells set_format set bytes × IsFree set)
+DoneLaw = (a : ApplyRequest) (m : FileMap) (bytes : List ℕ) (scheduled : Option ScheduledSteps) → HasInputs a.ledger a.verdicts a.set a.base64 m bytes
+    → IsScheduled a.schedule m scheduled
+    → (due_of a m ≡ status.Done) ↔ ((set : TxSet) × Spells set_format set bytes × CanRun scheduled set)
 
 -- Of a set without a conflict, the outputs over the ledger are stored and printed.
 abbrev pub AppliedLaw : Type 0
 AppliedLaw = (a : ApplyRequest) (m : FileMap) (header : Header) (entries : LedgerMap) (verdicts : Verdicts) (set : TxSet)
     → AreFilesOf a.ledger a.verdicts m header entries verdicts → IsSpelledIn set_format set a.set a.base64 m → IsFree set
+    → a.schedule ≡ None
     → outcome_of (Apply a) m ≡ Ok (applied (file 3 a.report) (file 4 a.ledger_out) (outputs header verdicts entries set a.close_time))
+
+-- If a schedule is given, those of its first steps are stored and printed, with the header after the whole set.
+abbrev pub StoppedLaw : Type 0
+StoppedLaw = (a : ApplyRequest) (m : FileMap) (header : Header) (entries : LedgerMap) (verdicts : Verdicts) (set : TxSet) (scheduled : ScheduledSteps)
+    → AreFilesOf a.ledger a.verdicts m header entries verdicts → IsSpelledIn set_format set a.set a.base64 m
+    → IsScheduled a.schedule m (Some scheduled) → CanRun (Some scheduled) set
+    → outcome_of (Apply a) m ≡ Ok (applied (file 3 a.report) (file 4 a.ledger_out)
+    (outputs_after (new_header header a.close_time) (run_stopped header verdicts entries set a.close_time scheduled.schedule.stages scheduled.steps)))
+
+-- If all its steps run, a complete schedule changes nothing that is stored or printed, whatever the other files have.
+abbrev pub WholeLaw : Type 0
+WholeLaw = (a : ApplyRequest) (m : FileMap) (set : TxSet) (scheduled : ScheduledSteps) → IsSpelledIn set_format set a.set a.base64 m
+    → IsScheduled a.schedule m (Some scheduled) → CanRun (Some scheduled) set → steps_of scheduled.schedule.stages ≤ scheduled.steps
+    → outcome_of (Apply a) m ≡ outcome_of (Apply (record a { schedule = None })) m
+
+-- All its steps run if their number is not given.
+abbrev pub AllStepsLaw : Type 0
+AllStepsLaw = (options : Option ScheduleOptions) (m : FileMap) (scheduled : ScheduledSteps) → IsScheduled options m (Some scheduled) → scheduled.steps ≡ all_steps
+    → steps_of scheduled.schedule.stages ≤ scheduled.steps
 
 -- ---- simulate
 

@@ -9,6 +9,7 @@ pub mod Laws
 pub mod Left
 pub mod Lines
 pub mod Migrated
+pub mod Scheduled
 pub mod Outcome
 pub mod Product
 pub mod Seen

@@ -9,7 +9,7 @@ use Rattle.soroban_top.specs.Steps.{status_of}
 use Rattle.ledger_spec.specs.declared.LedgerWhy.{LedgerWhy}
 use Rattle.ledger_spec.specs.declared.LedgerWhy.TheVariants as why
 use Rattle.soroban_top.specs.declared.status.Status.{Status}
-use Rattle.soroban_top.specs.declared.status.Status.TheVariants.{Done, Usage, Fault, TooLong, Ledger, Verdicts, Malformed, NotBase64, Conflict, NotAModule, Ill, Unlinked, NoMemory}
+use Rattle.soroban_top.specs.declared.status.Status.TheVariants.{Done, Usage, Fault, TooLong, Ledger, Verdicts, Malformed, NotBase64, Conflict, Schedule, Incomplete, NotAModule, Ill, Unlinked, NoMemory}
 use Rattle.xdr_spec.specs.declared.Why.{Why}
 use Rattle.xdr_spec.specs.declared.Why.TheVariants.{End, Padding, Boolean, Tag, Limit, Depth, Trailing}
 
@@ -53,6 +53,8 @@ line_of (Verdicts at) = codes "verdicts refused at " ++ decimal at ++ codes "\n"
 line_of (Malformed at why) = codes "refused at " ++ decimal at ++ name_of why
 line_of (NotBase64 name) = codes "not base64: " ++ name ++ codes "\n"
 line_of (Conflict stage a b key) = conflict_line stage a b key
+line_of (Schedule at) = codes "schedule refused at " ++ decimal at ++ codes "\n"
+line_of (Incomplete stage) = codes "schedule not complete: stage " ++ decimal stage ++ codes "\n"
 line_of NotAModule = codes "not a module\n"
 line_of (Ill func) = ill_line func
 line_of (Unlinked k) = codes "unlinked: import " ++ decimal k ++ codes "\n"
@@ -69,6 +71,8 @@ code_of (Verdicts at) = 3
 code_of (Malformed at why) = 1
 code_of (NotBase64 name) = 1
 code_of (Conflict stage a b key) = 1
+code_of (Schedule at) = 3
+code_of (Incomplete stage) = 7
 code_of NotAModule = 1
 code_of (Ill func) = 1
 code_of (Unlinked k) = 1

@@ -1,6 +1,6 @@
 -- The outcome of a command, if the content of its files is known (own).
 use Rattle.std.specs.Prelude.{◌≡◌, ℕ, List, [], ◌∷◌, Option, Some, None, Result, Ok, Err, ⊤}
-use Rattle.apply_spec.specs.Outputs.{Outputs, outputs}
+use Rattle.apply_spec.specs.Outputs.{Outputs}
 use Rattle.apply_spec.specs.Runs.{running_header}
 use Rattle.apply_spec.specs.SimulationFile.{SimulationOutputs, simulation_outputs}
 use Rattle.command_words.specs.declared.request.Request.{Request}
@@ -10,11 +10,10 @@ use Rattle.ledger_spec.specs.LedgerMap.{LedgerMap}
 use Rattle.ledger_types.specs.declared.header.Header.{Header}
 use Rattle.ledger_types.specs.declared.verdicts.Verdicts.{Verdicts}
 use Rattle.tx_xdr.specs.declared.envelope.Envelope.{Envelope}
-use Rattle.tx_xdr.specs.declared.set.TxSet.{TxSet}
-use Rattle.soroban_top.specs.FirstConflict.{free_of_conflict}
 use Rattle.soroban_top.specs.Generating.{generated}
 use Rattle.soroban_top.specs.Judged.{ledger_at, verdicts_at, set_at, envelope_at}
 use Rattle.soroban_top.specs.Migrated.{any_ledger_at, migrated}
+use Rattle.soroban_top.specs.Scheduled.{scheduled_at, may_run, outputs_by}
 use Rattle.soroban_top.specs.Product.{Made, File, file}
 use Rattle.soroban_top.specs.Shown.{shown_at}
 use Rattle.soroban_top.specs.Steps.{◌>>=◌, status_of}
@@ -37,22 +36,20 @@ simulated out made = record { stores = record { file = out; bytes = made.file } 
 abbrev pub only_said : List ℕ → Made
 only_said lines = record { stores = []; says = lines }
 
--- the outputs of a set over a ledger, with these verdicts, at a close time
-unfoldable pub outputs_of : Header × LedgerMap → Verdicts → TxSet → ℕ → Outputs
-outputs_of ledger verdicts set close_time = outputs ledger.0 verdicts ledger.1 set close_time
-
 -- the outputs of an envelope over a ledger, with these verdicts, at a close time
 unfoldable pub simulation_of : Header × LedgerMap → Verdicts → Envelope → ℕ → SimulationOutputs
 simulation_of ledger verdicts envelope close_time = simulation_outputs (running_header ledger.0 close_time) verdicts ledger.1 envelope
 
--- The outcome of a command: each file is checked before the next is read. A set is run only if none of its stages has a conflict.
+-- The outcome of a command: each file is checked before the next is read. A set is run only if none of its stages has a conflict,
+-- and if the schedule is complete that is given for it.
 abbrev pub outcome_of : Request → FileMap → Result Made Status
 outcome_of (Apply a) m = do
   ledger ← ledger_at m a.ledger
   verdicts ← verdicts_at m a.verdicts
   set ← set_at m a.base64 a.set
-  _ ← free_of_conflict set
-  Ok (applied (file 3 a.report) (file 4 a.ledger_out) (outputs_of ledger verdicts set a.close_time))
+  scheduled ← scheduled_at m a.schedule
+  _ ← may_run scheduled set
+  Ok (applied (file 3 a.report) (file 4 a.ledger_out) (outputs_by scheduled ledger verdicts set a.close_time))
 outcome_of (Simulate s) m = do
   ledger ← ledger_at m s.ledger
   verdicts ← verdicts_at m s.verdicts

@@ -9,7 +9,7 @@ ghost use Rattle.soroban_top.specs.Product.{file};
 ghost use Rattle.soroban_top.specs.Steps.{Gives, GivesExactly, UnlessFault, status_of};
 ghost use Rattle.soroban_top.specs.Views.{made_of, outputs_in, targets_of};
 
-use crate::judged::{read_ledger, read_set, read_verdicts};
+use crate::judged::{read_ledger, read_scheduled, read_set, read_verdicts};
 use crate::outputs::{Outputs, Run, make_outputs};
 use crate::product::{LEDGER, LEDGER_OUT, REPORT, SET, VERDICTS};
 use crate::{FileArg, OutputFile, Product, Status};
@@ -18,7 +18,7 @@ use edge_io::{Files, Gate};
 use std::alloc::{AllocError, Global};
 use std::thread::Threads;
 
-/// Reads and checks the three files, and makes the report, the new ledger and the lines.
+/// Reads and checks the three files, and that of a schedule, if it is given, and makes the report, the new ledger and the lines.
 pub fn apply<'a, R: Threads + Sync, F: Files, G: Gate + Sync>(
     rt: &R,
     alloc: Global,
@@ -41,8 +41,10 @@ pub fn apply<'a, R: Threads + Sync, F: Files, G: Gate + Sync>(
     let ledger = read_ledger(alloc, files, LEDGER, &request.ledger)?;
     let verdicts = read_verdicts(alloc, files, VERDICTS, &request.verdicts)?;
     let set = read_set(alloc, files, SET, &request.set, request.base64)?;
+    let scheduled = read_scheduled(alloc, files, &request.schedule)?;
     let run = Run {
         set: &set,
+        scheduled: &scheduled,
         close_time: request.close_time,
         verdicts: &verdicts,
         workers: request.workers as usize,

@@ -76,6 +76,19 @@ fn say_status<S: Say>(alloc: Global, say: &mut S, status: &Status) -> Result<(),
         Status::Conflict { stage, a, b, key } => {
             say_conflict(alloc, say, *stage, *a, *b, key.as_slice())
         }
+        Status::Schedule { at } => {
+            let at = digits.format(*at);
+            say_parts(say, b"schedule refused at ", at.as_bytes(), b"\n")
+        }
+        Status::Incomplete { stage } => {
+            let stage = digits.format(*stage);
+            say_parts(
+                say,
+                b"schedule not complete: stage ",
+                stage.as_bytes(),
+                b"\n",
+            )
+        }
         Status::NotAModule => say_part(say, b"not a module\n"),
         Status::Ill { func } => say_ill(say, *func),
         Status::Unlinked { import } => {

@@ -5,19 +5,24 @@ ghost use Rattle.ledger_spec.specs.LedgerFile.{are_settings, has_next};
 ghost use Rattle.ledger_types.specs.Header.{header_format};
 ghost use Rattle.tx_xdr.specs.Envelope.{envelope_format};
 ghost use Rattle.tx_xdr.specs.Set.{set_format};
+ghost use Rattle.soroban_top.specs.Asked.{schedule_files};
 ghost use Rattle.soroban_top.specs.Counts.{HasCause, IsOfBytes, NoLower, SameCounts};
 ghost use Rattle.soroban_top.specs.Judged.{ledger_at, ledger_in, verdicts_at, verdicts_in, set_at, set_opened, envelope_at, envelope_opened};
+ghost use Rattle.soroban_top.specs.Scheduled.{scheduled_at, schedule_at, schedule_in};
 ghost use Rattle.soroban_top.specs.Product.{file};
 ghost use Rattle.soroban_top.specs.Seen.{seen};
 ghost use Rattle.soroban_top.specs.Steps.{Gives, GivesExactly, UnlessFault, status_of};
 
 use crate::drive::read_file;
 use crate::opened::open_text;
+use crate::product::SCHEDULE;
 use crate::spelled::{envelope_in, set_in};
-use crate::{FileArg, Status};
+use crate::{FileArg, ScheduledSteps, Status};
+use command_words::ScheduleOptions;
 use edge_io::{Files, Word};
 use ledger_file::Ledger;
 use ledger_types::Verdicts;
+use schedule_runs::Schedule;
 use std::alloc::Global;
 use tx_xdr::{Envelope, TxSet};
 use xdr_core::ReadXdr;
@@ -104,6 +109,50 @@ fn set_opened(alloc: Global, base64: bool, name: &Word, text: &[u8]) -> Result<T
     }
 }
 
+/// Reads the order of a set, if a schedule is given.
+pub fn read_scheduled<F: Files>(
+    alloc: Global,
+    files: &mut F,
+    options: &Option<ScheduleOptions>,
+) -> Result<Option<ScheduledSteps>, Status>
+    ensures given { IfSome (F.contents files.old) (λ m. Gives (λ o. o) result (scheduled_at m options.now)) }
+    ensures same { F.contents files.new ≡ F.contents files.old }
+    ensures counts { NoLower (F.faults files.old) (F.faults files.new) }
+    ensures cause { IfErr result (HasCause (schedule_files options.now) (F.faults files.old) (F.faults files.new)) }
+    ensures steady { F.steady files.old → IfSome (F.contents files.old) (λ m. UnlessFault (status_of (scheduled_at m options.now))
+        (F.steady files.new × SameCounts (F.faults files.old) (F.faults files.new))) }
+    ensures steady_exact { F.steady files.old → IfSome (F.contents files.old) (λ m.
+        GivesExactly (λ o. o) result (scheduled_at m options.now)) }
+{
+    match options {
+        None => Ok(None),
+        Some(options) => {
+            let schedule = read_schedule(alloc, files, &options.file)?;
+            let steps = options.steps;
+            Ok(Some(ScheduledSteps { schedule, steps }))
+        }
+    }
+}
+
+/// Reads the schedule in a file.
+fn read_schedule<F: Files>(alloc: Global, files: &mut F, name: &Word) -> Result<Schedule, Status>
+    ensures given { IfSome (F.contents files.old) (λ m. Gives (λ s. s) result (schedule_at m name.now)) }
+    ensures same { F.contents files.new ≡ F.contents files.old }
+    ensures counts { NoLower (F.faults files.old) (F.faults files.new) }
+    ensures cause { IfErr result (HasCause (file 5 name.now ∷ []) (F.faults files.old) (F.faults files.new)) }
+    ensures steady { F.steady files.old → IfSome (F.contents files.old) (λ m. UnlessFault (status_of (schedule_at m name.now))
+        (F.steady files.new × SameCounts (F.faults files.old) (F.faults files.new))) }
+    ensures steady_exact { F.steady files.old → IfSome (F.contents files.old) (λ m.
+        GivesExactly (λ s. s) result (schedule_at m name.now)) }
+{
+    let file = FileArg {
+        option: SCHEDULE,
+        name,
+    };
+    let bytes = read_file(alloc, files, &file)?;
+    schedule_in(alloc, bytes.as_slice())
+}
+
 /// Reads the envelope in a file, which may be base64 text.
 pub fn read_envelope<F: Files>(
     alloc: Global,
@@ -167,6 +216,18 @@ fn verdicts_in(alloc: Global, bytes: &[u8]) -> Result<Verdicts, Status>
     match ledger_file::read_verdicts(alloc, bytes) {
         Ok(verdicts) => Ok(verdicts),
         Err(ReadXdr::Bad(error)) => Err(Status::Verdicts { at: error.at }),
+        Err(ReadXdr::NoMemory) => Err(Status::NoMemory),
+    }
+}
+
+#[tactic(auto, unfolding(crate::specs::Scheduled::schedule_in))]
+fn schedule_in(alloc: Global, bytes: &[u8]) -> Result<Schedule, Status>
+    ensures given { Gives (λ s. s) result (schedule_in bytes.now) }
+    ensures cause { IfErr result IsOfBytes }
+{
+    match schedule_runs::read_schedule(alloc, bytes) {
+        Ok(schedule) => Ok(schedule),
+        Err(ReadXdr::Bad(error)) => Err(Status::Schedule { at: error.at }),
         Err(ReadXdr::NoMemory) => Err(Status::NoMemory),
     }
 }

@@ -1,12 +1,13 @@
 //! The outcomes of the commands, in terms of the spellings of their files' bytes.
 
 ghost use Rattle.soroban_top.specs.ConflictLaws.{FirstConflictLaw, NoConflictLaw};
-ghost use Rattle.soroban_top.specs.Laws.{AppliedLaw, ConflictLaw, DoneLaw, EnvelopeDoneLaw, EnvelopeMalformedLaw, GenLaw, LedgerDoneLaw, LedgerLaw, LedgerShownLaw, MalformedLaw, MigrateDoneLaw, MigrateLaw, MigrateRefusedLaw, NoLedgerLaw, SetDoneLaw, SetMalformedLaw, SimulateDoneLaw, SimulateEnforcedLaw, SimulateLaw, SimulateLedgerLaw, SimulateMalformedLaw, SimulateNoLedgerLaw, SimulateVerdictsLaw, ValueDoneLaw, ValueMalformedLaw, VerdictsLaw, VetLaw};
+ghost use Rattle.soroban_top.specs.Laws.{AllStepsLaw, AppliedLaw, ConflictLaw, DoneLaw, EnvelopeDoneLaw, EnvelopeMalformedLaw, GenLaw, IncompleteLaw, LedgerDoneLaw, LedgerLaw, LedgerShownLaw, MalformedLaw, MigrateDoneLaw, MigrateLaw, MigrateRefusedLaw, NoLedgerLaw, ScheduleLaw, SetDoneLaw, SetMalformedLaw, SimulateDoneLaw, SimulateEnforcedLaw, SimulateLaw, SimulateLedgerLaw, SimulateMalformedLaw, SimulateNoLedgerLaw, SimulateVerdictsLaw, StoppedLaw, ValueDoneLaw, ValueMalformedLaw, VerdictsLaw, VetLaw, WholeLaw};
 
 /// `apply`: Ledger is due exactly if the bytes are not the file of a ledger, with reason Xdr if they are refused. If that file is
 /// accepted, Verdicts is due exactly if the verdicts' bytes are refused. If these are accepted, too, Malformed is due exactly if the
-/// set's bytes are refused, Conflict exactly if they spell a set with this first conflict, and Done exactly if they spell a set
-/// without a conflict. Then its outputs over the ledger are stored.
+/// set's bytes are refused. If the schedule's file is accepted or none is given, Conflict is due exactly if they spell a set with this
+/// first conflict, and Done exactly if they spell a set without a conflict, for which the schedule is complete, if one is given. Then
+/// its outputs over the ledger are stored.
 pub fn apply_laws()
     ensures ledger { LedgerLaw }
     ensures no_ledger { NoLedgerLaw }
@@ -15,6 +16,18 @@ pub fn apply_laws()
     ensures conflict { ConflictLaw }
     ensures done { DoneLaw }
     ensures applied { AppliedLaw }
+{}
+
+/// `apply` by a schedule: Schedule is due exactly if the schedule's bytes are refused, after the set's and before conflicts are looked
+/// for. Incomplete is due exactly if the set has no conflict, and this is the least index at which the schedule is not complete.
+/// Otherwise the outputs of its first steps are stored; they are those of the set if all its steps run, as they do if their number is
+/// not given.
+pub fn schedule_laws()
+    ensures schedule { ScheduleLaw }
+    ensures incomplete { IncompleteLaw }
+    ensures stopped { StoppedLaw }
+    ensures whole { WholeLaw }
+    ensures all_steps { AllStepsLaw }
 {}
 
 /// The conflict that is found in a set is the least one by stage, clusters and key.

@@ -26,6 +26,7 @@ mod opened;
 mod outputs;
 mod product;
 mod request;
+mod scheduled;
 mod show;
 mod simulate;
 mod simulation;
@@ -39,17 +40,19 @@ use edge_io::{Files, Gate, Say, Word};
 pub use ending::finish;
 pub use key_bytes::KeyBytes;
 pub use laws::{
-    apply_laws, first_conflict_laws, gen_laws, migrate_laws, show_laws, simulate_laws, vet_law,
+    apply_laws, first_conflict_laws, gen_laws, migrate_laws, schedule_laws, show_laws,
+    simulate_laws, vet_law,
 };
 use product::{FileArg, OutputFile, Product};
 use request::{asked, produce};
+use scheduled::ScheduledSteps;
 pub use status::Status;
 use std::alloc::Global;
 use std::thread::Threads;
 
 /// Runs the command of the words, and prints the lines of its status.
 ///
-/// The runtime and the gate are for the workers of `apply`. All its clusters run on one thread yet.
+/// The runtime starts the threads of the workers of `apply`, which enter the gate before each cluster if no schedule is given.
 pub fn soroban<R: Threads + Sync, F: Files, S: Say, G: Gate + Sync>(
     rt: &R,
     alloc: Global,

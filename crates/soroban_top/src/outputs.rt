@@ -13,17 +13,18 @@ ghost use Rattle.tx_xdr.specs.Set.{set_format};
 ghost use Rattle.xdr_spec.specs.Format.{optional};
 ghost use Rattle.soroban_top.specs.Counts.{IsOfBytes};
 ghost use Rattle.soroban_top.specs.FirstConflict.{free_of_conflict};
-ghost use Rattle.soroban_top.specs.Outcome.{outputs_of};
+ghost use Rattle.soroban_top.specs.Scheduled.{may_run, outputs_by, outputs_of, outputs_stopped};
 ghost use Rattle.soroban_top.specs.Seen.{seen};
 ghost use Rattle.soroban_top.specs.Steps.{UnlessNoMemory};
 ghost use Rattle.soroban_top.specs.Views.{outputs_in};
 
 use crate::lines::lines;
-use crate::{KeyBytes, Status};
+use crate::{KeyBytes, ScheduledSteps, Status};
 use edge_io::Gate;
 use ledger_apply::{Applied, ApplyErr, apply_set};
 use ledger_file::{Ledger, write_ledger};
 use ledger_types::{LedgerKey, Verdicts};
+use schedule_runs::{SchedErr, run_schedule};
 use std::alloc::Global;
 use std::thread::Threads;
 use tx_results::write_report;
@@ -35,6 +36,8 @@ use xdr_core::NoMemory;
 #[derive(Clone, Copy)]
 pub struct Run<'a> {
     pub set: &'a TxSet,
+    /// The order of its transactions, if a schedule is given.
+    pub scheduled: &'a Option<ScheduledSteps>,
     pub close_time: u64,
     pub verdicts: &'a Verdicts,
     pub workers: usize,
@@ -48,8 +51,34 @@ pub struct Outputs {
     pub lines: Vec<u8>,
 }
 
-/// Runs a set over a ledger, and writes the bytes to store and the lines to print. A set with a conflict is not run.
+/// Runs a set over a ledger, and writes the bytes to store and the lines to print. A set with a conflict is not run, nor is one with
+/// a schedule that is not complete.
 pub fn make_outputs<R: Threads + Sync, G: Gate + Sync>(
+    rt: &R,
+    alloc: Global,
+    ledger: Ledger,
+    run: &Run<'_>,
+    gate: &G,
+) -> Result<Outputs, Status>
+    requires set { set_format.fits run.now.set.now }
+    requires header { header_format.fits ledger.header }
+    requires settings { IsTrue (are_settings ledger.header.settings) }
+    requires next { IsTrue (has_next ledger.header) }
+    requires workers { (1 ≤ run.now.workers) × (run.now.workers ≤ 64) }
+    ensures free { IfOk result (λ _. may_run run.now.scheduled.now run.now.set.now ≡ Ok tt) }
+    ensures outputs { IfOk result (λ o. outputs_in o ≡ outputs_by run.now.scheduled.now
+        (seen ledger) run.now.verdicts.now run.now.set.now run.now.close_time) }
+    ensures refused { IfErr result (λ status. UnlessNoMemory status (may_run run.now.scheduled.now run.now.set.now ≡ Err status)) }
+    ensures cause { IfErr result IsOfBytes }
+{
+    match run.scheduled {
+        None => by_workers(rt, alloc, ledger, run, gate),
+        Some(scheduled) => by_schedule(alloc, ledger, run, scheduled),
+    }
+}
+
+/// Runs a set in its own order, by workers.
+fn by_workers<R: Threads + Sync, G: Gate + Sync>(
     rt: &R,
     alloc: Global,
     ledger: Ledger,
@@ -91,6 +120,53 @@ pub fn make_outputs<R: Threads + Sync, G: Gate + Sync>(
             })
         }
         Err(ApplyErr::NoMemory) => Err(Status::NoMemory),
+    }
+}
+
+/// Runs the first steps of a set in the order of a schedule.
+fn by_schedule(
+    alloc: Global,
+    ledger: Ledger,
+    run: &Run<'_>,
+    scheduled: &ScheduledSteps,
+) -> Result<Outputs, Status>
+    requires set { set_format.fits run.now.set.now }
+    requires header { header_format.fits ledger.header }
+    requires settings { IsTrue (are_settings ledger.header.settings) }
+    requires next { IsTrue (has_next ledger.header) }
+    ensures free { IfOk result (λ _. may_run (Some scheduled.now) run.now.set.now ≡ Ok tt) }
+    ensures outputs { IfOk result (λ o. outputs_in o ≡ outputs_stopped
+        (seen ledger) run.now.verdicts.now run.now.set.now run.now.close_time scheduled.now) }
+    ensures refused { IfErr result (λ status. UnlessNoMemory status (may_run (Some scheduled.now) run.now.set.now ≡ Err status)) }
+    ensures cause { IfErr result IsOfBytes }
+{
+    let schedule = &scheduled.schedule;
+    match run_schedule(
+        alloc,
+        ledger,
+        run.set,
+        run.close_time,
+        run.verdicts,
+        schedule,
+        scheduled.steps,
+    ) {
+        Ok(applied) => {
+            let outputs = written(alloc, &applied)?;
+            Ok(outputs)
+        }
+        Err(SchedErr::Conflict { stage, found, .. }) => {
+            let key = key_bytes(alloc, found.key)?;
+            Err(Status::Conflict {
+                stage: stage as u64,
+                a: found.a as u64,
+                b: found.b as u64,
+                key,
+            })
+        }
+        Err(SchedErr::Incomplete { stage, .. }) => Err(Status::Incomplete {
+            stage: stage as u64,
+        }),
+        Err(SchedErr::NoMemory) => Err(Status::NoMemory),
     }
 }
 

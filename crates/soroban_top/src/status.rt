@@ -52,6 +52,15 @@ pub enum Status {
         b: u64,
         key: KeyBytes,
     },
+    /// The schedule's file is refused at this byte offset.
+    Schedule {
+        at: u64,
+    },
+    /// The schedule is not complete for the set: the least index at which a stage has no list, a list has no stage, or a list is not
+    /// complete.
+    Incomplete {
+        stage: u64,
+    },
     /// The bytes are no WebAssembly module.
     NotAModule,
     /// The module is ill typed: the index of its first ill-typed function, with imports counted, or none if a rule outside function
@@ -82,10 +91,11 @@ impl Status {
             | Status::Ill { .. }
             | Status::Unlinked { .. } => 1,
             Status::Usage => 2,
-            Status::Ledger { .. } | Status::Verdicts { .. } => 3,
+            Status::Ledger { .. } | Status::Verdicts { .. } | Status::Schedule { .. } => 3,
             Status::Fault { .. } => 4,
             Status::NoMemory => 5,
             Status::TooLong { .. } => 6,
+            Status::Incomplete { .. } => 7,
         }
     }
 }

@@ -1,8 +1,8 @@
 use Rattle.std.proofs.Common.{◌∙◌, arith}
 use Rattle.apply_spec.specs.Runs.{new_header, run_set}
-use Rattle.soroban_top.specs.Outcome.{outputs_of}
+use Rattle.soroban_top.specs.Scheduled.{outputs_of}
 use Rattle.soroban_top.proofs.Made.{conflict_is, free_is, new_header_fits, outputs_applied}
-use Rattle.soroban_top.proofs.outputs.make_outputs.Goals as goal
+use Rattle.soroban_top.proofs.outputs.by_workers.Goals as goal
 
 pub written-requires-clause-header : goal.written-requires-clause-header
 written-requires-clause-header g c =
