@@ -1,7 +1,7 @@
 #!/usr/bin/env python3
-"""Calls functions over values through part_bench, 100,000 times each, with new objects after 1,000 calls, and prints calls a second.
+"""Calls functions over values through conformance, 100,000 times each, with new objects after 1,000 calls, and prints calls a second.
 
-usage: bench/calls.py PART_BENCH (the built program of crates/part_bench; it needs GNU time at /usr/bin/time)
+usage: bench/calls.py CONFORMANCE (the built program of crates/conformance; it needs GNU time at /usr/bin/time)
 """
 
 import os
@@ -46,7 +46,7 @@ def main():
             for size in SIZES if name != "obj_to_u64" else (1,):
                 with open(path, "wb") as file:
                     file.write(value(name, size))
-                seconds = min(measure([program, "calls", path, name])[0] for _ in range(TURNS))
+                seconds = min(measure([program, "bench", "calls", name, path])[0] for _ in range(TURNS))
                 print(f"| `{name}` | {size:,} | {CALLS / seconds:,.0f} |")
 
 

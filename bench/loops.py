@@ -1,7 +1,7 @@
 #!/usr/bin/env python3
-"""Runs integer loops through part_bench and through wabt's wasm-interp, and prints instructions a second of processor time of both.
+"""Runs integer loops through conformance and through wabt's wasm-interp, and prints instructions a second of processor time of both.
 
-usage: bench/loops.py PART_BENCH (the built program of crates/part_bench; it needs wat2wasm and wasm-interp of wabt)
+usage: bench/loops.py CONFORMANCE (the built program of crates/conformance; it needs wat2wasm and wasm-interp of wabt)
 """
 
 import os
@@ -55,8 +55,9 @@ def main():
             with open(text, "w") as file:
                 file.write(alone(name))
             subprocess.run(["wat2wasm", text, "-o", module], check=True)
-            here, said = timed(program, "export", module, name)
-            found, count = map(int, re.fullmatch(r"result (\d+), (\d+) instructions\n", said).groups())
+            here, said = timed(program, "bench", "export", name, module)
+            words = re.fullmatch(r"done ([0-9a-f]+), instructions (\d+) memory \d+\n", said)
+            found, count = int(words[1], 16), int(words[2])
             there, other = timed("wasm-interp", module, "--run-all-exports")
             assert other.strip().endswith(f"i64:{found}"), (name, said, other)
             print(f"{name:10} {count:13,} {count / here:14,.0f} {count / there:14,.0f}")

@@ -1,7 +1,7 @@
 #!/usr/bin/env python3
-"""Makes 25,000, 50,000 and 100,000 new entries in a ledger of 200,000 with part_bench, and prints µs an entry.
+"""Makes 25,000, 50,000 and 100,000 new entries in a ledger of 200,000 with conformance, and prints µs an entry.
 
-usage: bench/maps.py PART_BENCH (the built program of crates/part_bench; it needs GNU time at /usr/bin/time)
+usage: bench/maps.py CONFORMANCE (the built program of crates/conformance; it needs GNU time at /usr/bin/time)
 """
 
 import os
@@ -20,12 +20,12 @@ def main():
         path = os.path.join(folder, "ledger")
         with open(path, "wb") as file:
             file.write(ledger(ENTRIES))
-        read = min(measure([program, "entries", path, "0"])[0] for _ in range(TURNS))
+        read = min(measure([program, "bench", "entries", "0", path])[0] for _ in range(TURNS))
         print(f"{ENTRIES} entries read: {read:.2f} s")
         print("| new entries | µs an entry |")
         print("|--:|--:|")
         for count in (25_000, 50_000, 100_000):
-            seconds = min(measure([program, "entries", path, str(count)])[0] for _ in range(TURNS))
+            seconds = min(measure([program, "bench", "entries", str(count), path])[0] for _ in range(TURNS))
             print(f"| {count:,} | {(seconds - read) / count * 1e6:.2f} |")
 
 

@@ -1,7 +1,7 @@
 #!/usr/bin/env python3
-"""Reads and writes a large transaction set with part_bench, and prints MB a second of both together beside sha256sum.
+"""Reads and writes a large transaction set with conformance, and prints MB a second of both together beside sha256sum.
 
-usage: bench/sets.py PART_BENCH (the built program of crates/part_bench; it needs sha256sum)
+usage: bench/sets.py CONFORMANCE (the built program of crates/conformance; it needs sha256sum)
 """
 
 import os
@@ -47,8 +47,8 @@ def main():
         data = transaction_set(TRANSACTIONS)
         with open(path, "wb") as file:
             file.write(data)
-        once = seconds(program, "set", path, "1")
-        turn = (seconds(program, "set", path, str(TURNS + 1)) - once) / TURNS
+        once = seconds(program, "bench", "set", "1", path)
+        turn = (seconds(program, "bench", "set", str(TURNS + 1), path) - once) / TURNS
         hashed = seconds("sha256sum", path)
         size = len(data) / 1e6
         print(f"{TRANSACTIONS} transactions, {size:.1f} MB")

@@ -11,6 +11,20 @@ pub struct Fragments {
     named: BTreeMap<String, Vec<u8>>,
 }
 
+/// What is taken of the bytes of a name.
+#[derive(Clone, Copy)]
+enum Cut<'a> {
+    All,
+    /// `*COUNT`: all, so many times.
+    Times(&'a str),
+    /// `<COUNT`: the first ones.
+    Prefix(&'a str),
+    /// `>OFFSET`: those from an offset on.
+    Suffix(&'a str),
+    /// `@OFFSET=HEX`: all, with other bytes from an offset on.
+    Edited(&'a str),
+}
+
 impl Fragments {
     /// No names.
     pub fn new(alloc: Global) -> Fragments {
@@ -35,77 +49,150 @@ impl Fragments {
 
     /// Appends the bytes that a text spells, as `bytes` reads it.
     pub fn push_bytes(&self, alloc: Global, out: &mut Vec<u8>, text: &str) -> Result<(), CaseErr> {
-        // Each piece but the first begins inside a brace.
-        for (i, piece) in text.split('{').enumerate() {
-            let digits = if i == 0 {
-                piece
-            } else {
-                let (inside, digits) = piece.split_once('}').ok_or(CaseErr::Lacks("a brace"))?;
-                self.push_named(alloc, out, inside)?;
-                digits
-            };
-            for digits in digits.split(' ') {
-                out.extend_from_slice(&hex::decode(alloc, digits)?)?;
-            }
+        let mut pieces = text.split('{');
+        push_digits(alloc, out, pieces.next().unwrap_or(""))?;
+        for piece in pieces {
+            let (inside, digits) = at_brace(piece)?;
+            self.push_named(alloc, out, inside)?;
+            push_digits(alloc, out, digits)?;
         }
         Ok(())
     }
 
+    /// Replaces bytes by those that a text spells.
+    pub fn refill(&self, alloc: Global, bytes: &mut Vec<u8>, text: &str) -> Result<(), CaseErr> {
+        bytes.clear();
+        self.push_bytes(alloc, bytes, text)
+    }
+
+    /// Replaces a list by the bytes that each word of a text spells.
+    pub fn refill_each(
+        &self,
+        alloc: Global,
+        each: &mut Vec<Vec<u8>>,
+        text: &str,
+    ) -> Result<(), CaseErr> {
+        each.clear();
+        self.push_each(alloc, each, text)
+    }
+
+    /// Appends the bytes that each word of a text spells. The empty text has no words.
+    pub fn push_each(
+        &self,
+        alloc: Global,
+        each: &mut Vec<Vec<u8>>,
+        text: &str,
+    ) -> Result<(), CaseErr> {
+        if text.is_empty() {
+            return Ok(());
+        }
+        for word in text.split(' ') {
+            self.push_word(alloc, each, word)?;
+        }
+        Ok(())
+    }
+
+    fn push_word(&self, alloc: Global, each: &mut Vec<Vec<u8>>, word: &str) -> Result<(), CaseErr> {
+        Ok(each.push(self.bytes(alloc, word)?)?)
+    }
+
     /// Appends a text in which hex digits stand for each brace, and what it contains.
     pub fn push_text(&self, alloc: Global, out: &mut String, text: &str) -> Result<(), CaseErr> {
-        for (i, piece) in text.split('{').enumerate() {
-            let plain = if i == 0 {
-                piece
-            } else {
-                let (inside, plain) = piece.split_once('}').ok_or(CaseErr::Lacks("a brace"))?;
-                let mut bytes = Vec::new(alloc);
-                self.push_named(alloc, &mut bytes, inside)?;
-                out.push_str(hex::encode(alloc, &bytes)?.as_str())?;
-                plain
-            };
+        let mut pieces = text.split('{');
+        out.push_str(pieces.next().unwrap_or(""))?;
+        for piece in pieces {
+            let (inside, plain) = at_brace(piece)?;
+            self.push_named_digits(alloc, out, inside)?;
             out.push_str(plain)?;
         }
         Ok(())
     }
 
-    fn named(&self, name: &str) -> Result<&[u8], CaseErr> {
-        match self.named.get(name) {
-            Some(bytes) => Ok(bytes.as_slice()),
-            None => Err(CaseErr::Lacks("bytes of that name")),
-        }
+    /// Appends the bytes of what stands in braces, in hex digits.
+    fn push_named_digits(
+        &self,
+        alloc: Global,
+        out: &mut String,
+        inside: &str,
+    ) -> Result<(), CaseErr> {
+        let mut bytes = Vec::new(alloc);
+        self.push_named(alloc, &mut bytes, inside)?;
+        push_hex(alloc, out, &bytes)
     }
 
     /// Appends the bytes of what stands in braces.
     fn push_named(&self, alloc: Global, out: &mut Vec<u8>, inside: &str) -> Result<(), CaseErr> {
-        if let Some((name, edit)) = inside.split_once('@') {
-            let (offset, digits) = edit.split_once('=').ok_or(CaseErr::Lacks("new bytes"))?;
-            let other = hex::decode(alloc, digits)?;
-            push_edited(out, self.named(name)?, count(offset)?, &other)?;
-        } else if let Some((name, times)) = inside.split_once('*') {
-            let repeated = self.named(name)?;
-            for _ in 0..number(times)? {
-                out.extend_from_slice(repeated)?;
-            }
-        } else if let Some((name, end)) = inside.split_once('<') {
-            out.extend_from_slice(prefix(self.named(name)?, count(end)?)?)?;
-        } else if let Some((name, start)) = inside.split_once('>') {
-            out.extend_from_slice(suffix(self.named(name)?, count(start)?)?)?;
-        } else {
-            out.extend_from_slice(self.named(inside)?)?;
+        let (name, cut) = cut_of(inside);
+        match self.named.get(name) {
+            Some(bytes) => push_cut(alloc, out, bytes, cut),
+            None => Err(CaseErr::Lacks("bytes of that name")),
         }
-        Ok(())
     }
 }
 
-fn prefix(bytes: &[u8], end: usize) -> Result<&[u8], CaseErr> {
-    bytes.get(..end).ok_or(CaseErr::Lacks("so many bytes"))
+/// Appends bytes in hex digits.
+pub fn push_hex(alloc: Global, out: &mut String, bytes: &[u8]) -> Result<(), CaseErr> {
+    out.push_str(hex::encode(alloc, bytes)?.as_str())?;
+    Ok(())
 }
 
-fn suffix(bytes: &[u8], start: usize) -> Result<&[u8], CaseErr> {
-    bytes.get(start..).ok_or(CaseErr::Lacks("so many bytes"))
+/// Splits what follows an opening brace at the closing one.
+fn at_brace(piece: &str) -> Result<(&str, &str), CaseErr> {
+    piece.split_once('}').ok_or(CaseErr::Lacks("a brace"))
 }
 
-/// Appends bytes, of which those from the offset on are replaced by others.
+/// The name that stands in braces, and what is taken of its bytes.
+fn cut_of(inside: &str) -> (&str, Cut<'_>) {
+    if let Some((name, edit)) = inside.split_once('@') {
+        (name, Cut::Edited(edit))
+    } else if let Some((name, times)) = inside.split_once('*') {
+        (name, Cut::Times(times))
+    } else if let Some((name, end)) = inside.split_once('<') {
+        (name, Cut::Prefix(end))
+    } else if let Some((name, start)) = inside.split_once('>') {
+        (name, Cut::Suffix(start))
+    } else {
+        (inside, Cut::All)
+    }
+}
+
+fn push_cut(alloc: Global, out: &mut Vec<u8>, bytes: &[u8], cut: Cut) -> Result<(), CaseErr> {
+    match cut {
+        Cut::All => push_all(out, bytes),
+        Cut::Times(times) => push_times(out, bytes, times),
+        Cut::Prefix(end) => push_all(out, prefix(bytes, count(end)?)?),
+        Cut::Suffix(start) => push_all(out, suffix(bytes, count(start)?)?),
+        Cut::Edited(edit) => push_edit(alloc, out, bytes, edit),
+    }
+}
+
+fn push_all(out: &mut Vec<u8>, bytes: &[u8]) -> Result<(), CaseErr> {
+    out.extend_from_slice(bytes)?;
+    Ok(())
+}
+
+fn push_times(out: &mut Vec<u8>, bytes: &[u8], times: &str) -> Result<(), CaseErr> {
+    for _ in 0..number(times)? {
+        out.extend_from_slice(bytes)?;
+    }
+    Ok(())
+}
+
+/// Appends the bytes that digits spell. Spaces between bytes do not count.
+fn push_digits(alloc: Global, out: &mut Vec<u8>, digits: &str) -> Result<(), CaseErr> {
+    for digits in digits.split(' ') {
+        out.extend_from_slice(&hex::decode(alloc, digits)?)?;
+    }
+    Ok(())
+}
+
+/// OFFSET=HEX: appends bytes, of which those from the offset on are replaced by others.
+fn push_edit(alloc: Global, out: &mut Vec<u8>, bytes: &[u8], edit: &str) -> Result<(), CaseErr> {
+    let (offset, digits) = edit.split_once('=').ok_or(CaseErr::Lacks("new bytes"))?;
+    let offset = count(offset)?;
+    push_edited(out, bytes, offset, &hex::decode(alloc, digits)?)
+}
+
 fn push_edited(
     out: &mut Vec<u8>,
     bytes: &[u8],
@@ -118,4 +205,12 @@ fn push_edited(
     out.extend_from_slice(other)?;
     out.extend_from_slice(after)?;
     Ok(())
+}
+
+fn prefix(bytes: &[u8], end: usize) -> Result<&[u8], CaseErr> {
+    bytes.get(..end).ok_or(CaseErr::Lacks("so many bytes"))
+}
+
+fn suffix(bytes: &[u8], start: usize) -> Result<&[u8], CaseErr> {
+    bytes.get(start..).ok_or(CaseErr::Lacks("so many bytes"))
 }

@@ -22,14 +22,15 @@ pub trait Judge {
     /// Forgets what the lines of the table before prepared.
     fn begin_table<R: Runtime + AllocGlobal>(&mut self, rt: &R, alloc: Global);
 
-    /// The outcome of a case: its lines, each with a newline at its end. A line that has no outcome, but only prepares
-    /// what later cases find, returns `None`. A line that is not understood returns `CaseErr::Lacks`.
+    /// Appends the outcome of a case to `out`: its lines, each with a newline at its end. A line that has no outcome, but
+    /// only prepares what later cases find, appends nothing. A line that is not understood returns `CaseErr::Lacks`.
     fn outcome<R: Runtime + AllocGlobal + Threads + Sync>(
         &mut self,
         rt: &R,
         alloc: Global,
         fragments: &Fragments,
         case: Case,
-    ) -> Result<Option<String>, CaseErr>
+        out: &mut String,
+    ) -> Result<(), CaseErr>
         requires sync { IsSync R.row };
 }

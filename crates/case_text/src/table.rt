@@ -12,68 +12,155 @@ use std::thread::Threads;
 /// A line, and the lines below it that two spaces indent.
 #[derive(Drop)]
 struct Block<'a> {
+    /// The number of lines of the table up to here.
+    lines: usize,
     /// The line's number in the table, from 1.
     number: usize,
     line: &'a str,
     below: Vec<&'a str>,
 }
 
-/// Judges the cases of a table and counts them. Returns the report of those that fail.
+impl<'a> Block<'a> {
+    /// The block of this line, which is the last one that was taken.
+    fn begin(&mut self, line: &'a str) {
+        self.number = self.lines;
+        self.line = line;
+        self.below.clear();
+    }
+}
+
+/// What the lines of a table defined, and what the cases came to.
+#[derive(Drop)]
+pub struct Record {
+    fragments: Fragments,
+    /// The outcome that the last case is expected to have, and the one that came. Both are empty if the line only prepares.
+    expected: String,
+    came: String,
+    /// The cases of the table that failed.
+    pub report: String,
+    pub tally: Tally,
+}
+
+impl Record {
+    /// No case was judged.
+    pub fn new(alloc: Global) -> Record {
+        Record {
+            fragments: Fragments::new(alloc),
+            expected: String::new(alloc),
+            came: String::new(alloc),
+            report: String::new(alloc),
+            tally: Tally::new(),
+        }
+    }
+
+    /// Counts a line that is not understood as a case that failed, and reports why.
+    fn reject(&mut self, block: &Block, why: &str) -> Result<(), CaseErr> {
+        self.tally.count(false);
+        push_failure(&mut self.report, block.number, block.line, "a case", why)
+    }
+
+    /// Counts a case, and reports it if it failed.
+    fn compare(&mut self, block: &Block) -> Result<(), CaseErr> {
+        let (expected, came) = (self.expected.as_str(), self.came.as_str());
+        if expected.is_empty() && came.is_empty() {
+            return Ok(());
+        }
+        if expected.is_empty() {
+            return Err(CaseErr::Lacks("an expected outcome"));
+        }
+        if came.is_empty() {
+            return Err(CaseErr::Lacks("a case that has an outcome"));
+        }
+        let holds = expected == came;
+        self.tally.count(holds);
+        if holds {
+            return Ok(());
+        }
+        push_failure(&mut self.report, block.number, block.line, expected, came)
+    }
+}
+
+/// Judges the cases of a table, counts them, and reports those that fail.
 pub fn judge_table<R: Runtime + AllocGlobal + Threads + Sync, J: Judge>(
     rt: &R,
     table: &str,
     judge: &mut J,
-    tally: &mut Tally,
-) -> Result<String, CaseErr> {
+    record: &mut Record,
+) -> Result<(), CaseErr> {
     let alloc = rt.alloc();
     judge.begin_table(rt, alloc);
-    let mut report = String::new(alloc);
-    let mut fragments = Fragments::new(alloc);
+    record.fragments = Fragments::new(alloc);
+    record.report.clear();
     let mut block = Block {
+        lines: 0,
         number: 0,
         line: "",
         below: Vec::new(alloc),
     };
-    for (i, line) in table.lines().enumerate() {
-        if let Some(line) = line.strip_prefix("  ") {
-            block.below.push(line)?;
-        } else {
-            take_block(rt, &block, judge, &mut fragments, tally, &mut report)?;
-            block = Block {
-                number: i.saturating_add(1),
-                line,
-                below: Vec::new(alloc),
-            };
-        }
-    }
-    take_block(rt, &block, judge, &mut fragments, tally, &mut report)?;
-    Ok(report)
+    judge_lines(rt, table, judge, record, &mut block)
 }
 
-/// Keeps the bytes that a line names, or judges its case. A line that is not understood is a case that fails, and so is
-/// one that runs out of memory.
+fn judge_lines<'a, R: Runtime + AllocGlobal + Threads + Sync, J: Judge>(
+    rt: &R,
+    table: &'a str,
+    judge: &mut J,
+    record: &mut Record,
+    block: &mut Block<'a>,
+) -> Result<(), CaseErr> {
+    for line in table.lines() {
+        take_line(rt, line, judge, record, block)?;
+    }
+    take_block(rt, block, judge, record)
+}
+
+/// Adds a line to its block. A line that begins a block ends the one before.
+fn take_line<'a, R: Runtime + AllocGlobal + Threads + Sync, J: Judge>(
+    rt: &R,
+    line: &'a str,
+    judge: &mut J,
+    record: &mut Record,
+    block: &mut Block<'a>,
+) -> Result<(), CaseErr> {
+    block.lines = block.lines.saturating_add(1);
+    if let Some(below) = line.strip_prefix("  ") {
+        return Ok(block.below.push(below)?);
+    }
+    take_block(rt, block, judge, record)?;
+    block.begin(line);
+    Ok(())
+}
+
+/// Takes a block. A line that is not understood is a case that fails, and so is one that runs out of memory.
 fn take_block<R: Runtime + AllocGlobal + Threads + Sync, J: Judge>(
     rt: &R,
     block: &Block,
     judge: &mut J,
-    fragments: &mut Fragments,
-    tally: &mut Tally,
-    report: &mut String,
+    record: &mut Record,
+) -> Result<(), CaseErr> {
+    match judge_block(rt, block, judge, record) {
+        Err(CaseErr::Lacks(what)) => {
+            let why = format!(in rt.alloc(); "a line that lacks {what}")?;
+            record.reject(block, why.as_str())
+        }
+        Err(CaseErr::NoMemory) => record.reject(block, "out of memory"),
+        other => other,
+    }
+}
+
+/// Keeps the bytes that a line names, or judges its case.
+fn judge_block<R: Runtime + AllocGlobal + Threads + Sync, J: Judge>(
+    rt: &R,
+    block: &Block,
+    judge: &mut J,
+    record: &mut Record,
 ) -> Result<(), CaseErr> {
     let alloc = rt.alloc();
-    let failed = match first_word(block.line) {
+    match first_word(block.line) {
         ("" | "#" | "##", _) => no_lines_below(block),
-        ("let", rest) => define(alloc, fragments, rest, &block.below),
-        ("text", rest) => define_text(alloc, fragments, rest, block),
-        _ => judge_case(rt, block, judge, fragments, tally, report),
-    };
-    let came = match failed {
-        Err(CaseErr::Lacks(what)) => format!(in alloc; "a line that lacks {what}")?,
-        Err(CaseErr::NoMemory) => String::from_str(alloc, "out of memory")?,
-        other => return other,
-    };
-    tally.count(false);
-    push_failure(report, block.number, block.line, "a case", came.as_str())
+        ("let", rest) => define(alloc, &mut record.fragments, rest, &block.below),
+        ("text", rest) => define_text(alloc, &mut record.fragments, rest, block),
+        _ => judge_case(rt, block, judge, record),
+    }
 }
 
 fn no_lines_below(block: &Block) -> Result<(), CaseErr> {
@@ -92,11 +179,21 @@ fn define(
     below: &[&str],
 ) -> Result<(), CaseErr> {
     let (name, text) = first_word(without_remark(rest));
+    let bytes = defined(alloc, fragments, text, below)?;
+    fragments.put(alloc, name, bytes)
+}
+
+fn defined(
+    alloc: Global,
+    fragments: &Fragments,
+    text: &str,
+    below: &[&str],
+) -> Result<Vec<u8>, CaseErr> {
     let mut bytes = fragments.bytes(alloc, text)?;
     for text in below {
         fragments.push_bytes(alloc, &mut bytes, without_remark(text))?;
     }
-    fragments.put(alloc, name, bytes)
+    Ok(bytes)
 }
 
 /// NAME TEXT, where the text goes up to the end of the line.
@@ -108,8 +205,7 @@ fn define_text(
 ) -> Result<(), CaseErr> {
     no_lines_below(block)?;
     let (name, text) = first_word(rest);
-    let bytes = Vec::from_slice(alloc, text.as_bytes())?;
-    fragments.put(alloc, name, bytes)
+    fragments.put(alloc, name, Vec::from_slice(alloc, text.as_bytes())?)
 }
 
 /// CASE, CASE => OUTCOME, or CASE with its outcome in the lines below.
@@ -117,70 +213,45 @@ fn judge_case<R: Runtime + AllocGlobal + Threads + Sync, J: Judge>(
     rt: &R,
     block: &Block,
     judge: &mut J,
-    fragments: &Fragments,
-    tally: &mut Tally,
-    report: &mut String,
+    record: &mut Record,
 ) -> Result<(), CaseErr> {
     let alloc = rt.alloc();
-    let line = without_remark(block.line);
-    let (case, outcome) = match line.split_once(" => ") {
-        Some((case, outcome)) => (case, Some(outcome)),
-        None => (line, None),
-    };
-    let expected = expected(alloc, fragments, outcome, &block.below)?;
-    let (kind, words) = first_word(case);
-    let came = judge.outcome(rt, alloc, fragments, Case { kind, words })?;
-    compare(block, expected, came, tally, report)
+    let case = expect(alloc, record, block)?;
+    record.came.clear();
+    judge.outcome(rt, alloc, &record.fragments, case, &mut record.came)?;
+    record.compare(block)
 }
 
-/// The expected outcome, a newline at the end of each line, or none.
-fn expected(
+/// Notes the outcome that a block expects, a newline at the end of each line, and returns its case.
+fn expect<'a>(alloc: Global, record: &mut Record, block: &Block<'a>) -> Result<Case<'a>, CaseErr> {
+    record.expected.clear();
+    let line = without_remark(block.line);
+    let case = match line.split_once(" => ") {
+        None => line,
+        Some((case, outcome)) => {
+            record
+                .fragments
+                .push_text(alloc, &mut record.expected, outcome)?;
+            record.expected.push('\n')?;
+            case
+        }
+    };
+    expect_below(alloc, &record.fragments, &block.below, &mut record.expected)?;
+    let (kind, words) = first_word(case);
+    Ok(Case { kind, words })
+}
+
+fn expect_below(
     alloc: Global,
     fragments: &Fragments,
-    outcome: Option<&str>,
     below: &[&str],
-) -> Result<Option<String>, CaseErr> {
-    if outcome.is_none() && below.is_empty() {
-        return Ok(None);
-    }
-    let mut text = String::new(alloc);
-    if let Some(line) = outcome {
-        fragments.push_text(alloc, &mut text, line)?;
-        text.push('\n')?;
-    }
-    for line in below {
-        fragments.push_text(alloc, &mut text, without_remark(line))?;
-        text.push('\n')?;
-    }
-    Ok(Some(text))
-}
-
-fn compare(
-    block: &Block,
-    expected: Option<String>,
-    came: Option<String>,
-    tally: &mut Tally,
-    report: &mut String,
+    expected: &mut String,
 ) -> Result<(), CaseErr> {
-    match (expected, came) {
-        (None, None) => Ok(()),
-        (None, Some(_)) => Err(CaseErr::Lacks("an expected outcome")),
-        (Some(_), None) => Err(CaseErr::Lacks("a case that has an outcome")),
-        (Some(expected), Some(came)) => {
-            let holds = expected.as_str() == came.as_str();
-            tally.count(holds);
-            if holds {
-                return Ok(());
-            }
-            push_failure(
-                report,
-                block.number,
-                block.line,
-                expected.as_str(),
-                came.as_str(),
-            )
-        }
+    for line in below {
+        fragments.push_text(alloc, expected, without_remark(line))?;
+        expected.push('\n')?;
     }
+    Ok(())
 }
 
 /// The line up to its remark.

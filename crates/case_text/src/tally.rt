@@ -55,11 +55,14 @@ pub fn push_failure(
     came: &str,
 ) -> Result<(), CaseErr> {
     writeln!(report, "{number}: {line}")?;
-    for expected in expected.lines() {
-        writeln!(report, "  expected {expected}")?;
-    }
-    for came in came.lines() {
-        writeln!(report, "  came     {came}")?;
+    push_lines(report, "  expected ", expected)?;
+    push_lines(report, "  came     ", came)
+}
+
+/// Appends the lines of a text, each with a head.
+fn push_lines(report: &mut String, head: &str, text: &str) -> Result<(), CaseErr> {
+    for line in text.lines() {
+        writeln!(report, "{head}{line}")?;
     }
     Ok(())
 }

@@ -1,7 +1,7 @@
 //! Charges of a budget.
 
 use crate::errors::spelled;
-use budget_meter::{Budget, Kind, Limits};
+use budget_meter::{Budget, Kind, Limits, Used};
 use case_text::{CaseErr, Fragments, first_word, number};
 use ledger_types::Settings;
 use std::alloc::Global;
@@ -10,40 +10,61 @@ use value_xdr::decode;
 
 /// SETTINGS LIMIT KIND:INPUT KIND:INPUT ..: whether each charge fits a budget of so many instructions at the settings' terms
 /// and memory limit, and what the budget has spent then.
-pub fn charges(alloc: Global, fragments: &Fragments, rest: &str) -> Result<String, CaseErr> {
-    let (settings, rest) = first_word(rest);
+pub fn charges(
+    alloc: Global,
+    fragments: &Fragments,
+    words: &str,
+    out: &mut String,
+) -> Result<(), CaseErr> {
+    let (settings, rest) = first_word(words);
     let (limit, charges) = first_word(rest);
-    let settings = decode::<Settings>(alloc, &fragments.bytes(alloc, settings)?);
-    let mut budget = budget_of(spelled(settings, "settings")?, number(limit)?)?;
-    let mut line = String::new(alloc);
-    for charge in charges.split(' ') {
-        line.push_str(charged(&mut budget, charge)?)?;
-    }
-    let used = budget.spent();
-    let (instructions, memory) = (used.instructions, used.memory);
-    writeln!(line, "instructions {instructions} memory {memory}")?;
-    Ok(line)
+    let settings = settings_of(alloc, &fragments.bytes(alloc, settings)?)?;
+    let limits = Limits {
+        instructions: number(limit)?,
+        memory: settings.memory_limit,
+    };
+    charge_all(&mut budget_of(settings, limits)?, charges, out)
 }
 
-fn budget_of(settings: Settings, instructions: u64) -> Result<Budget, CaseErr> {
+/// The settings that bytes spell.
+pub fn settings_of(alloc: Global, bytes: &[u8]) -> Result<Settings, CaseErr> {
+    spelled(decode::<Settings>(alloc, bytes), "settings")
+}
+
+/// A budget with these limits, at the settings' terms.
+pub fn budget_of(settings: Settings, limits: Limits) -> Result<Budget, CaseErr> {
     if settings.terms.wasm_insn_exec.instructions.constant == 0 {
         return Err(CaseErr::Lacks("an instruction that costs something"));
     }
-    let limits = Limits {
-        instructions,
-        memory: settings.memory_limit,
-    };
     Ok(Budget::new(limits, settings.terms))
 }
 
-fn charged(budget: &mut Budget, charge: &str) -> Result<&'static str, CaseErr> {
+fn charge_all(budget: &mut Budget, charges: &str, out: &mut String) -> Result<(), CaseErr> {
+    for charge in charges.split(' ') {
+        push_charged(budget, charge, out)?;
+    }
+    push_sums(out, budget.spent())
+}
+
+fn push_sums(out: &mut String, used: Used) -> Result<(), CaseErr> {
+    let (instructions, memory) = (used.instructions, used.memory);
+    writeln!(out, "instructions {instructions} memory {memory}")?;
+    Ok(())
+}
+
+fn push_charged(budget: &mut Budget, charge: &str, out: &mut String) -> Result<(), CaseErr> {
+    let (kind, input) = work_of(charge)?;
+    let fits = budget.charge(kind, input).is_ok();
+    out.push_str(if fits { "fits " } else { "spent " })?;
+    Ok(())
+}
+
+/// KIND:INPUT: a kind of work and its input.
+fn work_of(charge: &str) -> Result<(Kind, u64), CaseErr> {
     let (name, input) = charge
         .split_once(':')
         .ok_or(CaseErr::Lacks("a kind of work and its input"))?;
-    match budget.charge(kind_of(name)?, number(input)?) {
-        Ok(()) => Ok("fits "),
-        Err(_) => Ok("spent "),
-    }
+    Ok((kind_of(name)?, number(input)?))
 }
 
 fn kind_of(name: &str) -> Result<Kind, CaseErr> {

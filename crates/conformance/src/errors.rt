@@ -21,7 +21,14 @@ pub fn spelled<T: Drop>(read: Result<T, ReadXdr>, what: &'static str) -> Result<
 {
     match read {
         Ok(value) => Ok(value),
-        Err(ReadXdr::Bad(_)) => Err(CaseErr::Lacks(what)),
-        Err(ReadXdr::NoMemory) => Err(CaseErr::NoMemory),
+        Err(error) => Err(unread(error, what)),
+    }
+}
+
+/// Why a case has no outcome whose bytes do not spell a value.
+pub fn unread(error: ReadXdr, what: &'static str) -> CaseErr {
+    match error {
+        ReadXdr::Bad(_) => CaseErr::Lacks(what),
+        ReadXdr::NoMemory => CaseErr::NoMemory,
     }
 }

@@ -18,34 +18,34 @@ pub enum Shown {
 
 /// Appends the line of an event.
 pub fn push_event(
-    line: &mut String,
+    out: &mut String,
     event: &Event,
     used: Used,
     shown: Shown,
 ) -> Result<(), CaseErr> {
     match event {
-        Event::Done(number) => write!(line, "done {number:x}")?,
+        Event::Done(number) => write!(out, "done {number:x}")?,
         Event::Trap(kind) => {
             let name = trap_name(*kind);
-            write!(line, "trap {name}")?;
+            write!(out, "trap {name}")?;
         }
-        Event::Spent => line.push_str("spent")?,
+        Event::Spent => out.push_str("spent")?,
         Event::HostCall { import, args } => {
-            write!(line, "asks {import}")?;
-            push_words(line, args.as_slice())?;
+            write!(out, "asks {import}")?;
+            push_words(out, args.as_slice())?;
         }
     }
     if shown == Shown::WithSums {
         let (instructions, memory) = (used.instructions, used.memory);
-        write!(line, ", instructions {instructions} memory {memory}")?;
+        write!(out, ", instructions {instructions} memory {memory}")?;
     }
-    line.push('\n')?;
+    out.push('\n')?;
     Ok(())
 }
 
-fn push_words(line: &mut String, words: &[u64]) -> Result<(), CaseErr> {
+fn push_words(out: &mut String, words: &[u64]) -> Result<(), CaseErr> {
     for word in words {
-        write!(line, " {word:x}")?;
+        write!(out, " {word:x}")?;
     }
     Ok(())
 }
@@ -73,8 +73,16 @@ fn terms(constant: u32, linear: u32, memory_constant: u32, memory_linear: u32) -
     }
 }
 
-/// A budget of so many instructions. An instruction costs one, and a page of memory its bytes and 16.
+/// A budget of so many instructions, and of the memory of 640 pages.
 pub fn budget_of(instructions: u64) -> Budget {
+    budget_within(Limits {
+        instructions,
+        memory: 41_943_040,
+    })
+}
+
+/// A budget within limits. An instruction costs one, and a page of memory its bytes and 16.
+pub fn budget_within(limits: Limits) -> Budget {
     let other = terms(10, 128, 0, 0);
     let all = Terms {
         wasm_insn_exec: terms(1, 0, 0, 0),
@@ -88,10 +96,6 @@ pub fn budget_of(instructions: u64) -> Budget {
         compute_sha256_hash: other,
         vm_instantiation: other,
         invoke_vm_function: other,
-    };
-    let limits = Limits {
-        instructions,
-        memory: 41_943_040,
     };
     Budget::new(limits, all)
 }

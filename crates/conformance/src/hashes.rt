@@ -3,9 +3,9 @@
 ghost use Rattle.auth_types.specs.AuthEntry.{auth_entry_format};
 ghost use Rattle.ledger_types.specs.Entry.{entry_format};
 
-use crate::errors::{made, spelled};
+use crate::errors::{made, spelled, unread};
 use auth_types::{AuthEntry, Credentials, payload_hash};
-use case_text::{CaseErr, Fragments, first_word};
+use case_text::{Case, CaseErr, Fragments, first_word, push_hex};
 use invoke_types::{Preimage, contract_id};
 use ledger_types::{LedgerEntry, LedgerKey, key_hash, key_of, write_key_of};
 use std::alloc::Global;
@@ -14,106 +14,143 @@ use value_types::Hash;
 use value_xdr::{decode, encode};
 use xdr_core::{NoMemory, Out};
 
-/// NETWORK ENTRY: the hash that is signed for an authorisation entry.
-pub fn payload(alloc: Global, fragments: &Fragments, rest: &str) -> Result<String, CaseErr> {
-    let (network, entry) = first_word(rest);
+/// `payload`, `contract-id`, `tx-hash` and `envelope-hash` NETWORK VALUE: the hash of the value in the network.
+pub fn in_network(
+    alloc: Global,
+    fragments: &Fragments,
+    case: Case,
+    out: &mut String,
+) -> Result<(), CaseErr> {
+    let (network, value) = first_word(case.words);
     let network = hash_of(alloc, fragments, network)?;
-    let entry = decode::<AuthEntry>(alloc, &fragments.bytes(alloc, entry)?);
-    let entry = spelled(entry, "an authorisation entry")?;
-    payload_line(alloc, &network, &entry)
+    let value = fragments.bytes(alloc, value)?;
+    let hash = match case.kind {
+        "payload" => payload(alloc, &network, &value),
+        "contract-id" => id_of_contract(alloc, &network, &value),
+        "tx-hash" => hash_of_transaction(alloc, &network, &value),
+        _ => hash_of_envelope(alloc, &network, &value),
+    };
+    push_hex_line(alloc, out, &hash?.0)
 }
 
-fn payload_line(alloc: Global, network: &Hash, entry: &AuthEntry) -> Result<String, CaseErr>
+/// The hash that is signed for an authorisation entry.
+fn payload(alloc: Global, network: &Hash, entry: &[u8]) -> Result<Hash, CaseErr> {
+    match decode::<AuthEntry>(alloc, entry) {
+        Ok(entry) => payload_of(alloc, network, &entry),
+        Err(error) => Err(unread(error, "an authorisation entry")),
+    }
+}
+
+fn payload_of(alloc: Global, network: &Hash, entry: &AuthEntry) -> Result<Hash, CaseErr>
     requires { auth_entry_format.fits entry.now }
 {
     if !matches!(entry.credentials, Credentials::Address(_)) {
         return Err(CaseErr::Lacks("an entry that is signed"));
     }
-    hash_line(alloc, payload_hash(alloc, network, entry))
+    made(payload_hash(alloc, network, entry))
 }
 
-/// NETWORK PREIMAGE: the contract's id.
-pub fn id_of_contract(alloc: Global, fragments: &Fragments, rest: &str) -> Result<String, CaseErr> {
-    let (network, preimage) = first_word(rest);
-    let network = hash_of(alloc, fragments, network)?;
-    let preimage = decode::<Preimage>(alloc, &fragments.bytes(alloc, preimage)?);
-    let preimage = spelled(preimage, "a preimage")?;
-    hash_line(alloc, contract_id(alloc, &network, &preimage))
+fn id_of_contract(alloc: Global, network: &Hash, preimage: &[u8]) -> Result<Hash, CaseErr> {
+    match decode::<Preimage>(alloc, preimage) {
+        Ok(preimage) => made(contract_id(alloc, network, &preimage)),
+        Err(error) => Err(unread(error, "a preimage")),
+    }
 }
 
-/// NETWORK TRANSACTION: the transaction's hash.
-pub fn hash_of_transaction(
-    alloc: Global,
-    fragments: &Fragments,
-    rest: &str,
-) -> Result<String, CaseErr> {
-    let (network, tx) = first_word(rest);
-    let network = hash_of(alloc, fragments, network)?;
-    let tx = decode::<Transaction>(alloc, &fragments.bytes(alloc, tx)?);
-    let tx = spelled(tx, "a transaction")?;
-    hash_line(alloc, tx_hash(alloc, &network, &tx))
+fn hash_of_transaction(alloc: Global, network: &Hash, tx: &[u8]) -> Result<Hash, CaseErr> {
+    match decode::<Transaction>(alloc, tx) {
+        Ok(tx) => made(tx_hash(alloc, network, &tx)),
+        Err(error) => Err(unread(error, "a transaction")),
+    }
 }
 
-/// NETWORK ENVELOPE: the envelope's hash.
-pub fn hash_of_envelope(
-    alloc: Global,
-    fragments: &Fragments,
-    rest: &str,
-) -> Result<String, CaseErr> {
-    let (network, envelope) = first_word(rest);
-    let network = hash_of(alloc, fragments, network)?;
-    let envelope = read_envelope(alloc, &fragments.bytes(alloc, envelope)?);
-    let envelope = spelled(envelope, "an envelope")?;
-    hex_line(alloc, &made(envelope_hash(alloc, &network, &envelope))?.0)
+fn hash_of_envelope(alloc: Global, network: &Hash, envelope: &[u8]) -> Result<Hash, CaseErr> {
+    match read_envelope(alloc, envelope) {
+        Ok(envelope) => made(envelope_hash(alloc, network, &envelope)),
+        Err(error) => Err(unread(error, "an envelope")),
+    }
 }
 
 /// KEY: its hash.
-pub fn hash_of_key(alloc: Global, fragments: &Fragments, rest: &str) -> Result<String, CaseErr> {
-    let key = decode::<LedgerKey>(alloc, &fragments.bytes(alloc, rest)?);
-    let key = spelled(key, "a key")?;
-    hash_line(alloc, key_hash(alloc, &key))
+pub fn hash_of_key(
+    alloc: Global,
+    fragments: &Fragments,
+    words: &str,
+    out: &mut String,
+) -> Result<(), CaseErr> {
+    let hash = key_bytes_hash(alloc, &fragments.bytes(alloc, words)?)?;
+    push_hex_line(alloc, out, &hash.0)
+}
+
+fn key_bytes_hash(alloc: Global, key: &[u8]) -> Result<Hash, CaseErr> {
+    match decode::<LedgerKey>(alloc, key) {
+        Ok(key) => made(key_hash(alloc, &key)),
+        Err(error) => Err(unread(error, "a key")),
+    }
 }
 
 /// ENTRY: the bytes of its key.
-pub fn key_of_entry(alloc: Global, fragments: &Fragments, rest: &str) -> Result<String, CaseErr> {
-    let entry = decode::<LedgerEntry>(alloc, &fragments.bytes(alloc, rest)?);
-    let entry = spelled(entry, "an entry")?;
-    key_line(alloc, &entry)
+pub fn key_of_entry(
+    alloc: Global,
+    fragments: &Fragments,
+    words: &str,
+    out: &mut String,
+) -> Result<(), CaseErr> {
+    push_key(alloc, out, &fragments.bytes(alloc, words)?)
 }
 
-fn key_line(alloc: Global, entry: &LedgerEntry) -> Result<String, CaseErr>
+fn push_key(alloc: Global, out: &mut String, entry: &[u8]) -> Result<(), CaseErr> {
+    match decode::<LedgerEntry>(alloc, entry) {
+        Ok(entry) => push_key_of(alloc, out, &entry),
+        Err(error) => Err(unread(error, "an entry")),
+    }
+}
+
+fn push_key_of(alloc: Global, out: &mut String, entry: &LedgerEntry) -> Result<(), CaseErr>
     requires { entry_format.fits entry.now }
 {
     let key = key_bytes(alloc, entry)?;
-    let mut out = Out::new(alloc);
-    made(write_key_of(entry, &mut out))?;
-    if key.as_slice() == out.into_vec().as_slice() {
-        hex_line(alloc, &key)
+    if has_key(alloc, entry, &key)? {
+        push_hex_line(alloc, out, &key)
     } else {
-        Ok(String::from_str(alloc, "written otherwise\n")?)
+        out.push_str("written otherwise\n")?;
+        Ok(())
     }
 }
 
 fn key_bytes(alloc: Global, entry: &LedgerEntry) -> Result<Vec<u8>, CaseErr>
     requires { entry_format.fits entry.now }
 {
-    let key = key_of(entry)?;
-    made(encode(alloc, &key))
+    match key_of(entry) {
+        Ok(key) => made(encode(alloc, &key)),
+        Err(_) => Err(CaseErr::NoMemory),
+    }
+}
+
+/// Whether the entry's key is also written to these bytes.
+fn has_key(alloc: Global, entry: &LedgerEntry, key: &[u8]) -> Result<bool, CaseErr>
+    requires { entry_format.fits entry.now }
+{
+    let mut written = Out::new(alloc);
+    match write_key_of(entry, &mut written) {
+        Ok(()) => Ok(written.into_vec().as_slice() == key),
+        Err(NoMemory) => Err(CaseErr::NoMemory),
+    }
 }
 
 /// The hash that a word spells.
 pub fn hash_of(alloc: Global, fragments: &Fragments, word: &str) -> Result<Hash, CaseErr> {
-    let hash = decode::<Hash>(alloc, &fragments.bytes(alloc, word)?);
-    spelled(hash, "32 bytes")
+    read_hash(alloc, &fragments.bytes(alloc, word)?)
 }
 
-fn hash_line(alloc: Global, hash: Result<Hash, NoMemory>) -> Result<String, CaseErr> {
-    hex_line(alloc, &made(hash)?.0)
+/// The hash that bytes spell.
+pub fn read_hash(alloc: Global, bytes: &[u8]) -> Result<Hash, CaseErr> {
+    spelled(decode::<Hash>(alloc, bytes), "32 bytes")
 }
 
-/// A line of hex digits.
-pub fn hex_line(alloc: Global, bytes: &[u8]) -> Result<String, CaseErr> {
-    let mut line = hex::encode(alloc, bytes)?;
-    line.push('\n')?;
-    Ok(line)
+/// Appends a line of hex digits.
+pub fn push_hex_line(alloc: Global, out: &mut String, bytes: &[u8]) -> Result<(), CaseErr> {
+    push_hex(alloc, out, bytes)?;
+    out.push('\n')?;
+    Ok(())
 }

@@ -2,32 +2,41 @@
 
 use case_text::{CaseErr, first_word};
 use host_interface::{HOST_ROWS, TableRow};
-use std::alloc::Global;
 use std::fmt::Write;
 
 /// The number of functions.
-pub fn interface(alloc: Global) -> Result<String, CaseErr> {
+pub fn interface(out: &mut String) -> Result<(), CaseErr> {
     let count = HOST_ROWS.len();
-    Ok(format!(in alloc; "{count} functions\n")?)
+    writeln!(out, "{count} functions")?;
+    Ok(())
 }
 
 /// MODULE NAME: the kinds of the function's arguments and of its result, or none if the host has no such function.
-pub fn import(alloc: Global, rest: &str) -> Result<String, CaseErr> {
-    let (letter, name) = first_word(rest);
-    for row in &HOST_ROWS {
-        if row.letter == letter && row.name == name {
-            return signature(alloc, row);
-        }
-    }
-    Ok(String::from_str(alloc, "none\n")?)
+pub fn import(words: &str, out: &mut String) -> Result<(), CaseErr> {
+    let (letter, name) = first_word(words);
+    push_import(&HOST_ROWS, letter, name, out)
 }
 
-fn signature(alloc: Global, row: &TableRow) -> Result<String, CaseErr> {
-    let mut line = String::new(alloc);
+fn push_import(
+    rows: &[TableRow],
+    letter: &str,
+    name: &str,
+    out: &mut String,
+) -> Result<(), CaseErr> {
+    for row in rows {
+        if row.letter == letter && row.name == name {
+            return push_signature(out, row);
+        }
+    }
+    out.push_str("none\n")?;
+    Ok(())
+}
+
+fn push_signature(out: &mut String, row: &TableRow) -> Result<(), CaseErr> {
     for argument in row.arguments {
-        write!(line, "{argument:?} ")?;
+        write!(out, "{argument:?} ")?;
     }
     let result = row.result;
-    writeln!(line, "-> {result:?}")?;
-    Ok(line)
+    writeln!(out, "-> {result:?}")?;
+    Ok(())
 }

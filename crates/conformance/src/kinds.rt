@@ -2,18 +2,33 @@
 
 ghost use denote.Param.Send.{IsSync};
 
-use crate::{applying, budgets, hashes, imports, ledgers, modules, orders, spellings, texts};
+use crate::host::Prepared;
+use crate::{
+    applying, bench, budgets, hashes, host, imports, ledgers, modules, orders, spellings, texts,
+};
 use case_text::{Case, CaseErr, Fragments, Judge};
 use std::alloc::Global;
 use std::rt::Runtime;
 use std::thread::Threads;
 
-/// The kinds of cases below the command. No line prepares another.
+/// The kinds of cases below the command, and what lines prepared for calls of functions of the host.
 #[derive(Drop)]
-pub struct Kinds;
+pub struct Kinds {
+    prepared: Prepared,
+}
+
+impl Kinds {
+    pub fn new(alloc: Global) -> Kinds {
+        Kinds {
+            prepared: Prepared::new(alloc),
+        }
+    }
+}
 
 impl Judge for Kinds {
-    fn begin_table<R: Runtime + AllocGlobal>(&mut self, _rt: &R, _alloc: Global) {}
+    fn begin_table<R: Runtime + AllocGlobal>(&mut self, _rt: &R, alloc: Global) {
+        self.prepared = Prepared::new(alloc);
+    }
 
     fn outcome<R: Runtime + AllocGlobal + Threads + Sync>(
         &mut self,
@@ -21,61 +36,70 @@ impl Judge for Kinds {
         alloc: Global,
         fragments: &Fragments,
         case: Case,
-    ) -> Result<Option<String>, CaseErr>
+        out: &mut String,
+    ) -> Result<(), CaseErr>
         requires sync { IsSync R.row }
     {
-        let outcome = match case.kind {
-            "check" | "flaw" | "link" | "call" | "sums" | "begin" | "hosted" => {
-                modules::module_case(alloc, fragments, case)
+        match case.kind {
+            "apply" | "applied-report" => applying::applied(rt, alloc, fragments, case, out),
+            "small" | "word" | "host" | "within" => {
+                host::host_case(alloc, &self.prepared, fragments, case, out)
             }
-            "vet" => modules::vet_case(alloc, fragments, case.words),
-            "xdr" => spellings::xdr(alloc, fragments, case.words),
-            "rises" | "against" | "measure" => comparison(alloc, fragments, case),
-            "payload" | "contract-id" | "tx-hash" | "envelope-hash" | "key-hash" | "key-of" => {
-                hash(alloc, fragments, case)
+            "settings" | "frame" | "fill" | "memory" => {
+                self.prepared.prepare(alloc, fragments, case)
             }
-            "interface" => imports::interface(alloc),
-            "import" => imports::import(alloc, case.words),
-            "charges" => budgets::charges(alloc, fragments, case.words),
-            "base64" => texts::base64(alloc, fragments, case.words),
-            "pieces" => texts::pieces(alloc, fragments, case.words),
-            "apply" => applying::apply(rt, alloc, fragments, case.words),
-            "applied-report" => applying::applied_report(rt, alloc, fragments, case.words),
-            _ => ledger(alloc, fragments, case),
-        };
-        Ok(Some(outcome?))
+            "previous" | "read-only" | "read-write" | "contract" | "copy" => {
+                self.prepared.ledger.prepare(alloc, fragments, case)
+            }
+            _ => plain_case(alloc, fragments, case, out),
+        }
     }
 }
 
-fn comparison(alloc: Global, fragments: &Fragments, case: Case) -> Result<String, CaseErr> {
+/// A case that finds nothing but its own words.
+fn plain_case(
+    alloc: Global,
+    fragments: &Fragments,
+    case: Case,
+    out: &mut String,
+) -> Result<(), CaseErr> {
     match case.kind {
-        "rises" => orders::rises(alloc, fragments, case.words),
-        "against" => orders::against(alloc, fragments, case.words),
-        _ => orders::measure(alloc, fragments, case.words),
+        "check" | "flaw" | "link" | "call" | "sums" | "begin" | "hosted" => {
+            modules::module_case(alloc, fragments, case, out)
+        }
+        "ledger" | "followed" | "written" | "life" | "raised" | "made" => {
+            ledgers::ledger_case(alloc, fragments, case, out)
+        }
+        "payload" | "contract-id" | "tx-hash" | "envelope-hash" => {
+            hashes::in_network(alloc, fragments, case, out)
+        }
+        "interface" => imports::interface(out),
+        "import" => imports::import(case.words, out),
+        kind => spelled_case(alloc, fragments, kind, case.words, out),
     }
 }
 
-fn hash(alloc: Global, fragments: &Fragments, case: Case) -> Result<String, CaseErr> {
-    match case.kind {
-        "payload" => hashes::payload(alloc, fragments, case.words),
-        "contract-id" => hashes::id_of_contract(alloc, fragments, case.words),
-        "tx-hash" => hashes::hash_of_transaction(alloc, fragments, case.words),
-        "envelope-hash" => hashes::hash_of_envelope(alloc, fragments, case.words),
-        "key-hash" => hashes::hash_of_key(alloc, fragments, case.words),
-        _ => hashes::key_of_entry(alloc, fragments, case.words),
-    }
-}
-
-fn ledger(alloc: Global, fragments: &Fragments, case: Case) -> Result<String, CaseErr> {
-    match case.kind {
-        "ledger" => ledgers::ledger(alloc, fragments, case.words, false),
-        "followed" => ledgers::ledger(alloc, fragments, case.words, true),
-        "life" => ledgers::life(alloc, fragments, case.words),
-        "raised" => ledgers::raised(alloc, fragments, case.words),
-        "written" => ledgers::written(alloc, fragments, case.words),
-        "made" => ledgers::made_entry(alloc, fragments, case.words),
-        "verdict" => ledgers::verdict(alloc, fragments, case.words),
-        "report" => applying::report(alloc, fragments, case.words),
+fn spelled_case(
+    alloc: Global,
+    fragments: &Fragments,
+    kind: &str,
+    words: &str,
+    out: &mut String,
+) -> Result<(), CaseErr> {
+    match kind {
+        "xdr" => spellings::xdr(alloc, fragments, words, out),
+        "rises" => orders::rises(alloc, fragments, words, out),
+        "against" => orders::against(alloc, fragments, words, out),
+        "measure" => orders::measure(alloc, fragments, words, out),
+        "key-hash" => hashes::hash_of_key(alloc, fragments, words, out),
+        "key-of" => hashes::key_of_entry(alloc, fragments, words, out),
+        "verdict" => ledgers::verdict(alloc, fragments, words, out),
+        "report" => applying::report(alloc, fragments, words, out),
+        "vet" => modules::vet_case(alloc, fragments, words, out),
+        "charges" => budgets::charges(alloc, fragments, words, out),
+        "bench" => bench::bench_case(alloc, fragments, words, out),
+        "base64" => texts::base64(alloc, fragments, words, out),
+        "pieces" => texts::pieces(alloc, fragments, words, out),
         _ => Err(CaseErr::Lacks("a kind of case")),
     }
 }

@@ -1,59 +1,86 @@
 //! Ledger files and verdicts.
 
-ghost use Rattle.std.specs.Prelude.{◌≡◌, IfOk};
+ghost use Rattle.std.specs.Prelude.{◌≡◌};
 ghost use Rattle.ledger_types.specs.Header.{header_format};
 ghost use Rattle.ledger_types.specs.Key.{key_format};
 ghost use Rattle.ledger_types.specs.Entry.{entry_format, key_of as key_of_entry};
 
-use crate::errors::{made, spelled};
-use crate::hashes::{hash_of, hex_line};
-use case_text::{CaseErr, Fragments, first_word, number};
+use crate::errors::{made, unread};
+use crate::hashes::{hash_of, push_hex_line};
+use case_text::{Case, CaseErr, Fragments, first_word, number};
 use entry_map::{EntryMap, Made};
 use ledger_file::{Ledger, LedgerErr, read_ledger, read_verdicts, write_ledger};
-use ledger_spec::{LedgerRefusal, LedgerWhy};
+use ledger_spec::LedgerWhy;
 use ledger_types::{LedgerEntry, LedgerEntryData, LedgerKey, key_of};
 use std::alloc::Global;
+use std::fmt::Write;
+use value_types::Hash;
 use value_xdr::decode;
 
-/// LEDGER: what was read, or why and where the file is refused. `follows` demands that another ledger can follow.
-pub fn ledger(
+/// A kind, LEDGER and the kind's other words. A ledger that is refused has the refusal as its outcome.
+///
+/// `ledger` and `followed` LEDGER: what was read; `followed` demands that another ledger can follow. `written` LEDGER: the file
+/// that is written of it. `life` LEDGER KEY, `raised` LEDGER KEY UNTIL, `made` LEDGER ENTRY UNTIL: an entry.
+pub fn ledger_case(
     alloc: Global,
     fragments: &Fragments,
-    rest: &str,
-    follows: bool,
-) -> Result<String, CaseErr> {
-    let bytes = fragments.bytes(alloc, rest)?;
-    match read_ledger(alloc, &bytes, follows) {
-        Ok(ledger) => ledger_line(alloc, &ledger),
-        Err(LedgerErr::Refused(refusal)) => refusal_line(alloc, refusal),
-        Err(LedgerErr::NoMemory) => Err(CaseErr::NoMemory),
+    case: Case,
+    out: &mut String,
+) -> Result<(), CaseErr> {
+    let (ledger, rest) = first_word(case.words);
+    let (entry, until) = first_word(rest);
+    let ledger = fragments.bytes(alloc, ledger)?;
+    let entry = fragments.bytes(alloc, entry)?;
+    let asked = Asked {
+        kind: case.kind,
+        entry: &entry,
+        until,
+    };
+    read(alloc, &ledger, asked, out)
+}
+
+/// What is asked of a ledger: a kind of case, and the bytes of a key or an entry.
+#[derive(Clone, Copy)]
+struct Asked<'a> {
+    kind: &'a str,
+    entry: &'a [u8],
+    until: &'a str,
+}
+
+fn read(alloc: Global, ledger: &[u8], asked: Asked, out: &mut String) -> Result<(), CaseErr> {
+    match read_ledger(alloc, ledger, asked.kind == "followed") {
+        Ok(mut ledger) => push_asked(alloc, &mut ledger, asked, out),
+        Err(error) => push_no_ledger(out, error),
     }
 }
 
-fn ledger_line(alloc: Global, ledger: &Ledger) -> Result<String, CaseErr> {
-    let (protocol, seq) = (ledger.header.protocol, ledger.header.seq);
-    let (time, records) = (ledger.header.close_time, ledger.entries.len());
-    Ok(format!(in alloc;
-        "ledger {seq} of protocol {protocol} closed at {time} with {records} records\n"
-    )?)
-}
-
-/// LEDGER: the file that is written of the ledger that was read.
-pub fn written(alloc: Global, fragments: &Fragments, rest: &str) -> Result<String, CaseErr> {
-    let ledger = ledger_of(alloc, &fragments.bytes(alloc, rest)?)?;
-    written_line(alloc, &ledger)
-}
-
-fn written_line(alloc: Global, ledger: &Ledger) -> Result<String, CaseErr>
-    requires { header_format.fits ledger.now.header }
+fn push_asked(
+    alloc: Global,
+    ledger: &mut Ledger,
+    asked: Asked,
+    out: &mut String,
+) -> Result<(), CaseErr>
+    requires { header_format.fits ledger.old.header }
 {
-    let file = made(write_ledger(alloc, ledger))?;
-    hex_line(alloc, file.as_slice())
+    match asked.kind {
+        "written" => push_written(alloc, ledger, out),
+        "life" => push_life(alloc, &ledger.entries, asked.entry, out),
+        "raised" => push_raised(alloc, &mut ledger.entries, asked, out),
+        "made" => push_made(alloc, ledger, asked, out),
+        _ => push_ledger(ledger, out),
+    }
 }
 
-fn refusal_line(alloc: Global, refusal: LedgerRefusal) -> Result<String, CaseErr> {
-    let (number, at) = (number_of(refusal.why), refusal.at);
-    Ok(format!(in alloc; "refused {number} at {at}\n")?)
+/// Appends why a ledger was not read.
+pub fn push_no_ledger(out: &mut String, error: LedgerErr) -> Result<(), CaseErr> {
+    match error {
+        LedgerErr::Refused(refusal) => {
+            let (number, at) = (number_of(refusal.why), refusal.at);
+            writeln!(out, "refused {number} at {at}")?;
+            Ok(())
+        }
+        LedgerErr::NoMemory => Err(CaseErr::NoMemory),
+    }
 }
 
 fn number_of(why: LedgerWhy) -> u8 {
@@ -67,139 +94,190 @@ fn number_of(why: LedgerWhy) -> u8 {
     }
 }
 
-/// LEDGER KEY: the last ledger in which the entry of the key is live, or none.
-pub fn life(alloc: Global, fragments: &Fragments, rest: &str) -> Result<String, CaseErr> {
-    let (ledger, key) = first_word(rest);
-    let key = fragments.bytes(alloc, key)?;
-    let entries = entries_of(alloc, &fragments.bytes(alloc, ledger)?)?;
-    life_line(alloc, &key, &entries)
-}
-
-fn life_line(alloc: Global, key: &[u8], entries: &EntryMap) -> Result<String, CaseErr> {
-    match life_of(alloc, key, entries)? {
-        Some(live_until) => Ok(format!(in alloc; "until {live_until}\n")?),
-        None => Ok(String::from_str(alloc, "none\n")?),
-    }
-}
-
-fn life_of(alloc: Global, key: &[u8], entries: &EntryMap) -> Result<Option<u32>, CaseErr> {
-    let key = spelled(decode::<LedgerKey>(alloc, key), "a key")?;
-    Ok(entries.find(&key).map(|kept| kept.live_until))
-}
-
-fn ledger_number(word: &str) -> Result<u32, CaseErr> {
-    u32::try_from(number(word)?)
-        .ok()
-        .ok_or(CaseErr::Lacks("a ledger's number"))
-}
-
-/// LEDGER KEY UNTIL: the same, after the entry's life was raised to a ledger.
-pub fn raised(alloc: Global, fragments: &Fragments, rest: &str) -> Result<String, CaseErr> {
-    let (ledger, rest) = first_word(rest);
-    let (key, until) = first_word(rest);
-    let key = fragments.bytes(alloc, key)?;
-    let until = ledger_number(until)?;
-    let mut entries = entries_of(alloc, &fragments.bytes(alloc, ledger)?)?;
-    raised_line(alloc, &key, until, &mut entries)
-}
-
-fn raised_line(
-    alloc: Global,
-    key: &[u8],
-    until: u32,
-    entries: &mut EntryMap,
-) -> Result<String, CaseErr> {
-    raise(alloc, key, until, entries)?;
-    life_line(alloc, key, entries)
-}
-
-fn raise(alloc: Global, key: &[u8], until: u32, entries: &mut EntryMap) -> Result<(), CaseErr> {
-    let key = spelled(decode::<LedgerKey>(alloc, key), "a key")?;
-    entries.raise(&key, until);
+fn push_ledger(ledger: &Ledger, out: &mut String) -> Result<(), CaseErr> {
+    let (protocol, seq) = (ledger.header.protocol, ledger.header.seq);
+    let (time, records) = (ledger.header.close_time, ledger.entries.len());
+    writeln!(
+        out,
+        "ledger {seq} of protocol {protocol} closed at {time} with {records} records"
+    )?;
     Ok(())
 }
 
-/// LEDGER ENTRY UNTIL: what a make of contract data in the next ledger does, and the entry at its key after that.
-pub fn made_entry(alloc: Global, fragments: &Fragments, rest: &str) -> Result<String, CaseErr> {
-    let (ledger, rest) = first_word(rest);
-    let (entry, until) = first_word(rest);
-    let until = ledger_number(until)?;
-    let entry = fragments.bytes(alloc, entry)?;
-    let mut ledger = ledger_of(alloc, &fragments.bytes(alloc, ledger)?)?;
-    made_line(alloc, &entry, until, &mut ledger)
+fn push_written(alloc: Global, ledger: &Ledger, out: &mut String) -> Result<(), CaseErr>
+    requires { header_format.fits ledger.now.header }
+{
+    let file = made(write_ledger(alloc, ledger))?;
+    push_hex_line(alloc, out, file.as_slice())
 }
 
-fn made_line(
+/// Appends the last ledger in which the entry of the key is live, or none.
+fn push_life(
     alloc: Global,
-    entry: &[u8],
-    until: u32,
+    entries: &EntryMap,
+    key: &[u8],
+    out: &mut String,
+) -> Result<(), CaseErr> {
+    match life_of(alloc, entries, key)? {
+        Some(live_until) => writeln!(out, "until {live_until}")?,
+        None => out.push_str("none\n")?,
+    }
+    Ok(())
+}
+
+fn life_of(alloc: Global, entries: &EntryMap, key: &[u8]) -> Result<Option<u32>, CaseErr> {
+    match decode::<LedgerKey>(alloc, key) {
+        Ok(key) => Ok(entries.find(&key).map(|kept| kept.live_until)),
+        Err(error) => Err(unread(error, "a key")),
+    }
+}
+
+/// Reads a number of 32 bits, as that of a ledger.
+pub fn small_number(word: &str) -> Result<u32, CaseErr> {
+    u32::try_from(number(word)?)
+        .ok()
+        .ok_or(CaseErr::Lacks("a number of 32 bits"))
+}
+
+/// Appends the same, after the entry's life was raised to a ledger.
+fn push_raised(
+    alloc: Global,
+    entries: &mut EntryMap,
+    asked: Asked,
+    out: &mut String,
+) -> Result<(), CaseErr> {
+    raise(alloc, entries, asked.entry, small_number(asked.until)?)?;
+    push_life(alloc, entries, asked.entry, out)
+}
+
+fn raise(alloc: Global, entries: &mut EntryMap, key: &[u8], until: u32) -> Result<(), CaseErr> {
+    match decode::<LedgerKey>(alloc, key) {
+        Ok(key) => {
+            entries.raise(&key, until);
+            Ok(())
+        }
+        Err(error) => Err(unread(error, "a key")),
+    }
+}
+
+/// Appends what a make of contract data in the next ledger does, and the entry at its key after that.
+fn push_made(
+    alloc: Global,
     ledger: &mut Ledger,
-) -> Result<String, CaseErr> {
-    let entry = spelled(decode::<LedgerEntry>(alloc, entry), "an entry")?;
-    let key = key_of(&entry)?;
-    let outcome = make(alloc, &key, entry, until, ledger);
-    outcome_line(alloc, &key, outcome?, &ledger.entries)
+    asked: Asked,
+    out: &mut String,
+) -> Result<(), CaseErr> {
+    let n = ledger.header.seq.saturating_add(1);
+    let until = small_number(asked.until)?;
+    let made = make(alloc, &mut ledger.entries, asked.entry, n, until)?;
+    out.push_str(name_of(made))?;
+    push_kept(alloc, &ledger.entries, asked.entry, out)
 }
 
-fn make(
+fn name_of(made: Made) -> &'static str {
+    match made {
+        Made::Created => "created",
+        Made::Live => "live",
+        Made::Archived => "archived",
+    }
+}
+
+/// Makes the contract data that bytes spell, in ledger `n`.
+pub fn make(
     alloc: Global,
+    entries: &mut EntryMap,
+    entry: &[u8],
+    n: u32,
+    until: u32,
+) -> Result<Made, CaseErr> {
+    match decode::<LedgerEntry>(alloc, entry) {
+        Ok(entry) => make_entry(alloc, entries, entry, n, until),
+        Err(error) => Err(unread(error, "an entry")),
+    }
+}
+
+fn make_entry(
+    alloc: Global,
+    entries: &mut EntryMap,
+    entry: LedgerEntry,
+    n: u32,
+    until: u32,
+) -> Result<Made, CaseErr>
+    requires { entry_format.fits entry }
+{
+    match key_of(&entry) {
+        Ok(key) => make_at(alloc, entries, &key, entry, n, until),
+        Err(_) => Err(CaseErr::NoMemory),
+    }
+}
+
+fn make_at(
+    alloc: Global,
+    entries: &mut EntryMap,
     key: &LedgerKey,
     entry: LedgerEntry,
+    n: u32,
     until: u32,
-    ledger: &mut Ledger,
 ) -> Result<Made, CaseErr>
     requires key { key.now ≡ key_of_entry entry }
     requires fits { entry_format.fits entry }
 {
-    let n = ledger.header.seq.saturating_add(1);
     match entry.data {
-        LedgerEntryData::ContractData(_) => {
-            made(ledger.entries.make(alloc, n, key, entry, until))
-        }
+        LedgerEntryData::ContractData(_) => made(entries.make(alloc, n, key, entry, until)),
         LedgerEntryData::ContractCode(_) => Err(CaseErr::Lacks("contract data")),
     }
 }
 
-fn outcome_line(
+/// Appends what is kept at the key of an entry.
+fn push_kept(
     alloc: Global,
-    key: &LedgerKey,
-    outcome: Made,
     entries: &EntryMap,
-) -> Result<String, CaseErr>
-    requires { key_format.fits key.now }
-{
-    let did = match outcome {
-        Made::Created => "created",
-        Made::Live => "live",
-        Made::Archived => "archived",
-    };
-    let kept = entries.find(key).ok_or(CaseErr::Lacks("the entry"))?;
-    let (modified, until) = (kept.entry.last_modified_ledger_seq, kept.live_until);
-    Ok(format!(in alloc; "{did}, modified in {modified}, until {until}\n")?)
-}
-
-fn ledger_of(alloc: Global, bytes: &[u8]) -> Result<Ledger, CaseErr>
-    ensures { IfOk result (λ l. header_format.fits l.header) }
-{
-    match read_ledger(alloc, bytes, false) {
-        Ok(ledger) => Ok(ledger),
-        Err(LedgerErr::Refused(_)) => Err(CaseErr::Lacks("a ledger")),
-        Err(LedgerErr::NoMemory) => Err(CaseErr::NoMemory),
+    entry: &[u8],
+    out: &mut String,
+) -> Result<(), CaseErr> {
+    match decode::<LedgerEntry>(alloc, entry) {
+        Ok(entry) => push_kept_of(entries, &entry, out),
+        Err(error) => Err(unread(error, "an entry")),
     }
 }
 
-fn entries_of(alloc: Global, bytes: &[u8]) -> Result<EntryMap, CaseErr> {
-    let ledger = ledger_of(alloc, bytes)?;
-    Ok(ledger.entries)
+fn push_kept_of(entries: &EntryMap, entry: &LedgerEntry, out: &mut String) -> Result<(), CaseErr>
+    requires { entry_format.fits entry.now }
+{
+    match key_of(entry) {
+        Ok(key) => push_kept_at(entries, &key, out),
+        Err(_) => Err(CaseErr::NoMemory),
+    }
+}
+
+fn push_kept_at(entries: &EntryMap, key: &LedgerKey, out: &mut String) -> Result<(), CaseErr>
+    requires { key_format.fits key.now }
+{
+    let kept = entries.find(key).ok_or(CaseErr::Lacks("the entry"))?;
+    let (modified, until) = (kept.entry.last_modified_ledger_seq, kept.live_until);
+    writeln!(out, ", modified in {modified}, until {until}")?;
+    Ok(())
 }
 
 /// VERDICTS KEY PAYLOAD: whether the key's signature of the payload is good.
-pub fn verdict(alloc: Global, fragments: &Fragments, rest: &str) -> Result<String, CaseErr> {
-    let (verdicts, rest) = first_word(rest);
+pub fn verdict(
+    alloc: Global,
+    fragments: &Fragments,
+    words: &str,
+    out: &mut String,
+) -> Result<(), CaseErr> {
+    let (verdicts, rest) = first_word(words);
     let (key, payload) = first_word(rest);
     let key = hash_of(alloc, fragments, key)?;
     let payload = hash_of(alloc, fragments, payload)?;
-    let verdicts = read_verdicts(alloc, &fragments.bytes(alloc, verdicts)?);
-    let is_good = spelled(verdicts, "verdicts")?.holds(&key, &payload);
-    Ok(String::from_str(alloc, if is_good { "good\n" } else { "unknown\n" })?)
+    let is_good = is_good(alloc, &fragments.bytes(alloc, verdicts)?, &key, &payload)?;
+    out.push_str(if is_good { "good\n" } else { "unknown\n" })?;
+    Ok(())
+}
+
+fn is_good(alloc: Global, verdicts: &[u8], key: &Hash, payload: &Hash) -> Result<bool, CaseErr> {
+    match read_verdicts(alloc, verdicts) {
+        Ok(verdicts) => Ok(verdicts.holds(key, payload)),
+        Err(error) => Err(unread(error, "verdicts")),
+    }
 }

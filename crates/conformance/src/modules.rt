@@ -4,80 +4,115 @@ use crate::calls;
 use case_text::{Case, CaseErr, Fragments, first_word};
 use module_vet::{Flaw, VetErr, valid_line, vet};
 use std::alloc::Global;
+use std::fmt::Write;
 use wasm_check::{CheckErr, Unlinked, ValidModule, check, link};
 use wasm_read::{ReadModErr, read_module};
+use wasm_spec::Module;
 
-/// A module, or why the bytes are not a valid one.
-#[derive(Drop)]
-enum Judged {
-    Valid(ValidModule),
-    /// Ill typed: the function, or none if a rule outside function bodies is broken.
-    Ill(Option<u32>),
-    NotAModule,
+/// A kind and the kind's words behind MODULE.
+#[derive(Clone, Copy)]
+pub struct Asked<'a> {
+    pub kind: &'a str,
+    pub rest: &'a str,
 }
 
 /// A kind, MODULE and the kind's other words.
-// A function that owns a module lends it as its last act, since each way out of such a function is dear to prove.
-pub fn module_case(alloc: Global, fragments: &Fragments, case: Case) -> Result<String, CaseErr> {
+pub fn module_case(
+    alloc: Global,
+    fragments: &Fragments,
+    case: Case,
+    out: &mut String,
+) -> Result<(), CaseErr> {
     let (module, rest) = first_word(case.words);
-    let judged = judge(alloc, &fragments.bytes(alloc, module)?)?;
-    outcome_of(alloc, &judged, case.kind, rest)
+    let module = fragments.bytes(alloc, module)?;
+    let kind = case.kind;
+    push_judged(alloc, &module, Asked { kind, rest }, out)
 }
 
-/// Reads and checks a module.
-fn judge(alloc: Global, bytes: &[u8]) -> Result<Judged, CaseErr> {
-    let module = match read_module(alloc, bytes) {
-        Ok(module) => module,
-        Err(ReadModErr::NotAModule) => return Ok(Judged::NotAModule),
-        Err(ReadModErr::NoMemory) => return Err(CaseErr::NoMemory),
-    };
+/// Reads a module, and appends what is asked of it.
+pub fn push_judged(
+    alloc: Global,
+    module: &[u8],
+    asked: Asked,
+    out: &mut String,
+) -> Result<(), CaseErr> {
+    match read_module(alloc, module) {
+        Ok(module) => push_checked(alloc, module, asked, out),
+        Err(ReadModErr::NotAModule) => push_not_valid(out, asked.kind, Flaw::NotAModule),
+        Err(ReadModErr::NoMemory) => Err(CaseErr::NoMemory),
+    }
+}
+
+fn push_checked(
+    alloc: Global,
+    module: Module,
+    asked: Asked,
+    out: &mut String,
+) -> Result<(), CaseErr> {
     match check(alloc, module) {
-        Ok(valid) => Ok(Judged::Valid(valid)),
-        Err(CheckErr::Ill { func }) => Ok(Judged::Ill(func)),
+        Ok(valid) => push_valid(alloc, &valid, asked, out),
+        Err(CheckErr::Ill { func }) => push_not_valid(out, asked.kind, Flaw::Ill { func }),
         Err(CheckErr::NoMemory) => Err(CaseErr::NoMemory),
     }
 }
 
-fn outcome_of(alloc: Global, judged: &Judged, kind: &str, rest: &str) -> Result<String, CaseErr> {
-    match (kind, judged) {
-        ("check", Judged::Ill(_)) => Ok(String::from_str(alloc, "ill typed\n")?),
-        ("check" | "flaw", Judged::Valid(_)) => Ok(String::from_str(alloc, "valid\n")?),
-        ("check" | "flaw", Judged::NotAModule) => flaw_line(alloc, Flaw::NotAModule),
-        ("flaw", Judged::Ill(func)) => flaw_line(alloc, Flaw::Ill { func: *func }),
-        ("link", Judged::Valid(module)) => link_line(alloc, module),
-        (_, Judged::Valid(module)) => calls::outcome_of(alloc, module, kind, rest),
+fn push_not_valid(out: &mut String, kind: &str, flaw: Flaw) -> Result<(), CaseErr> {
+    match (kind, flaw) {
+        ("check", Flaw::Ill { .. }) => Ok(out.push_str("ill typed\n")?),
+        ("check" | "flaw", flaw) => push_flaw(out, flaw),
         _ => Err(CaseErr::Lacks("a valid module")),
     }
 }
 
-fn link_line(alloc: Global, module: &ValidModule) -> Result<String, CaseErr> {
+fn push_valid(
+    alloc: Global,
+    module: &ValidModule,
+    asked: Asked,
+    out: &mut String,
+) -> Result<(), CaseErr> {
+    match asked.kind {
+        "check" | "flaw" => Ok(out.push_str("valid\n")?),
+        "link" => push_link(out, module),
+        kind => calls::call_case(alloc, module, kind, asked.rest, out),
+    }
+}
+
+fn push_link(out: &mut String, module: &ValidModule) -> Result<(), CaseErr> {
     match link(module) {
-        Ok(()) => Ok(String::from_str(alloc, "linked\n")?),
-        Err(Unlinked { import }) => flaw_line(alloc, Flaw::Unlinked { import }),
+        Ok(()) => Ok(out.push_str("linked\n")?),
+        Err(Unlinked { import }) => push_flaw(out, Flaw::Unlinked { import }),
     }
 }
 
 /// MODULE: the line of sizes that `vet` says, or why this host does not take the module.
-pub fn vet_case(alloc: Global, fragments: &Fragments, rest: &str) -> Result<String, CaseErr> {
-    match vet(alloc, &fragments.bytes(alloc, rest)?) {
-        Ok(sizes) => text_of(valid_line(alloc, &sizes)?),
-        Err(VetErr::Flawed(flaw)) => flaw_line(alloc, flaw),
+pub fn vet_case(
+    alloc: Global,
+    fragments: &Fragments,
+    words: &str,
+    out: &mut String,
+) -> Result<(), CaseErr> {
+    match vet(alloc, &fragments.bytes(alloc, words)?) {
+        Ok(sizes) => push_line(out, &valid_line(alloc, &sizes)?),
+        Err(VetErr::Flawed(flaw)) => push_flaw(out, flaw),
         Err(VetErr::NoMemory) => Err(CaseErr::NoMemory),
     }
 }
 
-fn text_of(line: Vec<u8>) -> Result<String, CaseErr> {
-    String::from_utf8(line)
+/// Appends a line of text.
+pub fn push_line(out: &mut String, line: &[u8]) -> Result<(), CaseErr> {
+    let line = std::str::from_utf8(line)
         .ok()
-        .ok_or(CaseErr::Lacks("text in its line"))
+        .ok_or(CaseErr::Lacks("text in its line"))?;
+    out.push_str(line)?;
+    Ok(())
 }
 
-fn flaw_line(alloc: Global, flaw: Flaw) -> Result<String, CaseErr> {
-    let line = match flaw {
-        Flaw::NotAModule => String::from_str(alloc, "not a module\n")?,
-        Flaw::Ill { func: Some(func) } => format!(in alloc; "ill typed function {func}\n")?,
-        Flaw::Ill { func: None } => String::from_str(alloc, "ill typed outside of functions\n")?,
-        Flaw::Unlinked { import } => format!(in alloc; "unlinked import {import}\n")?,
-    };
-    Ok(line)
+fn push_flaw(out: &mut String, flaw: Flaw) -> Result<(), CaseErr> {
+    match flaw {
+        Flaw::NotAModule => out.push_str("not a module\n")?,
+        Flaw::Ill { func: Some(func) } => writeln!(out, "ill typed function {func}")?,
+        Flaw::Ill { func: None } => out.push_str("ill typed outside of functions\n")?,
+        Flaw::Unlinked { import } => writeln!(out, "unlinked import {import}")?,
+    }
+    Ok(())
 }

@@ -3,43 +3,69 @@
 ghost use Rattle.ledger_types.specs.Key.{key_format};
 ghost use Rattle.value_types.specs.Formats.{scval_format};
 
-use crate::errors::{made, spelled};
+use crate::errors::{made, unread};
 use case_text::{CaseErr, Fragments, first_word};
 use ledger_types::{LedgerKey, cmp_keys};
 use std::alloc::Global;
 use std::cmp::Ordering;
+use std::fmt::Write;
 use value_types::{ScVal, cmp_val, depth};
 use value_xdr::{decode, val_size, value_from_bytes, value_to_bytes};
 
 /// TYPE BYTES BYTES ..: whether each value comes before all those behind it, or the first two for which that does not hold.
-pub fn rises(alloc: Global, fragments: &Fragments, rest: &str) -> Result<String, CaseErr> {
-    let (name, rest) = first_word(rest);
+pub fn rises(
+    alloc: Global,
+    fragments: &Fragments,
+    words: &str,
+    out: &mut String,
+) -> Result<(), CaseErr> {
+    let (name, rest) = first_word(words);
     let mut spellings = Vec::new(alloc);
-    for word in rest.split(' ') {
-        spellings.push(fragments.bytes(alloc, word)?)?;
-    }
-    rising(alloc, name, &spellings)
+    fragments.push_each(alloc, &mut spellings, rest)?;
+    push_rises(alloc, out, name, &spellings)
 }
 
-fn rising(alloc: Global, name: &str, spellings: &[Vec<u8>]) -> Result<String, CaseErr> {
+fn push_rises(
+    alloc: Global,
+    out: &mut String,
+    name: &str,
+    spellings: &[Vec<u8>],
+) -> Result<(), CaseErr> {
     for (i, bytes) in spellings.iter().enumerate() {
-        for (j, other) in spellings.iter().enumerate() {
-            let order = match name {
-                "value" => order_of_values(alloc, bytes, other)?,
-                "key" => order_of_keys(alloc, bytes, other)?,
-                _ => return Err(CaseErr::Lacks("a type that has an order")),
-            };
-            if order != i.cmp(&j) {
-                return order_line(alloc, i, j, order);
-            }
+        if !is_in_order(alloc, out, name, spellings, i, bytes)? {
+            return Ok(());
         }
     }
-    Ok(String::from_str(alloc, "rises\n")?)
+    out.push_str("rises\n")?;
+    Ok(())
 }
 
-fn order_line(alloc: Global, i: usize, j: usize, order: Ordering) -> Result<String, CaseErr> {
-    let name = name_of(order);
-    Ok(format!(in alloc; "the one of index {i} is {name} than that of {j}\n")?)
+/// Whether the value of an index comes behind those before it, and before those behind it. Else a line says which does not.
+fn is_in_order(
+    alloc: Global,
+    out: &mut String,
+    name: &str,
+    spellings: &[Vec<u8>],
+    i: usize,
+    bytes: &[u8],
+) -> Result<bool, CaseErr> {
+    for (j, other) in spellings.iter().enumerate() {
+        let order = order_of(alloc, name, bytes, other)?;
+        if order != i.cmp(&j) {
+            let name = name_of(order);
+            writeln!(out, "the one of index {i} is {name} than that of {j}")?;
+            return Ok(false);
+        }
+    }
+    Ok(true)
+}
+
+fn order_of(alloc: Global, name: &str, bytes: &[u8], other: &[u8]) -> Result<Ordering, CaseErr> {
+    match name {
+        "value" => order_of_values(alloc, bytes, other),
+        "key" => order_of_keys(alloc, bytes, other),
+        _ => Err(CaseErr::Lacks("a type that has an order")),
+    }
 }
 
 fn name_of(order: Ordering) -> &'static str {
@@ -51,49 +77,80 @@ fn name_of(order: Ordering) -> &'static str {
 }
 
 fn order_of_values(alloc: Global, bytes: &[u8], other: &[u8]) -> Result<Ordering, CaseErr> {
-    let value = spelled(decode::<ScVal>(alloc, bytes), "a value")?;
-    order_of_value(alloc, &value, other)
+    match decode::<ScVal>(alloc, bytes) {
+        Ok(value) => order_of_value(alloc, &value, other),
+        Err(error) => Err(unread(error, "a value")),
+    }
 }
 
 fn order_of_value(alloc: Global, value: &ScVal, other: &[u8]) -> Result<Ordering, CaseErr> {
-    let other = spelled(decode::<ScVal>(alloc, other), "a value")?;
-    Ok(cmp_val(value, &other))
+    match decode::<ScVal>(alloc, other) {
+        Ok(other) => Ok(cmp_val(value, &other)),
+        Err(error) => Err(unread(error, "a value")),
+    }
 }
 
 fn order_of_keys(alloc: Global, bytes: &[u8], other: &[u8]) -> Result<Ordering, CaseErr> {
-    let key = spelled(decode::<LedgerKey>(alloc, bytes), "a key")?;
-    order_of_key(alloc, &key, other)
+    match decode::<LedgerKey>(alloc, bytes) {
+        Ok(key) => order_of_key(alloc, &key, other),
+        Err(error) => Err(unread(error, "a key")),
+    }
 }
 
 fn order_of_key(alloc: Global, key: &LedgerKey, other: &[u8]) -> Result<Ordering, CaseErr>
     requires { key_format.fits key.now }
 {
-    let other = spelled(decode::<LedgerKey>(alloc, other), "a key")?;
-    Ok(cmp_keys(key, &other))
+    match decode::<LedgerKey>(alloc, other) {
+        Ok(other) => Ok(cmp_keys(key, &other)),
+        Err(error) => Err(unread(error, "a key")),
+    }
 }
 
 /// KEY KEY: how the first compares with the second.
-pub fn against(alloc: Global, fragments: &Fragments, rest: &str) -> Result<String, CaseErr> {
-    let (key, other) = first_word(rest);
+pub fn against(
+    alloc: Global,
+    fragments: &Fragments,
+    words: &str,
+    out: &mut String,
+) -> Result<(), CaseErr> {
+    let (key, other) = first_word(words);
     let key = fragments.bytes(alloc, key)?;
     let order = order_of_keys(alloc, &key, &fragments.bytes(alloc, other)?)?;
-    let name = name_of(order);
-    Ok(format!(in alloc; "{name}\n")?)
+    out.push_str(name_of(order))?;
+    out.push('\n')?;
+    Ok(())
 }
 
 /// VALUE: its size and its depth.
-pub fn measure(alloc: Global, fragments: &Fragments, rest: &str) -> Result<String, CaseErr> {
-    let bytes = fragments.bytes(alloc, rest)?;
-    let value = spelled(value_from_bytes(alloc, &bytes), "a value")?;
-    measures(alloc, &bytes, &value)
+pub fn measure(
+    alloc: Global,
+    fragments: &Fragments,
+    words: &str,
+    out: &mut String,
+) -> Result<(), CaseErr> {
+    push_measured(alloc, out, &fragments.bytes(alloc, words)?)
 }
 
-fn measures(alloc: Global, bytes: &[u8], value: &ScVal) -> Result<String, CaseErr>
+fn push_measured(alloc: Global, out: &mut String, bytes: &[u8]) -> Result<(), CaseErr> {
+    match value_from_bytes(alloc, bytes) {
+        Ok(value) => push_measures(alloc, out, bytes, &value),
+        Err(error) => Err(unread(error, "a value")),
+    }
+}
+
+fn push_measures(
+    alloc: Global,
+    out: &mut String,
+    bytes: &[u8],
+    value: &ScVal,
+) -> Result<(), CaseErr>
     requires { scval_format.fits value.now }
 {
-    if made(value_to_bytes(alloc, value))?.as_slice() != bytes {
-        return Ok(String::from_str(alloc, "written otherwise\n")?);
+    if made(value_to_bytes(alloc, value))?.as_slice() == bytes {
+        let (size, depth) = (val_size(value), depth(value));
+        writeln!(out, "size {size} depth {depth}")?;
+    } else {
+        out.push_str("written otherwise\n")?;
     }
-    let (size, depth) = (val_size(value), depth(value));
-    Ok(format!(in alloc; "size {size} depth {depth}\n")?)
+    Ok(())
 }

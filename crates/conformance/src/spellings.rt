@@ -6,10 +6,12 @@ use crate::errors::made;
 use crate::types;
 use case_text::{CaseErr, Fragments, first_word};
 use std::alloc::Global;
+use std::fmt::Write;
 use value_xdr::{Xdr, decode, encode};
 use xdr_core::{ReadXdr, Why, XdrErr};
 
 /// What bytes are as the spelling of a type.
+#[derive(Clone, Copy)]
 pub enum Spelling {
     /// A value is read, and written to the same bytes: their number.
     Same(u64),
@@ -19,18 +21,27 @@ pub enum Spelling {
 }
 
 /// TYPE BYTES: how many bytes the value has, or why and where they are refused.
-pub fn xdr(alloc: Global, fragments: &Fragments, rest: &str) -> Result<String, CaseErr> {
-    let (name, bytes) = first_word(rest);
-    let bytes = fragments.bytes(alloc, bytes)?;
-    let line = match types::spelling_of(alloc, name, &bytes)? {
-        Spelling::Same(size) => format!(in alloc; "ok {size}\n")?,
-        Spelling::Other => String::from_str(alloc, "written otherwise\n")?,
+pub fn xdr(
+    alloc: Global,
+    fragments: &Fragments,
+    words: &str,
+    out: &mut String,
+) -> Result<(), CaseErr> {
+    let (name, bytes) = first_word(words);
+    let spelling = types::spelling_of(alloc, name, &fragments.bytes(alloc, bytes)?)?;
+    push_spelling(out, spelling)
+}
+
+fn push_spelling(out: &mut String, spelling: Spelling) -> Result<(), CaseErr> {
+    match spelling {
+        Spelling::Same(size) => writeln!(out, "ok {size}")?,
+        Spelling::Other => out.push_str("written otherwise\n")?,
         Spelling::Refused(error) => {
             let (at, why) = (error.at, reason(error.why));
-            format!(in alloc; "refused at {at}: {why}\n")?
+            writeln!(out, "refused at {at}: {why}")?;
         }
-    };
-    Ok(line)
+    }
+    Ok(())
 }
 
 /// Reads a value and writes it.
@@ -46,8 +57,22 @@ pub fn cloned<T: Xdr + Drop + Clone>(alloc: Global, bytes: &[u8]) -> Result<Spel
     requires same { (v w : T) → T.is_clone v w → w ≡ v }
 {
     match decode::<T>(alloc, bytes) {
-        Ok(value) => written(alloc, bytes, &value.clone()?),
+        Ok(value) => written_clone(alloc, bytes, &value),
         Err(error) => refused(error),
+    }
+}
+
+fn written_clone<T: Xdr + Drop + Clone>(
+    alloc: Global,
+    bytes: &[u8],
+    value: &T,
+) -> Result<Spelling, CaseErr>
+    requires same { (v w : T) → T.is_clone v w → w ≡ v }
+    requires fits { T.format.fits value.now }
+{
+    match value.clone() {
+        Ok(value) => written(alloc, bytes, &value),
+        Err(_) => Err(CaseErr::NoMemory),
     }
 }
 
