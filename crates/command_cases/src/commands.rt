@@ -12,6 +12,12 @@ use std::fs;
 use std::rt::Runtime;
 use std::thread::Threads;
 
+/// How often a cluster looks for others that are to meet it.
+const MEETING_TURNS: u32 = 100_000_000;
+
+/// How often a cluster looks for others that cannot meet it.
+const MISSING_TURNS: u32 = 1_000_000;
+
 /// Which files the next lines prepare and the next commands find.
 #[derive(Clone, Copy)]
 enum Place {
@@ -64,17 +70,18 @@ impl Commands {
         }
     }
 
-    /// Runs a command, and returns its outcome.
+    /// Runs a command, and appends its outcome.
     fn run<T: Threads + Sync, R: Runtime + AllocGlobal>(
         &mut self,
         threads: &T,
         rt: &R,
         alloc: Global,
         words: &[Word],
-    ) -> Result<String, CaseErr> {
+        out: &mut String,
+    ) -> Result<(), CaseErr> {
         match self.place {
-            Place::Memory => self.memory.run(threads, alloc, words),
-            Place::Disk => self.disk.run(threads, rt, alloc, words),
+            Place::Memory => self.memory.run(threads, alloc, words, out),
+            Place::Disk => self.disk.run(threads, rt, alloc, words, out),
         }
     }
 
@@ -88,15 +95,26 @@ impl Commands {
     ) -> Result<(), CaseErr> {
         let (name, rest) = first_word(case.words);
         match case.kind {
-            "use" => self.place = place_of(case.words)?,
-            "long" => self.disk.put_too_long(rt, alloc, case.words)?,
-            "no" => self.remove(rt, case.words)?,
-            "fail" => self.memory.fail(alloc, name, rest)?,
-            _ => {
-                let bytes = content(rt, alloc, fragments, case.kind, rest)?;
-                self.put(rt, alloc, name, bytes)?;
+            "use" => self.use_files(case.words),
+            "long" => self.disk.put_too_long(rt, alloc, case.words),
+            "no" => self.remove(rt, case.words),
+            "fail" => self.memory.fail(name, rest),
+            "meet" => self.memory.meet(MEETING_TURNS, case.words),
+            "miss" => self.memory.meet(MISSING_TURNS, case.words),
+            kind => {
+                let bytes = content(rt, alloc, fragments, kind, rest)?;
+                self.put(rt, alloc, name, bytes)
             }
         }
+    }
+
+    /// `memory` or `disk`: which files the lines that follow mean.
+    fn use_files(&mut self, word: &str) -> Result<(), CaseErr> {
+        self.place = match word {
+            "memory" => Place::Memory,
+            "disk" => Place::Disk,
+            _ => return Err(CaseErr::Lacks("the word memory or disk")),
+        };
         Ok(())
     }
 }
@@ -112,23 +130,17 @@ impl Judge for Commands {
         alloc: Global,
         fragments: &Fragments,
         case: Case,
-    ) -> Result<Option<String>, CaseErr>
+        out: &mut String,
+    ) -> Result<(), CaseErr>
         requires sync { IsSync R.row }
     {
-        if case.kind == "run" {
-            let words = words_of(alloc, fragments, case.words)?;
-            return Ok(Some(self.run(rt, rt, alloc, &words)?));
+        match case.kind {
+            "run" => {
+                let words = words_of(alloc, fragments, case.words)?;
+                self.run(rt, rt, alloc, &words, out)
+            }
+            _ => self.prepare(rt, alloc, fragments, case),
         }
-        self.prepare(rt, alloc, fragments, case)?;
-        Ok(None)
-    }
-}
-
-fn place_of(word: &str) -> Result<Place, CaseErr> {
-    match word {
-        "memory" => Ok(Place::Memory),
-        "disk" => Ok(Place::Disk),
-        _ => Err(CaseErr::Lacks("the word memory or disk")),
     }
 }
 
@@ -143,10 +155,7 @@ fn content<R: Runtime + AllocGlobal>(
 ) -> Result<Vec<u8>, CaseErr> {
     match kind {
         "file" => fragments.bytes(alloc, rest),
-        "hex" => {
-            let text = fs::read_to_string(rt, rest)?;
-            hex_digits(alloc, text.as_str())
-        }
+        "hex" => hex_digits(alloc, fs::read_to_string(rt, rest)?.as_str()),
         "copy" => Ok(fs::read(rt, rest)?),
         _ => Err(CaseErr::Lacks("a kind of case")),
     }

@@ -1,9 +1,9 @@
 //! Commands over files on disk, in the folder that the program runs in.
 
-use crate::outcome::{names_of, outcome, push_stored};
+use crate::outcome::{name_in, push_outcome, push_stored};
 use case_text::CaseErr;
 use edge_io::{MemSay, OpenGate, RealFiles, Word, longest};
-use soroban_top::{Status, soroban};
+use soroban_top::soroban;
 use std::alloc::Global;
 use std::fs;
 use std::fs::OpenFile;
@@ -68,40 +68,52 @@ impl Disk {
         Ok(())
     }
 
-    /// Runs a command over the files on disk, and returns its outcome.
+    /// Runs a command over the files on disk, and appends its outcome.
     pub fn run<T: Threads + Sync, R: Runtime + AllocGlobal>(
         &mut self,
         threads: &T,
         rt: &R,
         alloc: Global,
         words: &[Word],
-    ) -> Result<String, CaseErr> {
-        let names = names_of(alloc, words)?;
-        let before = contents(rt, alloc, &names)?;
-        let mut files = RealFiles::new(rt.clone()?, alloc, longest(words))?;
-        let mut say = MemSay::new(alloc, Vec::new(alloc));
-        let status = soroban(threads, alloc, words, &mut files, &mut say, &OpenGate);
-        self.outcome(rt, alloc, &names, &before, &status, say.text())
+        out: &mut String,
+    ) -> Result<(), CaseErr> {
+        let before = contents(rt, alloc, words)?;
+        run_over(threads, rt, alloc, words, out)?;
+        for (it, before) in words.iter().zip(before.iter()) {
+            self.push_file(rt, alloc, name_in(it), slice(before), out)?;
+        }
+        Ok(())
     }
 
-    fn outcome<R: Runtime + AllocGlobal>(
+    /// Appends a line if the file of this name is not what it was, and keeps its name.
+    fn push_file<R: Runtime + AllocGlobal>(
         &mut self,
         rt: &R,
         alloc: Global,
-        names: &[Word],
-        before: &[Option<Vec<u8>>],
-        status: &Status,
-        said: &[u8],
-    ) -> Result<String, CaseErr> {
-        let mut text = outcome(alloc, status, said)?;
-        for (name, before) in names.iter().zip(before) {
-            let after = content(rt, name.as_str());
-            if push_stored(alloc, &mut text, name, slice(before), slice(&after))? {
-                self.left.push(String::from_str(alloc, name.as_str())?)?;
-            }
+        name: &str,
+        before: Option<&[u8]>,
+        out: &mut String,
+    ) -> Result<(), CaseErr> {
+        let after = content(rt, name);
+        if push_stored(alloc, out, name, before, slice(&after))? {
+            self.left.push(String::from_str(alloc, name)?)?;
         }
-        Ok(text)
+        Ok(())
     }
+}
+
+/// Runs a command over the files on disk, and appends its status and what it said.
+fn run_over<T: Threads + Sync, R: Runtime + AllocGlobal>(
+    threads: &T,
+    rt: &R,
+    alloc: Global,
+    words: &[Word],
+    out: &mut String,
+) -> Result<(), CaseErr> {
+    let mut files = RealFiles::new(rt.clone()?, alloc, longest(words))?;
+    let mut say = MemSay::new(alloc, Vec::new(alloc));
+    let status = soroban(threads, alloc, words, &mut files, &mut say, &OpenGate);
+    push_outcome(out, &status, say.text())
 }
 
 fn slice(content: &Option<Vec<u8>>) -> Option<&[u8]> {
@@ -118,14 +130,15 @@ fn content<R: Runtime + AllocGlobal>(rt: &R, name: &str) -> Option<Vec<u8>> {
     }
 }
 
+/// What the files named by the words hold.
 fn contents<R: Runtime + AllocGlobal>(
     rt: &R,
     alloc: Global,
-    names: &[Word],
+    words: &[Word],
 ) -> Result<Vec<Option<Vec<u8>>>, CaseErr> {
     let mut contents = Vec::new(alloc);
-    for name in names {
-        contents.push(content(rt, name.as_str()))?;
+    for it in words {
+        contents.push(content(rt, name_in(it)))?;
     }
     Ok(contents)
 }

@@ -1,20 +1,24 @@
 //! Commands over files in memory, whose calls may fail.
 
-use crate::outcome::{names_of, outcome, push_stored};
+use crate::outcome::{name_in, push_outcome, push_stored};
 use crate::words::word;
 use case_text::{CaseErr, number};
-use edge_io::{MemFiles, MemSay, OpenGate, Word};
-use soroban_top::{Status, soroban};
+use edge_io::{Gate, MeetGate, MemFiles, MemSay, OpenGate, Word};
+use soroban_top::soroban;
 use std::alloc::Global;
 use std::collections::BTreeMap;
+use std::mem;
 use std::thread::Threads;
 
-/// The files that each command finds, and the numbers of the calls that fail in the next one.
+/// The files that each command finds, the numbers of the calls that fail in the next one, and the clusters that meet in it.
 #[derive(Drop)]
 pub struct Memory {
     files: BTreeMap<String, Vec<u8>>,
     failing_calls: Vec<u64>,
     failing_says: Vec<u64>,
+    /// Bit n is for cluster n. If no cluster is to meet others, it is 0.
+    meeting: u64,
+    turns: u32,
 }
 
 impl Memory {
@@ -23,6 +27,8 @@ impl Memory {
             files: BTreeMap::new(alloc),
             failing_calls: Vec::new(alloc),
             failing_says: Vec::new(alloc),
+            meeting: 0,
+            turns: 0,
         }
     }
 
@@ -40,38 +46,78 @@ impl Memory {
     }
 
     /// WHICH NUMBERS: the calls of these numbers fail in the next command.
-    pub fn fail(&mut self, alloc: Global, which: &str, numbers: &str) -> Result<(), CaseErr> {
-        let mut failing = Vec::new(alloc);
-        for text in numbers.split(' ') {
-            failing.push(number(text)?)?;
-        }
+    pub fn fail(&mut self, which: &str, numbers: &str) -> Result<(), CaseErr> {
         match which {
-            "files" => self.failing_calls = failing,
-            "say" => self.failing_says = failing,
-            _ => return Err(CaseErr::Lacks("the word files or say")),
+            "files" => push_numbers(&mut self.failing_calls, numbers),
+            "say" => push_numbers(&mut self.failing_says, numbers),
+            _ => Err(CaseErr::Lacks("the word files or say")),
         }
+    }
+
+    /// CLUSTERS: these meet in the next command. Each waits for all others, for at most so many turns.
+    pub fn meet(&mut self, turns: u32, clusters: &str) -> Result<(), CaseErr> {
+        let mut meeting: u64 = 0;
+        for text in clusters.split(' ') {
+            let cluster = number(text)?;
+            if cluster >= 64 {
+                return Err(CaseErr::Lacks("a cluster below 64"));
+            }
+            meeting |= 1 << cluster;
+        }
+        self.meeting = meeting;
+        self.turns = turns;
         Ok(())
     }
 
-    /// Runs a command over a copy of the files, and returns its outcome.
+    /// Runs a command over a copy of the files, and appends its outcome. If clusters are to meet in it, the last line is `met` or
+    /// `missed`.
     pub fn run<T: Threads + Sync>(
         &mut self,
         threads: &T,
         alloc: Global,
         words: &[Word],
-    ) -> Result<String, CaseErr> {
-        let mut files = self.mem_files(alloc)?;
-        let failing = std::mem::replace(&mut self.failing_says, Vec::new(alloc));
-        let mut say = MemSay::new(alloc, failing);
-        let status = soroban(threads, alloc, words, &mut files, &mut say, &OpenGate);
-        self.outcome(alloc, words, &status, say.text(), &files)
+        out: &mut String,
+    ) -> Result<(), CaseErr> {
+        let meeting = mem::replace(&mut self.meeting, 0);
+        if meeting == 0 {
+            return self.run_at(threads, alloc, words, &OpenGate, out);
+        }
+        let gate = MeetGate::new(meeting, self.turns);
+        self.run_at(threads, alloc, words, &gate, out)?;
+        out.push_str(if gate.met() { "met\n" } else { "missed\n" })?;
+        Ok(())
     }
 
-    fn mem_files(&mut self, alloc: Global) -> Result<MemFiles, CaseErr> {
-        let failing = std::mem::replace(&mut self.failing_calls, Vec::new(alloc));
-        let mut files = MemFiles::new(alloc, failing);
-        self.copy_into(alloc, &mut files)?;
-        Ok(files)
+    /// Runs a command whose workers enter a gate.
+    fn run_at<T: Threads + Sync, G: Gate + Sync>(
+        &mut self,
+        threads: &T,
+        alloc: Global,
+        words: &[Word],
+        gate: &G,
+        out: &mut String,
+    ) -> Result<(), CaseErr> {
+        let failing_calls = mem::replace(&mut self.failing_calls, Vec::new(alloc));
+        let failing_says = mem::replace(&mut self.failing_says, Vec::new(alloc));
+        let mut files = MemFiles::new(alloc, failing_calls);
+        let mut say = MemSay::new(alloc, failing_says);
+        self.run_over(threads, alloc, words, &mut files, &mut say, gate, out)
+    }
+
+    fn run_over<T: Threads + Sync, G: Gate + Sync>(
+        &self,
+        threads: &T,
+        alloc: Global,
+        words: &[Word],
+        files: &mut MemFiles,
+        say: &mut MemSay,
+        gate: &G,
+        out: &mut String,
+    ) -> Result<(), CaseErr> {
+        self.copy_into(alloc, files)?;
+        let status = soroban(threads, alloc, words, files, say, gate);
+        push_outcome(out, &status, say.text())?;
+        self.push_changed(alloc, words, files, out)
     }
 
     fn copy_into(&self, alloc: Global, files: &mut MemFiles) -> Result<(), CaseErr> {
@@ -81,19 +127,37 @@ impl Memory {
         Ok(())
     }
 
-    fn outcome(
+    /// Appends a line for each file named by the words that is not what it was.
+    fn push_changed(
         &self,
         alloc: Global,
         words: &[Word],
-        status: &Status,
-        said: &[u8],
         files: &MemFiles,
-    ) -> Result<String, CaseErr> {
-        let mut text = outcome(alloc, status, said)?;
-        for name in &names_of(alloc, words)? {
-            let before = self.files.get(name.as_str()).map(|bytes| bytes.as_slice());
-            let _ = push_stored(alloc, &mut text, name, before, files.bytes(name))?;
+        out: &mut String,
+    ) -> Result<(), CaseErr> {
+        for it in words {
+            self.push_file(alloc, files, &word(alloc, name_in(it))?, out)?;
         }
-        Ok(text)
+        Ok(())
     }
+
+    fn push_file(
+        &self,
+        alloc: Global,
+        files: &MemFiles,
+        name: &Word,
+        out: &mut String,
+    ) -> Result<(), CaseErr> {
+        let before = self.files.get(name.as_str()).map(|bytes| bytes.as_slice());
+        let _is_changed = push_stored(alloc, out, name.as_str(), before, files.bytes(name))?;
+        Ok(())
+    }
+}
+
+fn push_numbers(failing: &mut Vec<u64>, numbers: &str) -> Result<(), CaseErr> {
+    failing.clear();
+    for text in numbers.split(' ') {
+        failing.push(number(text)?)?;
+    }
+    Ok(())
 }
