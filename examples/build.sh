@@ -36,11 +36,23 @@ build_c() {
         -Wl,--no-entry,--strip-all,--compress-relocations,--stack-first,-z,stack-size=5120 -o "$module" "$source"
 }
 
+# Says the target for which rustc has a library. wasm32v1-none, of newer versions, has a library of WebAssembly 1.0 alone.
+rust_target() {
+    for target in wasm32v1-none wasm32-unknown-unknown; do
+        libraries=$("$rustc" --target $target --print target-libdir 2>/dev/null) || continue
+        if [ -d "$libraries" ]; then
+            echo $target
+            return
+        fi
+    done
+    fail "$rustc has no library for WebAssembly (of Debian: libstd-rust-dev-wasm32; of rustup: rustup target add" \
+        "wasm32v1-none). RUSTC names another one, such as /usr/bin/rustc"
+}
+
 build_rust() {
     need "$rustc"
-    libraries=$("$rustc" --target wasm32-unknown-unknown --print target-libdir) && [ -d "$libraries" ] ||
-        fail "$rustc has no library for wasm32-unknown-unknown (of Debian: libstd-rust-dev-wasm32); RUSTC names another one"
-    "$rustc" --target wasm32-unknown-unknown --edition 2021 --crate-type cdylib -C target-cpu=mvp -C opt-level=s -C lto=fat \
+    target=$(rust_target)
+    "$rustc" --target "$target" --edition 2021 --crate-type cdylib -C target-cpu=mvp -C opt-level=s -C lto=fat \
         -C codegen-units=1 -C panic=abort -C strip=symbols -C link-arg=--stack-first -C link-arg=-zstack-size=5120 \
         -o "$module" "$source"
 }
@@ -53,6 +65,7 @@ for folder; do
     name=$(basename "$folder")
     module=$folder/out/$name.wasm
     mkdir -p "$folder/out"
+    [ ! -f "$folder/$name.c" ] || [ ! -f "$folder/$name.rs" ] || fail "$folder has both $name.c and $name.rs"
     if [ -f "$folder/$name.c" ]; then
         source=$folder/$name.c
         build_c

@@ -11,6 +11,7 @@ python3 tools/command_table.py check [PROGRAM]    says whether the README has th
 """
 import json
 import pathlib
+import resource
 import subprocess
 import sys
 import tempfile
@@ -33,9 +34,15 @@ def is_flag(option):
     return "value" not in option
 
 
+def is_optional(option):
+    """Says whether the option may be left out."""
+    return is_flag(option) or option.get("optional", False)
+
+
 def shown(option):
     """Returns the option as a usage line has it."""
-    return f"[--{option['name']}]" if is_flag(option) else f"--{option['name']} {option['value']}"
+    words = f"--{option['name']}" + ("" if is_flag(option) else f" {option['value']}")
+    return f"[{words}]" if is_optional(option) else words
 
 
 def usage(table, command):
@@ -218,7 +225,8 @@ def wrong_words(command, right):
         bad = ["x" * 9] if "words" in option else [""]
         if "least" in option:
             bad += [str(option["greatest"] + 1), "x"] + ([str(option["least"] - 1)] if option["least"] else [])
-        rows.append((f"no {name}", [command["name"], *sum(others, [])]))
+        if not is_optional(option) or any(it.get("needs") == option["name"] for it in command["options"]):
+            rows.append((f"no {name}", [command["name"], *sum(others, [])]))
         rows += [(f"{name} {value!r}", [command["name"], *sum(others, []), f"{name}={value}"]) for value in bad]
     return rows
 
@@ -229,10 +237,11 @@ def check_program(table, program):
 
     def is_usage(words):
         # Wrong words are rejected at once. A large `gen` takes longer, so its words are right.
-        try:
-            return subprocess.run([program, *words], stdout=subprocess.PIPE, timeout=10, check=False).stdout == b"usage\n"
-        except subprocess.TimeoutExpired:
-            return False
+        def end_soon():
+            resource.setrlimit(resource.RLIMIT_CPU, (1, 1))
+
+        ran = subprocess.run([program, *words], stdout=subprocess.PIPE, preexec_fn=end_soon, check=False)
+        return ran.stdout == b"usage\n"
 
     with tempfile.TemporaryDirectory() as folder:
         for command in table["commands"]:
@@ -248,6 +257,8 @@ def check_program(table, program):
                         faults.append(f"{command['name']}: the program rejects --{option['name']} {value}")
             if is_usage([command["name"], *sum(right + flags, [])]):
                 faults.append(f"{command['name']}: the program rejects all options together")
+            if is_usage([command["name"], *sum((words for it, words in zip(options, right) if not is_optional(it)), [])]):
+                faults.append(f"{command['name']}: the program rejects the options that are needed")
             ordered = [[f"--{it['name']}", sample(it, folder, n)] if not is_flag(it) else [f"--{it['name']}"]
                        for n, it in enumerate(command["options"])]
             for what, words in wrong_words(command, ordered):

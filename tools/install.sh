@@ -1,5 +1,5 @@
 #!/bin/sh
-# Installs the program, `soroban`, a man page, and completions for bash and zsh.
+# Installs the program, `soroban`, `soroban-files`, a man page, and completions for bash and zsh.
 #
 # sh tools/install.sh [--prefix FOLDER] [--program FILE]
 #
@@ -48,7 +48,7 @@ share=$prefix/share/soroban
 man=$prefix/share/man/man1
 bash=$prefix/share/bash-completion/completions
 zsh=$prefix/share/zsh/site-functions
-mkdir -p "$prefix/bin" "$share" "$man" "$bash" "$zsh"
+mkdir -p "$prefix/bin" "$share/python" "$man" "$bash" "$zsh"
 install -m 755 "$program" "$prefix/bin/soroban_cmd"
 install -m 644 "$top/tools/soroban.py" "$top/tools/command_table.py" "$top/tools/commands.json" "$share"
 cat >"$share/installed.json" <<END
@@ -62,7 +62,23 @@ cat >"$prefix/bin/soroban" <<END
 #!/bin/sh
 exec python3 "\$(dirname "\$(readlink -f "\$0")")/../share/soroban/soroban.py" "\$@"
 END
-chmod 755 "$prefix/bin/soroban"
+rm -rf "$share/python/soroban_files"
+cp -R "$top/python/soroban_files" "$share/python"
+find "$share/python" -name __pycache__ -prune -exec rm -rf {} +
+cat >"$prefix/bin/soroban-files" <<'END'
+#!/usr/bin/env python3
+import os
+import sys
+
+bin = os.path.dirname(os.path.realpath(__file__))
+sys.dont_write_bytecode = True
+sys.path.insert(0, os.path.join(bin, "..", "share", "soroban", "python"))
+os.environ.setdefault("SOROBAN_CMD", os.path.join(bin, "soroban_cmd"))
+from soroban_files.command import main
+
+sys.exit(main())
+END
+chmod 755 "$prefix/bin/soroban" "$prefix/bin/soroban-files"
 table() {
     python3 "$top/tools/command_table.py" "$1"
 }

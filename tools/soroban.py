@@ -21,7 +21,7 @@ import command_table
 HERE = pathlib.Path(__file__).resolve().parent
 INSTALLED = HERE / "installed.json"
 BUILT = HERE.parent / "crates" / "soroban_cmd" / "out" / "soroban_cmd"
-REJECTED = 7
+REJECTED = 9
 
 
 def reject(why):
@@ -86,8 +86,10 @@ def read_options(command, words):
                 reject(f"--{name} lacks its value; one that begins with - is written --{name}={value}")
         values[name] = value
     for name, option in known.items():
-        if name not in values and not command_table.is_flag(option):
+        if name not in values and not command_table.is_optional(option):
             reject(f"{command['name']} needs {command_table.shown(option)}")
+        if name in values and option.get("needs", name) not in values:
+            reject(f"--{name} needs {command_table.shown(known[option['needs']]).strip('[]')}")
     return values
 
 
@@ -138,7 +140,7 @@ def is_same_file(one, other):
 
 
 def check_files(options, values):
-    files = [(option, values[option["name"]]) for option in options if "access" in option]
+    files = [(option, values[option["name"]]) for option in options if "access" in option and option["name"] in values]
     for option, path in files:
         if not path:
             reject(f"--{option['name']} has an empty name")
@@ -198,7 +200,7 @@ def main(words):
         return
     values = read_options(command, words[1:])
     for option in command["options"]:
-        if not command_table.is_flag(option):
+        if not command_table.is_flag(option) and option["name"] in values:
             check_value(option, values[option["name"]])
     check_files(command["options"], values)
     check_times(values)

@@ -1,19 +1,24 @@
 """The command `soroban-files`.
 
 Its status is that of the program where both speak of the same: 1 for refused bytes and modules, 2 for wrong words, 3 for a
-ledger or verdicts that are refused, 4 for a file that cannot be read or written.
+ledger, verdicts or schedule that are refused, 4 for a file that cannot be read or written.
 """
 from __future__ import annotations
 
 import argparse
 import base64
+import difflib
 import json
+import re
 import sys
-from typing import Any, List, Optional
+from typing import Any, Dict, List, NoReturn, Optional
 
 from . import __version__, diff, files, ledgers, lint, program, schema, wallet, where
 from .program import NoProgram, Program, Refused
 from .xdr import Json, Misfit, Refusal
+
+
+MOST_BYTES = 2**30  # of a file, for the program, too
 
 
 class Fault(Exception):
@@ -31,12 +36,16 @@ def read_file(name: str, is_base64: bool = False) -> bytes:
     """Returns a file's bytes; `-` is the standard input."""
     try:
         if name == "-":
-            data = sys.stdin.buffer.read()
+            data = sys.stdin.buffer.read(MOST_BYTES + 1)
         else:
             with open(name, "rb") as file:
-                data = file.read()
+                data = file.read(MOST_BYTES + 1)
     except OSError as error:
         raise Fault(4, f"fault on {name}: {error.strerror}") from None
+    except ValueError as error:  # a name with a zero
+        raise Fault(4, f"fault on {name!r}: {error}") from None
+    if len(data) > MOST_BYTES:
+        raise Fault(6, f"too long: {name}")
     try:
         return files.from_base64(data) if is_base64 else data
     except files.NotBase64:
@@ -68,8 +77,8 @@ def decoded(kind: str, name: str, is_base64: bool = False, checked: bool = True)
     try:
         return files.decode(kind, data, checked)
     except Refusal as refusal:
-        if kind == "verdicts":
-            raise Fault(3, f"verdicts refused at {refusal.at}: {refusal.why}") from None
+        if kind in ("verdicts", "schedule"):
+            raise Fault(3, f"{kind} refused at {refusal.at}: {refusal.why}") from None
         path = f" ({refusal.item.path})" if refusal.item and refusal.item.path else ""
         raise Fault(1, f"{refusal}{path}" + hint(kind, name, is_base64, str(refusal.at))) from None
     except ledgers.LedgerRefusal as refusal:
@@ -101,10 +110,7 @@ def do_decode(words: argparse.Namespace) -> int:
 
 
 def do_encode(words: argparse.Namespace) -> int:
-    try:
-        value = json.loads(read_file(words.file))
-    except ValueError as error:
-        raise Fault(1, f"not JSON: {error}") from None
+    value = files.from_json(read_file(words.file))
     data = files.encode(words.kind, value, not words.unchecked)
     write_file(words.out, base64.b64encode(data) + b"\n" if words.base64 else data)
     return 0
@@ -120,13 +126,13 @@ def do_diff(words: argparse.Namespace) -> int:
 
 
 def do_where(words: argparse.Namespace) -> int:
+    if words.record is not None and words.kind != "ledger":
+        raise Fault(2, "--record is for ledgers")
+    if (words.record is None) == (words.offset is None):
+        raise Fault(2, "say either an offset, or --record and its index")
     data = read_file(words.file, words.base64)
     if words.record is not None:
-        if words.kind != "ledger":
-            raise Fault(2, "--record is for ledgers")
         put_lines(where.record_lines(data, words.record))
-    elif words.offset is None:
-        raise Fault(2, "say an offset, or --record and its index")
     else:
         put_lines(where.lines(words.kind, data, words.offset))
     return 0
@@ -144,12 +150,34 @@ def do_explore(words: argparse.Namespace) -> int:
 
     ledger, tx_set = decoded("ledger", words.ledger), decoded("set", words.set, words.base64)
     report, after = decoded("report", words.report), decoded("ledger", words.next)
-    names = json.loads(read_file(words.names)) if words.names else None
+    names = names_in(words.names) if words.names else None
     write_file(words.out, explore.page_of(ledger, tx_set, report, after, words.theme, names).encode())
     return 0
 
 
+def names_in(name: str) -> Dict[str, str]:
+    """Returns the names of addresses in a file."""
+    names = files.from_json(read_file(name))
+    if not isinstance(names, dict) or not all(isinstance(text, str) for text in names.values()):
+        raise Fault(1, f'{name} has no object of addresses and their names, such as {{"GABC..": "alice"}}')
+    return names
+
+
 # ---- Words
+
+
+class Parser(argparse.ArgumentParser):
+    """A parser that also says which word may be meant by a wrong one."""
+
+    def error(self, message: str) -> NoReturn:
+        match = re.search(r"invalid choice: '(.*?)' \(choose from (.*)\)", message)
+        if match:
+            names = re.findall(r"[\w-]+", match.group(2))
+            near = difflib.get_close_matches(match.group(1), names, 1)
+            listed = f" (one of {', '.join(names)})" if len(names) < 20 else "; --help lists them"
+            message = f"{message[: match.start()]}{match.group(1)!r} is none"
+            message += f"; is {near[0]} meant?" if near else listed
+        super().error(message)
 
 
 def parser() -> argparse.ArgumentParser:
@@ -157,7 +185,7 @@ def parser() -> argparse.ArgumentParser:
     from . import wallet_command
 
     about = "The files of the contract host, for people. docs/TOOLS.md has examples."
-    top = argparse.ArgumentParser(prog="soroban-files", description=about)
+    top = Parser(prog="soroban-files", description=about)
     top.add_argument("--version", action="version", version=f"soroban-files {__version__}")
     commands = top.add_subparsers(metavar="COMMAND", required=True)
 
@@ -186,23 +214,23 @@ def parser() -> argparse.ArgumentParser:
     encode.add_argument("--unchecked", action="store_true", help="of a ledger: write it also if the program refuses it")
 
     difference = command("diff", do_diff, "what changed from one ledger to another")
-    difference.add_argument("before", metavar="LEDGER")
-    difference.add_argument("after", metavar="LEDGER")
+    difference.add_argument("before", metavar="LEDGER", help="the earlier one")
+    difference.add_argument("after", metavar="LEDGER", help="the later one")
     difference.add_argument("--json", action="store_true", help="as JSON")
 
     place = command(
         "where", do_where, "what stands at an offset at which a file is refused, and what could stand there"
     )
     kind_of(place)
-    place.add_argument("file", metavar="FILE")
-    place.add_argument("offset", metavar="OFFSET", type=int, nargs="?")
+    place.add_argument("file", metavar="FILE", help="- is the standard input")
+    place.add_argument("offset", metavar="OFFSET", type=int, nargs="?", help="of `refused at OFFSET`, from 0")
     place.add_argument("--record", metavar="INDEX", type=int, help="of `ledger refused: 2 at INDEX`: the record")
     place.add_argument("--base64", action="store_true", help="the file is base64 text; offsets count decoded bytes")
 
     wallet_command.add(commands.add_parser("wallet", help="keys, envelopes, signatures and verdicts"))
 
     checked = command("lint", do_lint, "what is wrong with a module, in more words than vet's")
-    checked.add_argument("module", metavar="MODULE")
+    checked.add_argument("module", metavar="MODULE", help="a WebAssembly module; - is the standard input")
     checked.add_argument(
         "--program", metavar="FILE", help="the built program, whose vet names a function that is ill typed"
     )
@@ -222,7 +250,7 @@ def main(arguments: Optional[List[str]] = None) -> int:
     """Runs the command; returns its status."""
     words = parser().parse_args(arguments)
     try:
-        return words.do(words)
+        return int(words.do(words))
     except Fault as fault:
         print(fault, file=sys.stderr)
         return fault.status

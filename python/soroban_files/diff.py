@@ -3,7 +3,7 @@ from __future__ import annotations
 
 from typing import Any, Dict, Iterator, List, NamedTuple
 
-from . import ledgers, values
+from . import ledgers, schema, values
 from .where import key_line
 from .xdr import Json
 
@@ -107,12 +107,18 @@ def value_fields(before: Json, after: Json, path: str) -> Iterator[Field]:
 
 def member_fields(before: List[Dict[str, Json]], after: List[Dict[str, Json]], path: str) -> Iterator[Field]:
     """Yields the members of maps that differ."""
-    old, new = ({values.line(pair["key"]): pair["val"] for pair in pairs} for pairs in (before, after))
-    for key in [*old, *(key for key in new if key not in old)]:
+    old, new = ({spelled(pair["key"]): pair for pair in pairs} for pairs in (before, after))
+    for key, pair in {**old, **new}.items():
+        name = f"{path}.{values.line(pair['key'])}"
         if key in old and key in new:
-            yield from value_fields(old[key], new[key], f"{path}.{key}")
+            yield from value_fields(old[key]["val"], new[key]["val"], name)
         else:
-            yield Field(f"{path}.{key}", old.get(key), new.get(key))
+            yield Field(name, old[key]["val"] if key in old else None, new[key]["val"] if key in new else None)
+
+
+def spelled(key: Json) -> bytes:
+    """Returns the bytes of a map's key: keys that look alike on a line may differ."""
+    return schema.write(schema.VALUE, key)
 
 
 # ---- For people

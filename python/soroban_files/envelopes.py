@@ -12,8 +12,8 @@ NO_HASH = "00" * 32
 MOST_U32 = 2**32 - 1
 
 
-def strkey_of(who: Any) -> str:
-    """Returns the strkey of an account or a contract, or the strkey itself."""
+def strkey_of(who: Any) -> Json:
+    """Returns the strkey of an account or a contract, or the strkey itself; of None, None."""
     return getattr(who, "address", who)
 
 

@@ -3,9 +3,15 @@ from __future__ import annotations
 
 import base64
 import binascii
+import json
+from typing import Dict, List, Tuple
 
 from . import ledgers, schema
-from .xdr import Json
+from .xdr import Json, brief
+
+
+class NotJson(ValueError):
+    """Text that is no JSON of RFC 8259, nests too deep for a file, or has a name twice in an object."""
 
 
 class NotBase64(ValueError):
@@ -23,6 +29,28 @@ def from_base64(text: bytes) -> bytes:
     if base64.b64encode(data) != text:
         raise NotBase64("not base64")
     return data
+
+
+def from_json(text: bytes) -> Json:
+    """Returns what JSON in UTF-8 means. Raises `NotJson`."""
+    try:
+        return json.loads(text.decode(), object_pairs_hook=object_of)
+    except RecursionError:
+        raise NotJson("not JSON of a file: it nests too deep") from None
+    except NotJson:
+        raise
+    except ValueError as error:
+        raise NotJson(f"not JSON: {error}") from None
+
+
+def object_of(pairs: List[Tuple[str, Json]]) -> Dict[str, Json]:
+    """Returns an object of JSON, whose names have to differ."""
+    found = dict(pairs)
+    if len(found) < len(pairs):
+        names = [name for name, _ in pairs]
+        twice = next(name for name in names if names.count(name) > 1)
+        raise NotJson(f"not JSON of a file: the name {brief(twice)} stands twice in an object")
+    return found
 
 
 def decode(kind: str, data: bytes, checked: bool = True) -> Json:

@@ -2,7 +2,7 @@
 from __future__ import annotations
 
 import hashlib
-from typing import Dict, Optional
+from typing import Dict, List, Optional, Tuple
 
 from . import schema
 from .xdr import Json, Refusal
@@ -83,31 +83,33 @@ def entries(ledger: Json) -> Dict[bytes, Json]:
 def check(ledger: Json, follows: bool = False) -> None:
     """Raises `LedgerRefusal` for the first fault of a ledger; with `follows`, another ledger has to be able to follow."""
     fields = body(ledger)
-    if not can_run(ledger):
+    if out_of_bounds(ledger):
         raise LedgerRefusal(5, 0)
     if follows and fields["seq"] >= LAST_LEDGER:
         raise LedgerRefusal(6, 0)
     before = b""
     for index, record in enumerate(fields["records"]):
-        fault = fault_of(before, record)
+        key = key_bytes(record["entry"])
+        fault = fault_of(before, key, record)
         if fault:
             raise LedgerRefusal(fault, index)
-        before = key_bytes(record["entry"])
+        before = key
 
 
-def can_run(ledger: Json) -> bool:
-    """Says whether the protocol and the settings are within their bounds."""
+def out_of_bounds(ledger: Json) -> List[Tuple[str, int, str]]:
+    """Returns each field of the header that is out of its bounds: its path, what is there, and what could be there."""
     settings = body(ledger)["settings"]
     most = settings["max_entry_ttl"]
-    lives = (settings["min_temporary_ttl"], settings["min_persistent_ttl"])
+    bounds = [("protocol", protocol(ledger), LEAST_PROTOCOL, 2**32 - 1)]
+    bounds += [(f"settings.{name}", settings[name], 1, most) for name in ("min_temporary_ttl", "min_persistent_ttl")]
+    bounds.append(("settings.max_entry_ttl", most, 1, MOST_LIFE))
     instruction = settings["terms"]["wasm_insn_exec"]["instructions"]["constant"]
-    right_lives = all(1 <= life <= most for life in lives) and most <= MOST_LIFE
-    return protocol(ledger) >= LEAST_PROTOCOL and right_lives and instruction > 0
+    bounds.append(("settings.terms.wasm_insn_exec.instructions.constant", instruction, 1, 2**32 - 1))
+    return [(path, number, f"{low:,} to {high:,}") for path, number, low, high in bounds if not low <= number <= high]
 
 
-def fault_of(before: bytes, record: Json) -> int:
-    """Returns the number of a record's first fault, given the key before it, or 0."""
-    key = key_bytes(record["entry"])
+def fault_of(before: bytes, key: bytes, record: Json) -> int:
+    """Returns the number of a record's first fault, given the key before it and its own, or 0."""
     if before and before >= key:
         return 2
     if record["ttl"]["key_hash"] != sha256(key):

@@ -9,10 +9,12 @@ from typing import Iterator, List, NamedTuple, Optional
 from . import wasm
 from .host_functions import HOST_FUNCTIONS
 from .program import Program
+from .wasm import shown
 
 C_LIBRARY = {"memcpy", "memset", "memmove", "memcmp", "strlen", "strcmp", "abort", "malloc", "free"}
 WIDE_ARITHMETIC = {"__multi3", "__divti3", "__udivti3", "__modti3", "__umodti3", "__ashlti3", "__lshrti3", "__ashrti3"}
 CALLED_BY_HOST = {"__constructor": None, "__check_auth": 3}
+MOST_FINDINGS = 20  # of one kind
 MOST_PAGES, MOST_ELEMENTS, MOST_LOCALS = 64, 65_536, 4096
 PAGE = 65_536
 
@@ -34,10 +36,19 @@ def lint(data: bytes, program: Optional[Program] = None) -> List[Finding]:
     except wasm.BadModule as fault:
         inside = "" if fault.function is None else f" of {named(data, fault.function)}"
         return [Finding("error", f"not a module: at {fault.offset} (0x{fault.offset:x}){inside}: {fault.why}")]
-    found = [*imports(module), *limits(module), *exports(module), *memory(module), *sections(module)]
+    found = [finding for of_a_kind in KINDS for finding in few(of_a_kind(module))]
     if program is not None:
         found += typing(module, program.vet(data))
     return sorted(found, key=lambda finding: ("error", "warning", "note").index(finding.level))
+
+
+def few(found: Iterator[Finding]) -> Iterator[Finding]:
+    """Yields the first findings of a kind, and says whether there are more."""
+    for number, finding in enumerate(found):
+        if number == MOST_FINDINGS:
+            yield Finding(finding.level, "and more of this kind")
+            return
+        yield finding
 
 
 def named(data: bytes, function: int) -> str:
@@ -62,7 +73,7 @@ def imports(module: wasm.Module) -> Iterator[Finding]:
     for index, imported in enumerate(module.imports):
         type_ = module.types[imported.type_index] if imported.type_index < len(module.types) else None
         count = HOST_FUNCTIONS.get((imported.module, imported.name))
-        name = f"import {index}, {imported.module}.{imported.name},"
+        name = f"import {index}, {shown(imported.module)}.{shown(imported.name)},"
         if count is None:
             yield Finding("error", f"unlinked: {name} is no function of the host: {meant(imported)}")
         elif type_ is None or type_ != wasm.FuncType(["i64"] * count, ["i64"]):
@@ -126,14 +137,14 @@ def typing(module: wasm.Module, vetted: str) -> Iterator[Finding]:
 
 
 def exports(module: wasm.Module) -> Iterator[Finding]:
-    callable_ = 0
     for export in module.exports:
-        if export.kind == 0:
-            fault = export_fault(module, export)
-            callable_ += fault is None
-            if fault:
-                yield Finding("warning", f"the export {export.name} cannot be called: {fault}")
-    if not callable_:
+        fault = export_fault(module, export) if export.kind == 0 else None
+        if fault:
+            yield Finding("warning", f"the export {shown(export.name)} cannot be called: {fault}")
+
+
+def nothing_to_call(module: wasm.Module) -> Iterator[Finding]:
+    if not any(export.kind == 0 and export_fault(module, export) is None for export in module.exports):
         yield Finding("warning", "no export can be called")
 
 
@@ -186,5 +197,9 @@ def sections(module: wasm.Module) -> Iterator[Finding]:
     ]
     for name, size in debug:
         yield Finding(
-            "note", f"the section {name} has {size:,} bytes: code is charged by its length; link with --strip-all"
+            "note",
+            f"the section {shown(name)} has {size:,} bytes: code is charged by its length; link with --strip-all",
         )
+
+
+KINDS = (imports, limits, exports, nothing_to_call, memory, sections)

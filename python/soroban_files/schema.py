@@ -200,6 +200,10 @@ LEDGER = Union(
 VERDICT = Struct("verdict", key=ACCOUNT_KEY, payload=HASH)
 VERDICTS = Listed("verdicts", VERDICT)
 
+# ---- The schedule's file: for each stage the numbers of clusters, in the order in which their transactions run
+
+SCHEDULE = Listed("schedule", Listed("order of a stage", U32))
+
 # ---- Calls, creates and what authorises them
 
 PREIMAGE = Union(
@@ -430,6 +434,7 @@ FILES: Dict[str, Type] = {
     "verdicts": VERDICTS,
     "report": REPORT,
     "simulation": SIMULATION,
+    "schedule": SCHEDULE,
     "value": VALUE,
 }
 PARTS: Dict[str, Type] = {

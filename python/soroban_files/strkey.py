@@ -42,17 +42,18 @@ def decode(text: str, letters: str) -> bytes:
 
     Raises `BadStrkey` for any other text.
     """
-    if not isinstance(text, str) or not text or text[0] not in letters:
-        raise BadStrkey(f"{text!r} does not begin with {' or '.join(letters)}")
+    shown = repr(text[:80])
+    if not text or text[0] not in letters:
+        raise BadStrkey(f"{shown} does not begin with {' or '.join(letters)}")
     try:
         versioned = base64.b32decode(text + "=" * (-len(text) % 8))
     except ValueError:
-        raise BadStrkey(f"{text!r} is not base32") from None
+        raise BadStrkey(f"{shown} is not base32") from None
     payload = versioned[1:-2]
     if versioned[:1] != bytes([VERSIONS[text[0]]]) or versioned[-2:] != checksum(versioned[:-2]):
-        raise BadStrkey(f"{text!r} has another checksum")
+        raise BadStrkey(f"{shown} has another checksum")
     if len(payload) != SIZES.get(text[0], len(payload)) or encode(text[0], payload) != text:
-        raise BadStrkey(f"{text!r} has another length")
+        raise BadStrkey(f"{shown} has another length")
     return payload
 
 

@@ -2,9 +2,10 @@
 from __future__ import annotations
 
 import json
-from typing import Any, Callable, Dict, List
+from typing import Any, Callable, Dict, List, Tuple
 
 from . import schema, strkey
+from .files import from_json
 from .xdr import Json, brief, escaped, unescaped
 
 VOID: Json = "void"
@@ -104,7 +105,7 @@ def value(item: Any) -> Json:
     raise TypeError(f"{brief(item)} is no value: say its type, as in u32(5), i128(5), symbol('a') or address('G..')")
 
 
-def order(key: Json) -> Any:
+def order(key: Json) -> Tuple[int, Any]:
     """Returns what sorts the keys of a map: the number of the type, then the content. Keys of maps are mostly of one type."""
     spelled = schema.write(schema.VALUE, key)
     number = int.from_bytes(spelled[:4], "big")
@@ -165,7 +166,7 @@ def whole_line(item: Json) -> str:
     if kind == "string":
         return json.dumps(content)
     if kind == "symbol":
-        return content
+        return str(content)
     if kind == "address":
         return strkey.short(content)
     if kind == "vec":
@@ -208,9 +209,18 @@ PARSED: Dict[str, Callable[[str], Json]] = {
 
 def parse(text: str) -> Json:
     """Returns the value of a text such as `u32:5`, `i128:-7`, `symbol:abc`, `bytes:00ff`, `void`, a strkey, or JSON."""
+    try:
+        made = meant(text)
+        schema.write(schema.VALUE, made)
+    except (TypeError, ValueError) as error:
+        raise ValueError(f"{brief(text)} is no value: {error}") from None
+    return made
+
+
+def meant(text: str) -> Json:
+    """Returns what a text means, which may be no value yet."""
     if text[:1] in '{["':
-        parsed = json.loads(text)
-        return vec(*parsed) if isinstance(parsed, list) else parsed
+        return value(from_json(text.encode()))
     if text == VOID:
         return VOID
     kind, colon, content = text.partition(":")
@@ -218,7 +228,7 @@ def parse(text: str) -> Json:
         try:
             return PARSED[kind](content)
         except (KeyError, ValueError):
-            raise ValueError(f"{content!r} is no {kind}") from None
+            raise ValueError(f"{brief(content)} is no {kind}") from None
     if text[:1] in strkey.VERSIONS and len(text) >= 56:
         return address(text)
-    raise ValueError(f"{text!r} is no value: write TYPE:CONTENT such as u32:5, a strkey, or JSON")
+    raise ValueError("write TYPE:CONTENT such as u32:5, a strkey, or JSON")

@@ -74,11 +74,13 @@ class Key:
 
     def muxed(self, number: int) -> str:
         """Returns the address of this account with an id, M.."""
+        if not 0 <= number < 2**64:
+            raise ValueError(f"{number} is no id: they go from 0 to {2**64 - 1}")
         return strkey.encode("M", self.public + number.to_bytes(8, "big"))
 
     def sign(self, message: bytes) -> bytes:
         """Returns the signature of a message, 64 bytes."""
-        return self.private.sign(message)
+        return bytes(self.private.sign(message))
 
     def account_signature(self, payload: str) -> Json:
         """Returns the value by which an account signs the payload of an authorisation entry."""
@@ -89,7 +91,7 @@ def raw_bytes(public_key: Any) -> bytes:
     """Returns the 32 bytes of a public key, for versions of `cryptography` before 40."""
     from cryptography.hazmat.primitives import serialization
 
-    return public_key.public_bytes(serialization.Encoding.Raw, serialization.PublicFormat.Raw)
+    return bytes(public_key.public_bytes(serialization.Encoding.Raw, serialization.PublicFormat.Raw))
 
 
 # ---- Transactions

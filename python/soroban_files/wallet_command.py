@@ -2,13 +2,13 @@
 from __future__ import annotations
 
 import argparse
-import json
 import os
 import re
 import secrets
 from typing import Any, List, Optional
 
 from . import envelopes, hashes, ledgers, results, schema, strkey, values, wallet
+from .files import from_json
 from .program import Program
 from .xdr import Json
 
@@ -30,18 +30,21 @@ def key_of(word: str) -> wallet.Key:
     """Returns the key that a word names."""
     if word.startswith("name:"):
         return wallet.Key.named(word[len("name:") :])
-    if not re.fullmatch("S[A-Z2-7]{55}", word):
+    if not re.fullmatch("S[A-Z2-7]{40,}", word):
         word = command_module().read_file(word).decode("ascii", "replace").strip()
-    return wallet.Key.from_secret(word)
+    try:
+        return wallet.Key.from_secret(word)
+    except ValueError:  # whose text may have the seed
+        raise ValueError("the seed is neither S.. with its checksum nor 64 hex digits") from None
 
 
 def network_of(words: argparse.Namespace) -> str:
     """Returns the network's id, of --network or of the header of --ledger."""
     if words.network:
         is_id = re.fullmatch("[0-9a-fA-F]{64}", words.network)
-        return words.network.lower() if is_id else hashes.network_id(words.network)
+        return str(words.network.lower()) if is_id else hashes.network_id(words.network)
     if getattr(words, "ledger", None):
-        return ledgers.body(command_module().decoded("ledger", words.ledger))["network_id"]
+        return str(ledgers.body(command_module().decoded("ledger", words.ledger))["network_id"])
     raise ValueError("say --network or --ledger")
 
 
@@ -53,7 +56,7 @@ def salt_of(word: str) -> bytes:
 def ledger_key_of(word: str) -> Json:
     """Returns the ledger key of a contract's instance (C..), of a code (64 hex digits), or of JSON."""
     if word.startswith("{"):
-        return json.loads(word)
+        return from_json(word.encode())
     if re.fullmatch("[0-9a-f]{64}", word):
         return envelopes.code_key(word)
     strkey.decode(word, "C")
@@ -76,7 +79,10 @@ def entries_of(words: argparse.Namespace, root: Json) -> List[Json]:
 
 def node_of(host_function: Json, words: argparse.Namespace) -> Json:
     """Returns the root of the authorisation tree: the call or create, with the nodes of --below."""
-    below = [schema.read(schema.INVOCATION, schema.write(schema.INVOCATION, json.loads(text))) for text in words.below]
+    below = [
+        schema.read(schema.INVOCATION, schema.write(schema.INVOCATION, from_json(text.encode())))
+        for text in words.below
+    ]
     return envelopes.node(host_function, below)
 
 
@@ -171,7 +177,10 @@ def do_sign_entries(words: argparse.Namespace) -> int:
 
 
 def do_verify(words: argparse.Namespace) -> int:
-    command, network = command_module(), network_of(words)
+    command = command_module()
+    if not words.set and not words.envelopes:
+        raise command.Fault(2, "name envelopes, or a set with --set")
+    network = network_of(words)
     found = envelopes.envelopes_of(command.decoded("set", words.set, words.base64)) if words.set else []
     found += [command.decoded("envelope", name, words.base64) for name in words.envelopes]
     judged = [entry for envelope in found for entry in wallet.judge(envelope, network)]
@@ -226,17 +235,17 @@ def add(parser: argparse.ArgumentParser) -> None:
     key.add_argument("--secret", action="store_true", help="print the seed, too")
     key.add_argument("--id", type=int, metavar="NUMBER", help="print the muxed address with this id, too")
     contract = command("contract", do_contract, "print the address that a create will have", out=False)
-    contract.add_argument("deployer", metavar="DEPLOYER")
+    contract.add_argument("deployer", metavar="DEPLOYER", help="the address that authorises the create")
     contract.add_argument("salt", metavar="SALT", help="64 hex digits, or a text whose hash is the salt")
     add_network(contract)
     add_builders(command)
     bump = command("bump", do_bump, "put a fee bump round an envelope")
     add_envelope(bump)
     bump.add_argument("--source", required=True, metavar="ADDRESS", help="who pays")
-    bump.add_argument("--fee", type=int, default=200)
+    bump.add_argument("--fee", type=int, default=200, help="by default 200")
     fill = command("fill", do_fill, "simulate an envelope, and put in its footprint and limits")
     add_envelope(fill)
-    fill.add_argument("--ledger", required=True, metavar="FILE")
+    fill.add_argument("--ledger", required=True, metavar="FILE", help="the ledger before the transaction")
     fill.add_argument("--verdicts", metavar="FILE", help="by default no verdicts")
     fill.add_argument("--close-time", type=int, metavar="SECONDS", help="by default 5 after the ledger's")
     fill.add_argument("--margin", type=int, default=20, metavar="PERCENT", help="added to each limit; by default 20")
@@ -256,7 +265,7 @@ def add(parser: argparse.ArgumentParser) -> None:
         "verify", do_verify, "verify the signatures in authorisation entries, and write the verdicts", out=False
     )
     verify.add_argument("--out", required=True, metavar="FILE", help="the verdicts' file that is written")
-    verify.add_argument("envelopes", nargs="*", metavar="ENVELOPE")
+    verify.add_argument("envelopes", nargs="*", metavar="ENVELOPE", help="files of envelopes")
     verify.add_argument("--set", metavar="FILE", help="all envelopes of a set")
     verify.add_argument("--base64", action="store_true", help="the inputs are base64 text")
     add_network(verify)
@@ -283,13 +292,13 @@ def add_envelope(parser: argparse.ArgumentParser) -> None:
 def add_builders(command: Any) -> None:
     """Adds the commands that build an envelope."""
     call = command("call", do_call, "build an envelope that calls a contract")
-    call.add_argument("contract", metavar="CONTRACT")
-    call.add_argument("function", metavar="FUNCTION")
+    call.add_argument("contract", metavar="CONTRACT", help="the contract's address, C..")
+    call.add_argument("function", metavar="FUNCTION", help="the function's name")
     call.add_argument(
         "args", nargs="*", metavar="VALUE", help="u32:5, i128:-7, symbol:abc, bytes:00ff, void, a strkey, or JSON"
     )
     upload = command("upload", do_upload, "build an envelope that uploads a module")
-    upload.add_argument("module", metavar="MODULE")
+    upload.add_argument("module", metavar="MODULE", help="a WebAssembly module")
     create = command("create", do_create, "build an envelope that creates a contract")
     create.add_argument("code", metavar="HASH", help="the hash of the code")
     create.add_argument("args", nargs="*", metavar="VALUE", help="arguments of the constructor, as for call")
@@ -301,9 +310,9 @@ def add_builders(command: Any) -> None:
         "keys", nargs="+", metavar="KEY", help="a contract (C..), the hash of a code, or a ledger key as JSON"
     )
     for builder in (call, upload, create, extend):
-        builder.add_argument("--source", required=True, metavar="ADDRESS")
-        builder.add_argument("--seq", type=int, default=1, metavar="NUMBER", help="the sequence number")
-        builder.add_argument("--fee", type=int, default=100)
+        builder.add_argument("--source", required=True, metavar="ADDRESS", help="the source account, G.. or M..")
+        builder.add_argument("--seq", type=int, default=1, metavar="NUMBER", help="the sequence number; by default 1")
+        builder.add_argument("--fee", type=int, default=100, help="by default 100")
     for builder in (call, create):
         who = "`source`, or an address that will sign"
         builder.add_argument("--authorize", action="append", default=[], metavar="ADDRESS", help=who)

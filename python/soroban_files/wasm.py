@@ -44,7 +44,18 @@ class FuncType(NamedTuple):
     results: List[str]
 
     def __str__(self) -> str:
-        return f"({', '.join(self.params)}) -> ({', '.join(self.results)})"
+        return f"({listed(self.params)}) -> ({listed(self.results)})"
+
+
+def listed(types: List[str]) -> str:
+    """Returns types for people; of many, the first ones."""
+    return ", ".join(types if len(types) <= 12 else [*types[:10], f".. {len(types):,} in all"])
+
+
+def shown(name: str) -> str:
+    """Returns a name for people. A module may give any; of control characters and the like only the codes are shown."""
+    text = "".join(char if char.isprintable() else char.encode("unicode_escape").decode() for char in name[:200])
+    return text if len(name) <= 64 else f"{text[:60]}.."
 
 
 class Import(NamedTuple):
@@ -94,15 +105,17 @@ class Module:
 
     def type_of(self, function: int) -> Optional[FuncType]:
         """Returns the type of a function, if it has one."""
-        indices = [imported.type_index for imported in self.imports] + self.functions
-        index = indices[function] if function < len(indices) else len(self.types)
+        own = function - len(self.imports)
+        if own >= len(self.functions):
+            return None
+        index = self.functions[own] if own >= 0 else self.imports[function].type_index
         return self.types[index] if index < len(self.types) else None
 
     def function_name(self, function: int) -> str:
         """Returns how to speak of a function: its number, and its name or an export's."""
         exported = [export.name for export in self.exports if export.kind == 0 and export.target == function]
         name = self.names.get(function) or (exported[0] if exported else "")
-        return f"function {function}" + (f" ({name})" if name else "")
+        return f"function {function}" + (f" ({shown(name)})" if name else "")
 
 
 class Bytes:
@@ -225,7 +238,8 @@ class SectionReader:
 
     def content_of(self, number: int) -> Callable[[], None]:
         """Returns what reads the content of the section with a number."""
-        return getattr(self, f"read_{SECTIONS[number]}")
+        read: Callable[[], None] = getattr(self, f"read_{SECTIONS[number]}")
+        return read
 
     def read_custom(self) -> None:
         name = self.reader.name()
@@ -252,7 +266,8 @@ class SectionReader:
         if kind:
             what = IMPORT_KINDS[kind] if kind < len(IMPORT_KINDS) else f"thing of kind {kind}"
             hint = ": link without --import-memory" if kind == 2 else ""
-            raise self.reader.bad(f"the import {module}.{name} of a {what}; only functions are accepted{hint}", start)
+            imported = f"{shown(module)}.{shown(name)}"
+            raise self.reader.bad(f"the import {imported} of a {what}; only functions are accepted{hint}", start)
         return Import(module, name, self.reader.unsigned())
 
     def read_function(self) -> None:
@@ -290,7 +305,7 @@ class SectionReader:
     def export(self) -> Export:
         name, kind = self.reader.name(), self.reader.byte()
         if kind > 3:
-            raise self.reader.bad(f"the export {name} of a thing of kind {kind}", self.reader.at - 1)
+            raise self.reader.bad(f"the export {shown(name)} of a thing of kind {kind}", self.reader.at - 1)
         return Export(name, kind, self.reader.unsigned())
 
     def read_element(self) -> None:

@@ -1,7 +1,7 @@
 """Explains an offset of a file: the path in the type at which it stands, what is there, and what could stand there."""
 from __future__ import annotations
 
-from typing import List, NamedTuple, Optional
+from typing import Iterator, List, NamedTuple, Optional
 
 from . import ledgers, schema, values
 from .xdr import Cursor, Item, Json, Number, Refusal, Strkey, Union
@@ -14,6 +14,7 @@ class Place(NamedTuple):
     refusal: Optional[Refusal]  # that of the file, wherever it is
     item: Optional[Item]  # the item that holds the offset, if the file was read so far
     there: bytes
+    value: Json  # of the file, if it is not refused
 
     @property
     def is_refused(self) -> bool:
@@ -23,21 +24,23 @@ class Place(NamedTuple):
 
 def where(kind: str, data: bytes, offset: int) -> Place:
     """Returns what stands at a byte offset of a file or a part."""
-    cursor, refusal = Cursor(data, watch=offset), None
+    if offset < 0:
+        raise ValueError(f"{offset} is no offset: they count from 0")
+    cursor, refusal, value = Cursor(data, watch=offset), None, None
     try:
-        schema.KINDS[kind].read(cursor)
+        value = schema.KINDS[kind].read(cursor)
         cursor.finish()
     except Refusal as error:
         refusal = error
     item = refusal.item if refusal and refusal.at == offset else cursor.watched
     there = data[item.start : item.start + item.size] if item else b""
-    return Place(offset, refusal, item, there)
+    return Place(offset, refusal, item, there, value)
 
 
 def meaning(item: Item, there: bytes) -> str:
     """Says what the bytes of an item mean, as far as they mean anything."""
     number = int.from_bytes(there, "big")
-    if len(there) < item.size or not there:
+    if len(there) < item.wanted or not there:
         return ""
     if isinstance(item.type, Union):
         return f"{number} {item.type.arms[number][0]}" if number in item.type.arms else signed(number)
@@ -59,8 +62,10 @@ def lines(kind: str, data: bytes, offset: int) -> List[str]:
     """Returns the explanation for people."""
     place = where(kind, data, offset)
     refusal = place.refusal
-    judged = "it is valid" if refusal is None else refused_line(kind, refusal)
+    judged = refused_line(kind, refusal) if refusal else "it is valid"
     said = [f"{kind} of {len(data)} bytes: {judged}"]
+    if kind == "ledger" and refusal is None:
+        said = list(judged_lines(data, place.value))
     if place.item is None:
         unread = "nothing is known of what stands behind that"
         behind = unread if refusal and offset > refusal.at else "the offset is behind its end"
@@ -81,11 +86,26 @@ def lines(kind: str, data: bytes, offset: int) -> List[str]:
 
 def refused_line(kind: str, refusal: Refusal) -> str:
     """Returns a refusal as the program says it of this kind of file, with the reason."""
-    said = {"ledger": f"ledger refused: 1 at {refusal.at}", "verdicts": f"verdicts refused at {refusal.at}"}
+    said = {kind: f"{kind} refused at {refusal.at}" for kind in ("verdicts", "schedule")}
+    said["ledger"] = f"ledger refused: 1 at {refusal.at}"
     return f"{said[kind]}: {refusal.why}" if kind in said else str(refusal)
 
 
-# ---- Ledgers, which are also refused by record
+# ---- Ledgers, which are also refused by their header and by record
+
+
+def judged_lines(data: bytes, ledger: Json) -> Iterator[str]:
+    """Yields the refusal of a ledger that is spelled well, and what is out of bounds in its header."""
+    try:
+        ledgers.check(ledger)
+        yield f"ledger of {len(data)} bytes: it is valid"
+    except ledgers.LedgerRefusal as refusal:
+        yield f"ledger of {len(data)} bytes: {refusal}: {refusal.why}"
+        if refusal.number == 5:
+            for path, number, bounds in ledgers.out_of_bounds(ledger):
+                yield f"  bounds   {next(iter(ledger))}.{path} is {number}; allowed are {bounds}"
+        else:
+            yield f"  record   --record {refusal.at} says more"
 
 
 def record_lines(data: bytes, index: int) -> List[str]:
@@ -99,7 +119,7 @@ def record_lines(data: bytes, index: int) -> List[str]:
         return [f"ledger of {len(records)} records: there is no record {index}"]
     record = records[index]
     before = ledgers.key_bytes(records[index - 1]["entry"]) if index else b""
-    fault = ledgers.fault_of(before, record)
+    fault = ledgers.fault_of(before, ledgers.key_bytes(record["entry"]), record)
     said = [f"record {index} of {len(records)}: {ledgers.REASONS[fault] if fault else 'it is valid'}"]
     said.append(
         f"  path     {next(iter(ledger))}.records[{index}], from offset {record_offset(data, records, index)} on"

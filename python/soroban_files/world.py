@@ -245,7 +245,7 @@ class World:
     @property
     def seq(self) -> int:
         """The number of the last closed ledger."""
-        return self.fields["seq"]
+        return int(self.fields["seq"])
 
     @property
     def now(self) -> int:
@@ -274,7 +274,7 @@ class World:
         record = self.record(key)
         if record is None:
             raise KeyError("there is no such entry")
-        return record["ttl"]["live_until_ledger_seq"]
+        return int(record["ttl"]["live_until_ledger_seq"])
 
     # ---- Accounts and contracts
 

@@ -12,12 +12,15 @@ import re
 import string
 import struct
 from typing import Any, Callable, Dict, List, Mapping, NamedTuple, Optional, Tuple
+from typing import Union as Union_
 
 from . import strkey
 
 Json = Any
+Step = Union_[str, int]  # of a path: what is appended to it, or an index
 
 NO_BOUND = 2**32 - 1
+WORD = struct.Struct(">I")
 
 
 class Item(NamedTuple):
@@ -50,9 +53,9 @@ class Misfit(ValueError):
         self.fault = fault
 
 
-def path_text(steps: List[str]) -> str:
+def path_text(steps: List[Step]) -> str:
     """Returns a path as it is shown: `tx.operations[0].body`."""
-    return "".join(steps).lstrip(".")
+    return "".join(step if isinstance(step, str) else f"[{step}]" for step in steps).lstrip(".")
 
 
 class Cursor:
@@ -61,7 +64,7 @@ class Cursor:
     def __init__(self, data: bytes, watch: int = -1) -> None:
         self.data = data
         self.place = 0
-        self.steps: List[str] = []
+        self.steps: List[Step] = []
         self.levels: Dict[Type, int] = {}
         self.watch = watch
         self.watched: Optional[Item] = None
@@ -80,7 +83,12 @@ class Cursor:
 
     def word(self, of: "Type", role: str = "") -> int:
         """Returns the next 4 bytes as a number."""
-        return int.from_bytes(self.take(4, of, role), "big")
+        start = self.place
+        if start + 4 > len(self.data) or start <= self.watch < start + 4:
+            return int.from_bytes(self.take(4, of, role), "big")
+        self.place = start + 4
+        number: int = WORD.unpack_from(self.data, start)[0]
+        return number
 
     def refuse(self, at: int, why: str, of: "Type", role: str = "") -> Refusal:
         """Returns the refusal of the word at an offset."""
@@ -98,14 +106,14 @@ class Writer:
 
     def __init__(self) -> None:
         self.parts: List[bytes] = []
-        self.steps: List[str] = []
+        self.steps: List[Step] = []
         self.levels: Dict[Type, int] = {}
 
     def put(self, data: bytes) -> None:
         self.parts.append(data)
 
     def word(self, number: int) -> None:
-        self.parts.append(struct.pack(">I", number))
+        self.parts.append(WORD.pack(number))
 
     def misfit(self, fault: str) -> Misfit:
         """Returns the error for the value at the current path."""
@@ -166,7 +174,7 @@ class Number(Type):
                 raise out.misfit(f"{brief(value)} is no number")
             number = int(value)
         if isinstance(number, bool) or not isinstance(number, int) or not self.least <= number <= self.most:
-            raise out.misfit(f"{value!r} is no number from {self.least} to {self.most}")
+            raise out.misfit(f"{brief(value)} is no number from {self.least} to {self.most}")
         out.put(number.to_bytes(self.size, "big", signed=self.signed))
 
     def expects(self, role: str) -> str:
@@ -186,7 +194,7 @@ class Boolean(Type):
 
     def write(self, out: Writer, value: Json) -> None:
         if not isinstance(value, bool):
-            raise out.misfit(f"{value!r} is neither true nor false")
+            raise out.misfit(f"{brief(value)} is neither true nor false")
         out.word(int(value))
 
     def expects(self, role: str) -> str:
@@ -221,7 +229,7 @@ class Fixed(Type):
     def write(self, out: Writer, value: Json) -> None:
         data = hex_bytes(out, value) if self.from_json is None else as_bytes(out, self.from_json, value)
         if len(data) != self.size:
-            raise out.misfit(f"{value!r} has {len(data)} bytes and not {self.size}")
+            raise out.misfit(f"{brief(value)} has {len(data)} bytes and not {self.size}")
         out.put(data)
 
     def expects(self, role: str) -> str:
@@ -274,12 +282,13 @@ class Opaque(Type):
 
 
 ESCAPES = {0: "\\0", 9: "\\t", 10: "\\n", 13: "\\r", 92: "\\\\"}
+TEXTS = {byte: ESCAPES.get(byte) or (chr(byte) if 32 <= byte < 127 else f"\\x{byte:02x}") for byte in range(256)}
 UNESCAPES = {text[1]: byte for byte, text in ESCAPES.items()}
 
 
 def escaped(data: bytes) -> str:
     """Returns bytes as a text: ASCII as it is, other bytes as `\\xNN` (SEP-51)."""
-    return "".join(ESCAPES.get(byte) or (chr(byte) if 32 <= byte < 127 else f"\\x{byte:02x}") for byte in data)
+    return data.decode("latin-1").translate(TEXTS)
 
 
 def unescaped(text: str) -> bytes:
@@ -293,8 +302,8 @@ def unescaped(text: str) -> bytes:
                 raise ValueError("a backslash at the end escapes nothing")
             out += b"\\" + plain.encode()
         elif piece[0] == "x":
-            if len(piece) < 3:
-                raise ValueError(f"the escape \\{piece} is not whole")
+            if len(piece) < 3 or piece[1:3].strip(string.hexdigits):
+                raise ValueError(f"the escape \\{piece[:3]} is not \\x and two hex digits")
             out += bytes.fromhex(piece[1:3]) + piece[3:].encode()
         elif piece[0] in UNESCAPES:
             out += bytes([UNESCAPES[piece[0]]]) + piece[1:].encode()
@@ -326,7 +335,7 @@ class Struct(Type):
             raise out.misfit(f"{brief(value)} is no object with the fields of {self.name}")
         unknown = set(value) - {field for field, _, _ in self.fields}
         if unknown:
-            raise out.misfit(f"{self.name} has no field {sorted(unknown)[0]!r}")
+            raise out.misfit(f"{self.name} has no field {brief(sorted(unknown)[0])}")
         for field, step, of in self.fields:
             out.steps.append(step)
             if field not in value:
@@ -355,7 +364,7 @@ class Listed(Type):
     def read_items(self, cursor: Cursor, count: int) -> List[Json]:
         items, steps, item = [], cursor.steps, self.item
         for index in range(count):
-            steps.append(f"[{index}]")
+            steps.append(index)
             items.append(item.read(cursor))
             steps.pop()
         return items
@@ -369,7 +378,7 @@ class Listed(Type):
             raise out.misfit(f"it is below {self.within.most} levels, and has to be empty")
         out.word(len(value))
         for index, item in enumerate(value):
-            out.steps.append(f"[{index}]")
+            out.steps.append(index)
             self.item.write(out, item)
             out.steps.pop()
 

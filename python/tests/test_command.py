@@ -4,15 +4,17 @@ from __future__ import annotations
 import io
 import json
 import os
+import re
 import subprocess
 import sys
 import tempfile
 import unittest
+import unittest.mock
 from typing import List, Tuple
 
-from soroban_files import encode, hashes, ledgers, wallet
+from soroban_files import decode, encode, envelopes, hashes, ledgers, wallet
 from soroban_files.command import main
-from soroban_files.program import is_there
+from soroban_files.program import Program, is_there
 from soroban_files.values import symbol
 from soroban_files.world import new_ledger, module_bytes
 from tests.tables import REPOSITORY
@@ -21,6 +23,8 @@ from tests.test_where import ENTRY
 PACKAGE = os.path.dirname(os.path.dirname(os.path.abspath(__file__)))
 TOKEN = os.path.join(REPOSITORY, "examples", "token", "token.hex")
 ALICE = "name:alice"
+ENTRY_CONTRACT = "CAAQCAIBAEAQCAIBAEAQCAIBAEAQCAIBAEAQCAIBAEAQCAIBAEAQC526"
+NETWORK = hashes.network_id("Test")
 
 
 class CommandTest(unittest.TestCase):
@@ -53,9 +57,9 @@ class CommandTest(unittest.TestCase):
         finally:
             sys.stdout.flush()
             sys.stderr.flush()
-            said = [buffer.getvalue().decode() for buffer in buffers]
+            said, errors = (buffer.getvalue().decode() for buffer in buffers[1:])
             sys.stdin, sys.stdout, sys.stderr = streams
-        return status, said[1], said[2]
+        return status, said, errors
 
     def good(self, *words: str, given: bytes = b"") -> str:
         status, said, errors = self.run_it(*words, given=given)
@@ -95,6 +99,8 @@ class CommandTest(unittest.TestCase):
         self.good("decode", "ledger", ledger, "--unchecked")
         verdicts = self.put("verdicts", bytes(3))
         self.assertEqual(self.run_it("decode", "verdicts", verdicts)[0::2], (3, "verdicts refused at 3: end\n"))
+        schedule = self.put("schedule", bytes.fromhex("00000001"))
+        self.assertEqual(self.run_it("decode", "schedule", schedule)[0::2], (3, "schedule refused at 4: end\n"))
         self.assertEqual(self.run_it("decode", "set", self.path("none"))[0], 4)
         self.assertEqual(self.run_it("decode", "nothing", bad)[0], 2)
         self.assertEqual(self.run_it("decode", "value", bad, "--base64")[0::2], (1, f"not base64: {bad}\n"))
@@ -201,14 +207,150 @@ class CommandTest(unittest.TestCase):
         self.assertLess(resources["write_bytes"], 2 * len(module_bytes(TOKEN)))
         self.assertLess(resources["instructions"], 2**31)
 
+    def close(self, envelope: str, number: int) -> str:
+        """Takes an envelope into the ledger after `number`, by commands; returns what changed."""
+        before, after = self.path(f"ledger-{number}"), self.path(f"ledger-{number + 1}")
+        verify = ["wallet", "verify", "--ledger", before, "--out", self.path("v")]
+        self.good(*verify, envelope)
+        self.good("wallet", "fill", envelope, "--ledger", before, "--verdicts", self.path("v"), "--out", envelope)
+        self.good("wallet", "sign", envelope, "--key", "name:admin", "--ledger", before, "--out", envelope)
+        self.good("wallet", "set", envelope, "--out", self.path("set"))
+        self.assertIn("is signed by its source", self.good(*verify, "--set", self.path("set")))
+        files = [self.get(name) for name in ("set", f"ledger-{number}", "v")]
+        applied = Program().apply(files[0], files[1], files[2], 2000 + number)
+        self.put("report", applied.report_file)
+        self.put(f"ledger-{number + 1}", applied.ledger_file)
+        self.good("explore", before, self.path("set"), self.path("report"), after, "--out", self.path("page"))
+        return self.good("diff", before, after)
+
+    @unittest.skipUnless(wallet.has_cryptography() and is_there(), "the package cryptography or the program is missing")
+    def test_from_key_to_ledger(self) -> None:
+        """A token is uploaded, created, minted, and transferred by who signs an entry, by commands alone."""
+        self.put("ledger-100", encode("ledger", new_ledger(NETWORK, 100, 1000)))
+        module, sent = self.put("token.wasm", module_bytes(TOKEN)), self.path("sent")
+        admin, alice, bob = (wallet.Key.named(name).address for name in ("admin", "alice", "bob"))
+        by, out = ["--source", admin, "--authorize", "source"], ["--out", sent]
+        self.good("wallet", "upload", module, "--source", admin, *out)
+        self.assertIn("live until", self.close(sent, 100))
+        code = decode("report", self.get("report"))[0]["success"]["return_value"]["bytes"]
+        self.good("wallet", "create", code, admin, "--salt", "first", *by, *out)
+        self.close(sent, 101)
+        token = self.good("wallet", "contract", admin, "first", "--ledger", self.path("ledger-102")).strip()
+        self.good("wallet", "call", token, "mint", alice, "u64:100", *by, *out)
+        self.assertIn("= 100_u64, live until", self.close(sent, 102))
+        self.good("wallet", "call", token, "transfer", alice, bob, "u64:25", "--source", admin, "--authorize", alice,
+                  "--until", "200", *out)  # fmt: skip
+        self.good("wallet", "sign-entries", sent, "--key", ALICE, "--ledger", self.path("ledger-103"), *out)
+        found = self.close(sent, 103)
+        self.assertIn("= 25_u64, live until", found)
+        self.assertIn("val: 100_u64 -> 75_u64", found)
+
+    def test_json(self) -> None:
+        """What is no JSON of a file is refused, also by its depth and its names."""
+        for text, why in (
+            (b"{", "not JSON: "),
+            (b"\xff", "not JSON: "),
+            (b"[" * 200_000, "it nests too deep"),
+            (b'{"u32": 1, "u32": 2}', "the name 'u32' stands twice"),
+            (b'{"string": "\\\\x  ab"}', "the escape \\x   is not"),
+            (b'{"address": "' + b"G" * 1000 + b'"}', "has another checksum"),
+            (b'{"u32": 1.0}', "1.0 is no number"),
+            (b'{"u64": "' + b"9" * 5000 + b'"}', "is no number"),
+        ):
+            status, said, errors = self.run_it("encode", "value", given=text)
+            self.assertEqual((status, said), (1, ""), text[:50])
+            self.assertIn(why, errors)
+            self.assertLess(len(errors), 300)
+
+    def test_wrong_words(self) -> None:
+        empty = self.put("empty", b"")
+        for words, why in (
+            (["decod"], "'decod' is none; is decode meant?"),
+            (["decode", "ledgr", empty], "'ledgr' is none; is ledger meant?"),
+            (["wallet", "verfy"], "is verify meant?"),
+            (["where", "ledger", empty], "say either an offset, or --record"),
+            (["where", "ledger", empty, "5", "--record", "1"], "say either an offset, or --record"),
+            (["where", "set", empty, "--record", "1"], "--record is for ledgers"),
+            (["wallet", "verify", "--network", "Test", "--out", "v"], "name envelopes, or a set with --set"),
+        ):
+            status, said, errors = self.run_it(*words)
+            self.assertEqual((status, said), (2, ""), words)
+            self.assertIn(why, errors)
+        self.assertEqual(self.run_it("where", "value", empty, "-5")[0::2], (1, "-5 is no offset: they count from 0\n"))
+        for text in ("{}", '"abc"', "[5]", "{", "u32:-1", "u32:x", "i128:" + "9" * 50, "bytes:0", "bool:1", "x", ""):
+            status, _, errors = self.run_it("wallet", "call", ENTRY_CONTRACT, "f", text, "--source", ENTRY_CONTRACT)
+            self.assertEqual(status, 1, text)
+            self.assertIn("is no value: ", errors)
+
+    def test_long_file(self) -> None:
+        with unittest.mock.patch("soroban_files.command.MOST_BYTES", 3):
+            void = self.put("void", bytes.fromhex("00000001"))
+            self.assertEqual(self.run_it("decode", "value", void)[0::2], (6, f"too long: {void}\n"))
+            self.assertEqual(self.run_it("decode", "value", "-", given=bytes(4))[0], 6)
+
+    def test_names(self) -> None:
+        ledger, tx_set = self.put("l", self.ledger(records=[])), self.put(
+            "s", encode("set", envelopes.parallel_set([]))
+        )
+        report = self.put("r", encode("report", []))
+        page = self.good("explore", ledger, tx_set, report, ledger, "--names", self.put("n", b'{"G": "alice"}'))
+        self.assertIn("No entry changed.", page)
+        for text in (b"[]", b'{"G": 5}', b"{"):
+            status, said, errors = self.run_it(
+                "explore", ledger, tx_set, report, ledger, "--names", self.put("n", text)
+            )
+            self.assertEqual((status, said), (1, ""))
+            self.assertNotEqual(errors, "")
+
+    @unittest.skipUnless(wallet.has_cryptography(), "the package cryptography is missing")
+    def test_bad_seeds(self) -> None:
+        """No message has the text of a seed, however wrong it is."""
+        seed = wallet.Key.named("alice").secret
+        other = "A" if seed[9] != "A" else "B"
+        for wrong in (seed[:-1], seed + "A", seed[:9] + other + seed[10:]):
+            for word in (wrong, self.put("seed", wrong.encode())):
+                status, said, errors = self.run_it("wallet", "key", word)
+                self.assertEqual((status, said), (1, ""))
+                self.assertNotIn(seed[12:40], errors)
+        for number in ("-1", str(2**64)):
+            self.assertEqual(self.run_it("wallet", "key", ALICE, "--id", number)[0], 1)
+
+    @unittest.skipUnless(wallet.has_cryptography(), "the package cryptography is missing")
+    def test_flipped_bits(self) -> None:
+        """An envelope's file with a flipped bit of the signature in its entry is no source of a verdict."""
+        key = wallet.Key.named("alice")
+        call = envelopes.call(ENTRY_CONTRACT, "f", [key])
+        entry = envelopes.address_entry(key, envelopes.node(call), 7, until=500)
+        made = envelopes.envelope(key, envelopes.invoke(call, [wallet.sign_entry(entry, NETWORK, key)]))
+        data = envelopes.xdr(made)
+        signature = key.sign(bytes.fromhex(hashes.payload_hash(NETWORK, entry)))
+        start = data.index(signature)
+        words = ["wallet", "verify", self.path("sent"), "--network", NETWORK, "--out", self.path("verdicts")]
+        for bit in range(0, 8 * len(signature), 3):
+            flipped = bytearray(data)
+            flipped[start + bit // 8] ^= 1 << bit % 8
+            self.put("sent", bytes(flipped))
+            self.assertIn(f"bad  {key.address} signs", self.good(*words))
+            self.assertEqual(self.get("verdicts"), bytes(4), f"bit {bit} is flipped")
+        self.put("sent", data)
+        self.assertIn(f"good {key.address} signs", self.good(*words))
+        self.assertEqual(len(self.get("verdicts")), 4 + 64)
+
     def test_help(self) -> None:
         commands: List[List[str]] = [
             [],
             ["wallet"],
             *([name] for name in ("decode", "encode", "diff", "where", "lint", "explore")),
+            *(["wallet", name] for name in ("key", "contract", "call", "upload", "create", "extend")),
+            *(["wallet", name] for name in ("bump", "fill", "sign", "sign-entries", "set", "verify")),
         ]
         for words in commands:
-            self.assertIn("usage: soroban-files", self.good(*words, "--help"))
+            said = self.good(*words, "--help")
+            self.assertIn("usage: soroban-files", said)
+            lines = said.split("\n")
+            for line, below in zip(lines, lines[1:]):
+                if re.fullmatch("  (--?[a-z][a-z0-9-]*( [A-Z]+)?|[A-Z]+)", line) and line != "  COMMAND":
+                    self.assertTrue(below.startswith(" " * 8), f"{' '.join(words)}:{line} has no help")
 
     def test_module(self) -> None:
         """`python3 -m soroban_files` is the command."""

@@ -18,7 +18,7 @@ from soroban_files.hashes import network_id
 from tests.tables import REPOSITORY
 
 TOOLS = os.path.join(REPOSITORY, "tools")
-REJECTED = 7
+REJECTED = 9
 
 
 def load_table() -> ModuleType:
@@ -125,8 +125,9 @@ class WrapperTest(unittest.TestCase):
         self.assertIn(why, faults)
 
     def test_right_words(self) -> None:
-        words = self.apply()
-        self.assertEqual(self.soroban(*words), (0, " ".join(words) + "\n", ""))
+        self.write("order", bytes(4))
+        for words in (self.apply(), self.apply(schedule="order"), self.apply(schedule="order", steps="0")):
+            self.assertEqual(self.soroban(*words), (0, " ".join(words) + "\n", ""))
         self.assertEqual(self.soroban("show", "--kind", "set", "--file", "set", "--base64")[0], 0)
 
     def test_help(self) -> None:
@@ -141,6 +142,8 @@ class WrapperTest(unittest.TestCase):
         self.assert_rejected(["vet", "--module"], "lacks its value")
         self.assert_rejected(["vet", "--module", "set", "--module", "set"], "twice")
         self.assert_rejected(self.apply(workers="65"), "a number from 1 to 64")
+        self.assert_rejected(self.apply(steps="2"), "--steps needs --schedule FILE")
+        self.assert_rejected(self.apply(schedule="set", steps="x"), "a number from 0 to")
         self.assert_rejected(["show", "--kind", "sets", "--file", "set"], "one of set, envelope, ledger, value")
 
     def test_files(self) -> None:
@@ -149,6 +152,7 @@ class WrapperTest(unittest.TestCase):
         self.assert_rejected(self.apply(report="none/r"), "no folder")
         self.assert_rejected(self.apply(ledger_out="./ledger"), "the same file")
         self.assert_rejected(self.apply(ledger_out="./r"), "the same file")
+        self.assert_rejected(self.apply(schedule="./set"), "the same file")
         os.symlink("ledger", os.path.join(self.folder, "link"))
         self.assert_rejected(self.apply(report="link"), "the same file")
         os.link(os.path.join(self.folder, "set"), os.path.join(self.folder, "hard"))
@@ -170,7 +174,7 @@ class InstallTest(unittest.TestCase):
             status, said, faults = run(["sh", f"{TOOLS}/install.sh", "--prefix", folder, "--program", path_of()])
             self.assertEqual((status, faults), (0, ""))
             self.assertIn("soroban_cmd, not proved by this installation", said)
-            installed = [f"bin/{name}" for name in ("soroban", "soroban_cmd")]
+            installed = [f"bin/{name}" for name in ("soroban", "soroban_cmd", "soroban-files")]
             installed += ["share/man/man1/soroban.1", "share/man/man1/soroban_cmd.1"]
             installed += ["share/bash-completion/completions/soroban", "share/zsh/site-functions/_soroban"]
             for name in installed:
@@ -184,6 +188,9 @@ class InstallTest(unittest.TestCase):
                 [soroban, "vet", "--module", module], env=clean, stdout=subprocess.PIPE, check=True
             ).stdout
             self.assertEqual(vetted, b"valid: 0 functions, 0 imports, 0 exports, 0 pages\n")
+            files = [os.path.join(folder, "bin", "soroban-files"), "lint", module]
+            linted = subprocess.run(files, cwd=folder, env=clean, stdout=subprocess.PIPE, check=True).stdout
+            self.assertEqual(linted, b"warning: no export can be called\n")
             with open(os.path.join(folder, "bin", "soroban_cmd"), "ab") as file:
                 file.write(b"\0")
             changed = subprocess.run([soroban, "version"], env=clean, stderr=subprocess.PIPE, check=False)

@@ -6,7 +6,7 @@ import unittest
 from typing import List
 
 from soroban_files import diff, ledgers
-from soroban_files.values import i128, mapping, symbol, u32, vec
+from soroban_files.values import i128, mapping, string, symbol, u32, vec
 from soroban_files.world import new_ledger
 from soroban_files.xdr import Json
 
@@ -54,6 +54,14 @@ class DiffTest(unittest.TestCase):
                 "t CAAQC..C526 persistent b: live until 200 -> 300",
             ],
         )
+
+    def test_look_alikes(self) -> None:
+        """Keys of a map that look alike on a line are different keys."""
+        long = "x" * 500
+        pairs = [(u32(5), u32(1)), (symbol("5"), u32(2)), (string(long + "a"), u32(3)), (string(long + "b"), u32(4))]
+        turned = [(key, u32(9 - number)) for number, (key, _) in enumerate(pairs)]
+        one, other = (ledgers.record_of(entry(symbol("a"), mapping(*each)), 200) for each in (pairs, turned))
+        self.assertEqual(len(diff.difference(ledger(100, one), ledger(100, other)).changed[0].fields), 4)
 
     def test_fields(self) -> None:
         old = mapping(count=u32(1), name=symbol("x"), list=vec(u32(1), u32(2)), gone=u32(9))

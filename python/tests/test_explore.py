@@ -8,6 +8,7 @@ import struct
 import subprocess
 import tempfile
 import unittest
+import unittest.mock
 import zlib
 from typing import Any, List, Optional, Tuple
 
@@ -19,7 +20,7 @@ from tests.tables import REPOSITORY
 
 TOKEN = os.path.join(REPOSITORY, "examples", "token", "token.hex")
 MARKET = os.path.join(os.path.dirname(os.path.abspath(__file__)), "market.hex")
-VOID_ELEMENTS = ("meta",)
+VOID_ELEMENTS = ("meta", "br")
 
 
 def trading_day(world: World) -> None:
@@ -62,10 +63,12 @@ class Balance(html.parser.HTMLParser):
     def __init__(self) -> None:
         super().__init__()
         self.open: List[str] = []
+        self.seen: List[str] = []
         self.text: List[str] = []
         self.faults: List[str] = []
 
     def handle_starttag(self, tag: str, attrs: List[Tuple[str, Optional[str]]]) -> None:
+        self.seen.append(tag)
         if tag not in VOID_ELEMENTS:
             self.open.append(tag)
         self.faults += [
@@ -146,15 +149,51 @@ class PageTest(WorldTest):
         for theme, ground in (("light", (0xF4, 0xF5, 0xF8)), ("dark", (0x12, 0x15, 0x1C))):
             page = (PageTest.page or "").replace("<html", f'<html data-theme="{theme}"', 1)
             with self.subTest(theme):
-                width, rows = screenshot(BROWSER, page)
+                width, rows = pixels(screenshot(BROWSER, page, "1000,620"))
                 corner = tuple(rows[-1][:3])
                 self.assertEqual(corner, ground)
                 colours = {row[at : at + 3] for row in rows[::7] for at in range(0, 3 * width, 21)}
                 self.assertGreater(len(colours), 20)
 
+    def test_scripts(self) -> None:
+        """The browser runs the page's own script, and no other one."""
+        if BROWSER is None:
+            self.skipTest("Chromium is missing")
+        own = 'document.body.dataset.own = "yes";'
+        with unittest.mock.patch("soroban_files.explore.page.resource", lambda name: own if name == "page.js" else ""):
+            page = self.world.page() if self.world.closed else self.page_of_a_call()
+        other = (
+            '<script>document.body.dataset.other = "yes";</script><img src="x" onerror="document.body.dataset.img = 1">'
+        )
+        self.assertIn('<body data-own="yes">', shown(BROWSER, page.replace("<main>", "<main>" + other)))
 
-def screenshot(browser: str, page: str) -> Tuple[int, List[bytes]]:
-    """Returns the width and the rows of a page's picture, three bytes for each point."""
+    def page_of_a_call(self) -> str:
+        self.closed_of_a_call()
+        return self.world.page()
+
+
+def shown(browser: str, page: str) -> str:
+    """Returns the elements of a page after its scripts ran."""
+    with tempfile.TemporaryDirectory() as folder:
+        name = os.path.join(folder, "page.html")
+        with open(name, "w", encoding="utf-8") as file:
+            file.write(page)
+        words = [
+            browser,
+            "--headless",
+            "--no-sandbox",
+            "--disable-gpu",
+            f"--user-data-dir={folder}/profile",
+            "--dump-dom",
+        ]
+        done = subprocess.run(
+            [*words, "file://" + name], stdout=subprocess.PIPE, stderr=subprocess.DEVNULL, timeout=50, check=True
+        )
+        return done.stdout.decode()
+
+
+def screenshot(browser: str, page: str, size: str) -> bytes:
+    """Returns a page's picture, a PNG of a width and a height."""
     with tempfile.TemporaryDirectory() as folder:
         name, picture = os.path.join(folder, "page.html"), os.path.join(folder, "page.png")
         with open(name, "w", encoding="utf-8") as file:
@@ -165,14 +204,14 @@ def screenshot(browser: str, page: str) -> Tuple[int, List[bytes]]:
             "--no-sandbox",
             "--disable-gpu",
             "--hide-scrollbars",
-            "--window-size=1000,620",
+            f"--window-size={size}",
             f"--user-data-dir={folder}/profile",
             f"--screenshot={picture}",
             "file://" + name,
         ]
         subprocess.run(words, stdout=subprocess.DEVNULL, stderr=subprocess.DEVNULL, timeout=50, check=True)
         with open(picture, "rb") as file:
-            return pixels(file.read())
+            return file.read()
 
 
 def pixels(png: bytes) -> Tuple[int, List[bytes]]:

@@ -122,14 +122,14 @@ class Conformance(unittest.TestCase):
         self.assertEqual(came, outcome)
 
 
-class HostCases(unittest.TestCase):
-    """The tables of `host_cases`: ledgers, keys, values, entries and events."""
+class HostCalls(unittest.TestCase):
+    """The tables of `conformance` that call functions of the host: ledgers, keys, values, entries and events."""
 
     KINDS = {"read-only": "key", "read-write": "key", "frame": "value", "now": "entry", "gone": "key", "event": "event"}
 
     def test_rows(self) -> None:
         found = set()
-        for table in tables("host_cases"):
+        for table in tables("conformance"):
             for line in table.lines():
                 for kind, data in self.items(table, line):
                     if (kind, data) not in found:
@@ -141,7 +141,7 @@ class HostCases(unittest.TestCase):
     def items(self, table: Table, line: Line) -> Iterator[Tuple[str, bytes]]:
         """Yields the files and parts that a line spells."""
         word, *rest = line.text.partition(" => ")[0].split(" ")
-        if word == "ledger":
+        if word == "previous":
             yield "ledger", table.spelled("".join(rest))
         for text in rest if word in self.KINDS else []:
             yield self.KINDS[word], table.spelled(text)
@@ -185,6 +185,8 @@ class Command:
             yield "ledger", self.options["ledger"], False
             yield "verdicts", self.options["verdicts"], False
             yield ("set", self.options["set"], text) if self.name == "apply" else ("envelope", self.options["tx"], text)
+            if "schedule" in self.options:
+                yield "schedule", self.options["schedule"], False
         elif self.name == "show":
             yield self.options["kind"], self.options["file"], text
         elif self.name == "migrate":
@@ -202,7 +204,7 @@ class Command:
             except files.NotBase64:
                 return f"not base64: {name}"
             except Refusal as refusal:
-                return f"verdicts refused at {refusal.at}" if kind == "verdicts" else str(refusal)
+                return f"{kind} refused at {refusal.at}" if kind in ("verdicts", "schedule") else str(refusal)
             except ledgers.LedgerRefusal as refusal:
                 return str(refusal)
         return None
@@ -274,14 +276,19 @@ class Commands(unittest.TestCase):
                 self.names_envelopes(command, value)
 
     def names_envelopes(self, command: Command, report: Json) -> None:
-        """A report names the envelopes of the set by their hashes, in the order of the set."""
+        """A report names the envelopes of the set by their hashes, in the order of the set. A run that stops names some of them."""
         room, options = command.room, command.options
         text = room[options["set"]] or b""
         tx_set = decode("set", files.from_base64(text) if "base64" in options else text)
         network = ledgers.body(decode("ledger", room[options["ledger"]] or b""))["network_id"]
         named = [hashes.envelope_hash(network, envelope) for envelope in envelopes_of(tx_set)]
-        self.assertEqual([pair["transaction_hash"] for pair in report], named)
-        self.counts["hashes"] += len(named)
+        reported = [pair["transaction_hash"] for pair in report]
+        if "steps" in options:
+            rest = iter(named)
+            self.assertTrue(all(name in rest for name in reported))
+        else:
+            self.assertEqual(reported, named)
+        self.counts["hashes"] += len(reported)
 
 
 def envelopes_of(tx_set: Json) -> List[Json]:

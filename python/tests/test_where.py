@@ -53,6 +53,7 @@ class WhereTest(unittest.TestCase):
         data = self.ledger(self.record)[:-3]
         said = where.lines("ledger", data, len(data))
         self.assertIn("v2.records[0].ttl.live_until_ledger_seq", parts(said)["path"])
+        self.assertEqual(parts(said)["there"], "00")
         self.assertEqual(parts(said)["missing"], "the item has 4 bytes, and 1 is left")
 
     def test_offsets_that_are_read(self) -> None:
@@ -88,6 +89,20 @@ class WhereTest(unittest.TestCase):
         self.assertEqual(said[0], "record 1 of 2: a record's key does not come after the key before it")
         size = len(encode("record", self.record))
         self.assertIn(f"from offset {252 + size} on", parts(said)["path"])
+
+    def test_bounds(self) -> None:
+        """Of a ledger that is spelled well and refused, each field that is out of bounds is named."""
+        ledger = new_ledger("07" * 32, 100, 1000)
+        ledger["v2"]["protocol"] = 22
+        ledger["v2"]["settings"]["min_temporary_ttl"] = 0
+        said = where.lines("ledger", encode("ledger", ledger, checked=False), 0)
+        why = "the protocol or the settings are out of bounds"
+        self.assertEqual(said[0], f"ledger of 252 bytes: ledger refused: 5 at 0: {why}")
+        self.assertEqual(said[1], "  bounds   v2.protocol is 22; allowed are 23 to 4,294,967,295")
+        self.assertEqual(said[2], "  bounds   v2.settings.min_temporary_ttl is 0; allowed are 1 to 3,110,400")
+        self.assertEqual(parts(said)["path"], "(the whole) (its number), from offset 0 on")
+        said = where.lines("ledger", self.ledger(self.record, self.record), 0)
+        self.assertEqual(said[1], "  record   --record 1 says more")
 
     def test_all_refusals(self) -> None:
         """Each refusal of a part in the tables has an item, and something that could stand there."""

@@ -1,6 +1,8 @@
 """The page itself: HTML of the view."""
 from __future__ import annotations
 
+import base64
+import hashlib
 import os
 from datetime import datetime, timedelta
 from typing import Dict, Iterator, List, Optional, Tuple
@@ -8,7 +10,22 @@ from typing import Dict, Iterator, List, Optional, Tuple
 from .. import ledgers, results, values
 from ..diff import Change, Field
 from ..xdr import Json
-from .shown import code, executable, function, inner_value, key, named, short, span, tag, text, value, who
+from .shown import (
+    code,
+    executable,
+    function,
+    inner_value,
+    key,
+    named,
+    parts,
+    short,
+    span,
+    tag,
+    text,
+    together,
+    value,
+    who,
+)
 from .view import ClosedLedger, Transaction, outcomes
 
 FOLDER = os.path.dirname(os.path.abspath(__file__))
@@ -18,6 +35,8 @@ MOST_SQUARES = 200  # of a cluster, in the map
 MANY = 400  # from so many transactions on, the squares of the map are small
 MOST_ROWS = 2000
 MOST_PEOPLE = 300
+MOST_KEYS = 100  # of a footprint
+MOST_EVENTS = 50  # of a transaction
 
 
 def render(closed: ClosedLedger, theme: str = "", names: Optional[Dict[str, str]] = None) -> str:
@@ -29,7 +48,7 @@ def render(closed: ClosedLedger, theme: str = "", names: Optional[Dict[str, str]
 def whole(closed: ClosedLedger, theme: str) -> str:
     after = ledgers.body(closed.after)
     title = f"Ledger {after['seq']:,}"
-    parts = [
+    pieces = [
         heading(closed, title),
         facts(closed),
         map_of(closed),
@@ -38,13 +57,21 @@ def whole(closed: ClosedLedger, theme: str) -> str:
         people(closed),
         footer(),
     ]
+    script = resource("page.js")
     head = (
-        '<meta charset="utf-8"><meta name="viewport" content="width=device-width, initial-scale=1">'
+        f'<meta charset="utf-8"><meta http-equiv="Content-Security-Policy" content="{policy(script)}">'
+        '<meta name="viewport" content="width=device-width, initial-scale=1">'
         f"<title>{text(title)}</title><style>{resource('page.css')}</style>"
     )
     attributes = f' data-theme="{text(theme)}"' if theme else ""
-    body = f"<main>{''.join(parts)}</main><script>{resource('page.js')}</script>"
+    body = f"<main>{''.join(pieces)}</main><script>{script}</script>"
     return f'<!doctype html><html lang="en"{attributes}><head>{head}</head><body>{body}</body></html>\n'
+
+
+def policy(script: str) -> str:
+    """Returns what a browser may do for the page: run this script alone, and load nothing."""
+    digest = base64.b64encode(hashlib.sha256(script.encode()).digest()).decode()
+    return f"default-src 'none'; style-src 'unsafe-inline'; script-src 'sha256-{digest}'"
 
 
 def resource(name: str) -> str:
@@ -181,13 +208,14 @@ def happened(transaction: Transaction) -> Iterator[str]:
         yield tag("div", span("", "auth"), tag("div", entry(given, transaction)), class_="result")
     if transaction.value not in (None, values.VOID):
         yield tag("div", span("", "returns"), value(transaction.value), class_="result")
-    for event in transaction.events:
+    for event in transaction.events[:MOST_EVENTS]:
         yield tag("div", span("", "event"), event_html(event), class_="result")
+    yield left_out(len(transaction.events) - MOST_EVENTS)
 
 
 def event_html(event: results.Event) -> str:
-    topics = " ".join(map(inner_value, event.topics))
-    data = "" if event.data == values.VOID else span("punct", " → ") + inner_value(event.data)
+    topics = " ".join(parts(event.topics, inner_value))
+    data = "" if event.data == values.VOID else " " + together(span("punct", "→ "), inner_value(event.data))
     contract = who(event.contract) + " " if event.contract else ""
     return tag("span", contract, topics, data, class_="value")
 
@@ -235,7 +263,9 @@ def footprint(transaction: Transaction) -> str:
         for declared in keys.get(mode, []):
             changed = tag("span", "changed", class_="pill note") if declared in transaction.made else ""
             rows.append(tag("li", span("field", said), key(declared), " ", changed))
-    return tag("ul", *rows, class_="plain") if rows else span("empty", "empty")
+    if not rows:
+        return span("empty", "empty")
+    return tag("ul", *rows[:MOST_KEYS], class_="plain") + left_out(len(rows) - MOST_KEYS)
 
 
 def limits(resources: Json) -> str:
@@ -329,6 +359,7 @@ def people(closed: ClosedLedger) -> str:
     found = sorted(set(addresses([transaction.envelope for transaction in closed.transactions])))
     if not found:
         return ""
+    found.sort(key=lambda address: (address[0] != "C", short(address).lower()))
     items = (tag("li", who(address), " ", tag("code", text(address))) for address in found[:MOST_PEOPLE])
     return tag("h2", "Who is who") + tag("ul", *items, class_="people") + left_out(len(found) - MOST_PEOPLE)
 

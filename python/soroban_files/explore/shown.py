@@ -5,12 +5,14 @@ import html
 import json
 import zlib
 from contextlib import contextmanager
-from typing import Any, Dict, Iterator, List
+from typing import Any, Callable, Dict, Iterator, List
 
 from .. import strkey, values
 from ..xdr import Json
 
 LONG_BYTES = 40
+LONG_TEXT = 200
+MOST_MEMBERS = 40
 NAMES: Dict[str, str] = {}  # what to call addresses, while a page is made
 
 
@@ -63,11 +65,7 @@ def inner_value(item: Json) -> str:
     if kind == "address":
         return who(content)
     if kind == "vec":
-        return (
-            span("none", "null vec")
-            if content is None
-            else listed("[", [inner_value(member) for member in content], "]")
-        )
+        return span("none", "null vec") if content is None else listed("[", parts(content, inner_value), "]")
     if kind == "map":
         return span("none", "null map") if content is None else members(content)
     if kind in values.NUMBERS + values.TEXT_NUMBERS:
@@ -78,7 +76,7 @@ def inner_value(item: Json) -> str:
     if kind == "bytes":
         return hex_digits(content)
     if kind == "string":
-        return span("string", json.dumps(content))
+        return string(content)
     if kind == "bool":
         return span("number", "true" if content else "false")
     return span("error" if kind == "error" else "symbol", values.line(item))
@@ -98,23 +96,49 @@ def hex_digits(content: str) -> str:
     )
 
 
-def listed(start: str, parts: List[str], end: str) -> str:
+def string(content: str) -> str:
+    """Returns a text with quotes, cut if it is long."""
+    if len(content) <= LONG_TEXT:
+        return span("string", json.dumps(content))
+    return span("string", json.dumps(content[:LONG_TEXT] + "..")) + span("type", f" {len(content):,} characters")
+
+
+def parts(content: List[Json], shown: Callable[[Json], str]) -> List[str]:
+    """Returns what `shown` makes of the first members, and how many more there are."""
+    left = len(content) - MOST_MEMBERS
+    return [shown(member) for member in content[:MOST_MEMBERS]] + [span("type", f"and {left:,} more")] * (left > 0)
+
+
+def listed(start: str, items: List[str], end: str) -> str:
     """Returns parts with commas between them. A comma or a bracket stays on the line of the address or number before it."""
-    behind = [", "] * (len(parts) - 1) + [end]
-    if not parts:
+    behind = [", "] * (len(items) - 1) + [end]
+    if not items:
         return span("punct", start + end)
-    return span("punct", start) + "".join(kept(part, sign) for part, sign in zip(parts, behind))
+    return span("punct", start) + "".join(kept(part, sign) for part, sign in zip(items, behind))
 
 
 def kept(part: str, sign: str) -> str:
-    is_short = part.startswith(('<span class="who', '<span class="numeral'))
     mark = span("punct", sign.rstrip())
-    return (tag("span", part, mark, class_="keep") if is_short else part + mark) + (" " if sign.endswith(" ") else "")
+    return (tag("span", part, mark, class_="keep") if is_short(part) else part + mark) + (
+        " " if sign.endswith(" ") else ""
+    )
+
+
+def together(sign: str, part: str) -> str:
+    """Returns a part with a sign before it, which stays on the line of an address or a number."""
+    return tag("span", sign, part, class_="keep") if is_short(part) else sign + part
+
+
+def is_short(part: str) -> bool:
+    return part.startswith(('<span class="who', '<span class="numeral'))
 
 
 def members(pairs: List[Json]) -> str:
-    parts = [inner_value(pair["key"]) + span("punct", ": ") + inner_value(pair["val"]) for pair in pairs]
-    return listed("{", parts, "}")
+    return listed("{", parts(pairs, member), "}")
+
+
+def member(pair: Json) -> str:
+    return inner_value(pair["key"]) + span("punct", ": ") + inner_value(pair["val"])
 
 
 def executable(content: Json) -> str:
@@ -135,8 +159,8 @@ def key(content: Json) -> str:
         durability = tag("span", "temporary", class_="pill warn") if fields["durability"] == "temporary" else ""
         return " ".join(filter(None, (who(fields["contract"]), value(fields["key"]), durability)))
     shown = (part if isinstance(part, str) else json.dumps(part) for part in fields.values())
-    parts = (who(part) if part[:1] in "GLB" and len(part) >= 56 else text(part) for part in shown)
-    return f"{text(kind.replace('_', ' '))} {' '.join(parts)}"
+    names = (who(part) if part[:1] in "GLB" and len(part) >= 56 else text(part) for part in shown)
+    return f"{text(kind.replace('_', ' '))} {' '.join(names)}"
 
 
 def function(content: Json) -> str:
@@ -152,7 +176,7 @@ def function(content: Json) -> str:
 
 
 def arguments(args: List[Json]) -> str:
-    return tag("span", listed("(", [inner_value(arg) for arg in args], ")"), class_="value")
+    return tag("span", listed("(", parts(args, inner_value), ")"), class_="value")
 
 
 def preimage(content: Json) -> str:

@@ -46,7 +46,7 @@ class Transaction(NamedTuple):
         """The source of the operation."""
         operations = self.inner["operations"]
         own = operations[0]["source_account"] if operations else None
-        return own or self.inner["source_account"]
+        return str(own or self.inner["source_account"])
 
     @property
     def resources(self) -> Optional[Json]:
