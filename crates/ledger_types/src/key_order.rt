@@ -13,6 +13,7 @@ ghost use Rattle.ledger_types.specs.Durability.{durability_format};
 ghost use Rattle.ledger_types.specs.TrustLineAsset.{number as asset_number, kind as asset_kind};
 ghost use Rattle.ledger_types.specs.EntryType.{number};
 ghost use Rattle.ledger_types.specs.Key.{key_format, kind};
+ghost use Rattle.ledger_types.specs.declared.key.LedgerKey.TheVariants as keys;
 ghost use Rattle.ledger_types.specs.KeyOrder.{asset_rest, ranked_rest, ranked_key, key_cmp, key_total};
 
 use crate::asset::{AssetCode4, AssetCode12, TrustLineAsset};
@@ -20,7 +21,7 @@ use crate::durability::Durability;
 use crate::key::LedgerKey;
 use spelled_order::{Ranked, cmp_text, cmp_value, cmp_word};
 use std::cmp::Ordering;
-use value_types::ScVal;
+use value_types::{ScAddress, ScVal};
 
 impl Ranked for Durability {
     fn rank(&self, other: &Durability) -> Ordering {
@@ -103,69 +104,83 @@ fn cmp_data_rests(
     }
 }
 
-/// Compares the bodies of two keys of one type. The other branches are never taken.
+/// Compares with the key `$key` if it is of this form. Both keys are of one type, so the other branch is never taken.
+macro_rules! among {
+    ($key:expr, $form:pat, $order:expr) => {
+        match $key {
+            $form => $order,
+            _ => Ordering::Equal,
+        }
+    };
+}
+
+/// Compares the bodies of two keys of contract data.
+#[tactic(auto, using(spelled_order::proofs::Deciding::both, spelled_order::proofs::Deciding::first))]
+#[inline]
+fn cmp_data(
+    contract: &ScAddress,
+    key: &ScVal,
+    durability: &Durability,
+    other: &LedgerKey,
+) -> Ordering
+    requires { number (kind other.now) ≡ 6 }
+    ensures { Against (ranked_rest (keys.ContractData contract.now key.now durability.now)) (ranked_rest other.now) result }
+{
+    among!(
+        other,
+        LedgerKey::ContractData {
+            contract: c,
+            key: k,
+            durability: d
+        },
+        match contract.rank(c) {
+            Ordering::Equal => cmp_data_rests(key, durability, k, d),
+            unequal => unequal,
+        }
+    )
+}
+
+/// Compares the bodies of two keys of one type.
 #[tactic(auto, using(spelled_order::proofs::Deciding::both, spelled_order::proofs::Deciding::word_first))]
 fn cmp_rests(one: &LedgerKey, other: &LedgerKey) -> Ordering
     requires { number (kind one.now) ≡ number (kind other.now) }
     ensures { Against (ranked_rest one.now) (ranked_rest other.now) result }
 {
     match one {
-        LedgerKey::Account(account) => match other {
-            LedgerKey::Account(a) => account.rank(a),
-            _ => Ordering::Equal,
-        },
-        LedgerKey::Trustline { account, asset } => match other {
+        LedgerKey::Account(x) => among!(other, LedgerKey::Account(y), x.rank(y)),
+        LedgerKey::Trustline { account, asset } => among!(
+            other,
             LedgerKey::Trustline {
                 account: a,
-                asset: t,
-            } => account.rank(a).then(asset.rank(t)),
-            _ => Ordering::Equal,
-        },
-        LedgerKey::Offer { seller, offer } => match other {
+                asset: t
+            },
+            account.rank(a).then(asset.rank(t))
+        ),
+        LedgerKey::Offer { seller, offer } => among!(
+            other,
             LedgerKey::Offer {
                 seller: s,
-                offer: o,
-            } => seller.rank(s).then(offer.rank(o)),
-            _ => Ordering::Equal,
-        },
-        LedgerKey::Data { account, name } => match other {
+                offer: o
+            },
+            seller.rank(s).then(offer.rank(o))
+        ),
+        LedgerKey::Data { account, name } => among!(
+            other,
             LedgerKey::Data {
                 account: a,
-                name: n,
-            } => account.rank(a).then(cmp_text(name.as_blob().as_slice(), n.as_blob().as_slice())),
-            _ => Ordering::Equal,
-        },
-        LedgerKey::ClaimableBalance(id) => match other {
-            LedgerKey::ClaimableBalance(i) => id.rank(i),
-            _ => Ordering::Equal,
-        },
-        LedgerKey::LiquidityPool(id) => match other {
-            LedgerKey::LiquidityPool(i) => id.rank(i),
-            _ => Ordering::Equal,
-        },
+                name: n
+            },
+            account.rank(a).then(cmp_text(name.as_blob().as_slice(), n.as_blob().as_slice()))
+        ),
+        LedgerKey::ClaimableBalance(x) => among!(other, LedgerKey::ClaimableBalance(y), x.rank(y)),
+        LedgerKey::LiquidityPool(x) => among!(other, LedgerKey::LiquidityPool(y), x.rank(y)),
         LedgerKey::ContractData {
             contract,
             key,
             durability,
-        } => match other {
-            LedgerKey::ContractData {
-                contract: c,
-                key: k,
-                durability: d,
-            } => match contract.rank(c) {
-                Ordering::Equal => cmp_data_rests(key, durability, k, d),
-                unequal => unequal,
-            },
-            _ => Ordering::Equal,
-        },
-        LedgerKey::ContractCode(hash) => match other {
-            LedgerKey::ContractCode(h) => hash.rank(h),
-            _ => Ordering::Equal,
-        },
-        LedgerKey::Ttl(hash) => match other {
-            LedgerKey::Ttl(h) => hash.rank(h),
-            _ => Ordering::Equal,
-        },
+        } => cmp_data(contract, key, durability, other),
+        LedgerKey::ContractCode(x) => among!(other, LedgerKey::ContractCode(y), x.rank(y)),
+        LedgerKey::Ttl(x) => among!(other, LedgerKey::Ttl(y), x.rank(y)),
     }
 }
 

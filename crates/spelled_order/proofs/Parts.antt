@@ -1,9 +1,8 @@
 -- Plain types in parts.
-use Rattle.std.proofs.Common.{◌≡◌, List, ℕ, ◌++◌, length, refl, ap}
+use Rattle.std.proofs.Common.{◌≡◌, List, ℕ, ◌++◌, refl, ap}
 use Rattle.std.proofs.lemmas.List.{append-nil}
 use Rattle.std.specs.declared.cmp.Ordering.{Ordering}
-use Rattle.std.specs.Ordering.{nat_cmp, ordering_then}
-use Rattle.std.specs.Cmp.Lexicographic.{slice_cmp}
+use Rattle.std.specs.Ordering.{ordering_then}
 use Rattle.std.specs.Int.{w32, to_be_bytes}
 use Rattle.value_types.specs.Error.{error_format, code_format, kind, code, code_number, number}
 use Rattle.value_types.specs.declared.error.ScErrorCode.{ScErrorCode}
@@ -19,11 +18,11 @@ use Rattle.value_types.specs.declared.hash.Hash.{Hash}
 use Rattle.xdr_spec.specs.Format.{number32}
 use Rattle.spelled_order.specs.Against.{Against}
 use Rattle.spelled_order.specs.Ranked.{address_rest}
-use Rattle.spelled_order.proofs.Deciding.{of_one_length, both}
+use Rattle.spelled_order.proofs.Deciding.{both}
 
-pub hashes : (g h : Hash) → length g.0 ≡ 32 → length h.0 ≡ 32 → Against (hash_format.spell g) (hash_format.spell h) (slice_cmp nat_cmp g.0 h.0)
+pub hashes : (g h : Hash) (o : Ordering) → Against g.0 h.0 o → Against (hash_format.spell g) (hash_format.spell h) o
 unfolding hash_format
-hashes g h a b = rw (append-nil g.0, append-nil h.0) (of_one_length g.0 h.0 (rw (a, b) refl))
+hashes g h o k = rw (append-nil g.0, append-nil h.0) k
 
 pub address_bytes : (a : ScAddress) → address_format.spell a ≡ word (address_number (address_kind a)) ++ address_rest a
 unfolding address_format

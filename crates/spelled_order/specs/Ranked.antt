@@ -12,7 +12,10 @@ use Rattle.value_types.specs.Address.{address_format}
 use Rattle.value_types.specs.Executable.{executable_format}
 use Rattle.value_types.specs.Kinds.{number}
 use Rattle.value_types.specs.Formats.{kind}
-use Rattle.value_types.specs.Datum.{Datum, boolean as boolean_datum, void, error, u32, i32, u64, i64, timepoint, duration, u128, i128, u256, i256, bytes, string, symbol, no_vec, vec, no_map, map, address, bare_instance, instance, ledger_key_contract_instance, ledger_key_nonce, Items, no_items, item, Members, no_members, member, list_of_items, list_of_members}
+use Rattle.value_types.specs.Datum.{Datum, boolean as boolean_datum, void, error, u32, i32, u64, i64, timepoint, duration, u128}
+use Rattle.value_types.specs.Datum.{i128, u256, i256, bytes, string, symbol, no_vec, vec, no_map, map, address, bare_instance}
+use Rattle.value_types.specs.Datum.{instance, ledger_key_contract_instance, ledger_key_nonce, Items, no_items, item, Members}
+use Rattle.value_types.specs.Datum.{no_members, member, list_of_items, list_of_members}
 use Rattle.value_types.specs.Rows.{type_number}
 use Rattle.value_types.specs.declared.address.ScAddress.{ScAddress}
 use Rattle.value_types.specs.declared.address.ScAddress.TheVariants as addresses
@@ -61,7 +64,8 @@ abbrev mutual
   ranked_rest (map ms) = word 1 ++ (ranked_length (length (list_of_members ms)) ++ ranked_members ms)
   ranked_rest (address x) = address_format.spell x
   ranked_rest (bare_instance e) = executable_format.spell e ++ word 0
-  ranked_rest (instance e ms) = executable_format.spell e ++ (word 1 ++ (ranked_length (length (list_of_members ms)) ++ ranked_members ms))
+  ranked_rest (instance e ms) =
+      executable_format.spell e ++ (word 1 ++ (ranked_length (length (list_of_members ms)) ++ ranked_members ms))
   ranked_rest ledger_key_contract_instance = []
   ranked_rest (ledger_key_nonce x) = signed64.spell x
 
@@ -71,7 +75,8 @@ abbrev mutual
 
   pub ranked_members : Members → List ℕ
   ranked_members no_members = []
-  ranked_members (member k v ms) = ((word (type_number k) ++ ranked_rest k) ++ (word (type_number v) ++ ranked_rest v)) ++ ranked_members ms
+  ranked_members (member k v ms) =
+      ((word (type_number k) ++ ranked_rest k) ++ (word (type_number v) ++ ranked_rest v)) ++ ranked_members ms
 
 abbrev pub ranked_of : Datum → List ℕ
 ranked_of d = word (type_number d) ++ ranked_rest d

@@ -94,7 +94,8 @@ fn cmp_address_rests(one: &ScAddress, other: &ScAddress) -> Ordering
 
 /// Compares the XDR bytes of two addresses.
 fn cmp_addresses(one: &ScAddress, other: &ScAddress) -> Ordering
-    ensures { Against (word (number (kind one.now)) ++ address_rest one.now) (word (number (kind other.now)) ++ address_rest other.now) result }
+    ensures { Against (word (number (kind one.now)) ++ address_rest one.now)
+        (word (number (kind other.now)) ++ address_rest other.now) result }
 {
     let (number, another) = (one.kind().number(), other.kind().number());
     if number == another {

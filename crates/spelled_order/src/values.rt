@@ -6,7 +6,8 @@ ghost use Rattle.value_types.specs.Kinds.{number};
 ghost use Rattle.value_types.specs.Formats.{kind};
 ghost use Rattle.value_types.specs.Views.{datums, datum_pairs};
 ghost use Rattle.spelled_order.specs.Against.{Against};
-ghost use Rattle.spelled_order.specs.Ranked.{ranked_value, ranked_body, ranked_length, ranked_row, ranked_of, ranked_pair, ranked_instance};
+ghost use Rattle.spelled_order.specs.Ranked.{ranked_value, ranked_body, ranked_length, ranked_row, ranked_of, ranked_pair};
+ghost use Rattle.spelled_order.specs.Ranked.{ranked_instance};
 
 use crate::ranked::{Ranked, cmp_word};
 use crate::text::{cmp_lengths, cmp_text};
@@ -93,7 +94,8 @@ fn cmp_maps(a: &Option<Entries>, b: &Option<Entries>) -> Ordering
 
 #[cycle(rank)]
 fn cmp_items(a: &[ScVal], b: &[ScVal]) -> Ordering
-    ensures { Against (ranked_length (length a.now) ++ flat_map ranked_of (datums a.now)) (ranked_length (length b.now) ++ flat_map ranked_of (datums b.now)) result }
+    ensures { Against (ranked_length (length a.now) ++ flat_map ranked_of (datums a.now))
+        (ranked_length (length b.now) ++ flat_map ranked_of (datums b.now)) result }
 {
     match cmp_lengths(a.len(), b.len()) {
         Ordering::Equal => cmp_row(a, b),
@@ -103,7 +105,8 @@ fn cmp_items(a: &[ScVal], b: &[ScVal]) -> Ordering
 
 #[cycle(rank)]
 fn cmp_pairs(a: &[Entry], b: &[Entry]) -> Ordering
-    ensures { Against (ranked_length (length a.now) ++ flat_map ranked_pair (datum_pairs a.now)) (ranked_length (length b.now) ++ flat_map ranked_pair (datum_pairs b.now)) result }
+    ensures { Against (ranked_length (length a.now) ++ flat_map ranked_pair (datum_pairs a.now))
+        (ranked_length (length b.now) ++ flat_map ranked_pair (datum_pairs b.now)) result }
 {
     match cmp_lengths(a.len(), b.len()) {
         Ordering::Equal => cmp_pair_row(a, b),
@@ -141,7 +144,8 @@ fn cmp_pair_row(a: &[Entry], b: &[Entry]) -> Ordering
 
 #[cycle(rank)]
 fn cmp_entry(a: &Entry, b: &Entry) -> Ordering
-    ensures { Against (ranked_value a.now.key ++ ranked_value a.now.val) (ranked_value b.now.key ++ ranked_value b.now.val) result }
+    ensures { Against (ranked_value a.now.key ++ ranked_value a.now.val)
+        (ranked_value b.now.key ++ ranked_value b.now.val) result }
 {
     match cmp_value(&a.key, &b.key) {
         Ordering::Equal => cmp_value(&a.val, &b.val),
