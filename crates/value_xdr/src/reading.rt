@@ -7,6 +7,7 @@ ghost use Rattle.value_types.specs.Formats.{arms, instance_format, value_format,
 ghost use Rattle.value_types.specs.Views.{datum_pair};
 
 use crate::blob::read_blob;
+use crate::rows::first_room;
 use crate::xdr::Xdr;
 use std::alloc::Global;
 use value_types::{
@@ -103,7 +104,7 @@ fn read_items(alloc: Global, input: &mut Cursor<'_>, left: u32) -> Result<ScVals
     ensures { Reads (items_format left).read input.old input.new result }
 {
     let count = read_count(input, left)?;
-    let mut items = Vec::new(alloc);
+    let mut items = Vec::with_capacity(alloc, first_room(count))?;
     for _ in 0..count {
         let item = read_value(alloc, input, left - 1)?;
         items.push(item)?;
@@ -116,7 +117,7 @@ fn read_members(alloc: Global, input: &mut Cursor<'_>, left: u32) -> Result<Entr
     ensures { Reads (members_format left).read input.old input.new result }
 {
     let count = read_count(input, left)?;
-    let mut items = Vec::new(alloc);
+    let mut items = Vec::with_capacity(alloc, first_room(count))?;
     for _ in 0..count {
         let entry = read_entry(alloc, input, left - 1)?;
         items.push(entry)?;
