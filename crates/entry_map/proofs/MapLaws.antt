@@ -407,20 +407,27 @@ add_rows rows others at key h count s gap fits kept few e full =
       map = c.map;
     }
 
-pub replace_rows : (rows others : Rows) (at : Place) (key : LedgerKey) (h : Boxed) (count : ℕ) → AreRows rows count → IsFoundAt (ranked_key key) rows at → key_format.fits key
-    → IsKeptAt (key_bytes key) h.value.kept
-    → pairs_of (joined others) ≡ pairs_of (before rows at.row at.index) ++ pair_of h ∷ pairs_of (after rows at.row (suc at.index)) → AllByRecursion HasEntry others
-    → After others count (insert (map_of (joined rows)) (key_bytes key) h.value.kept)
-replace_rows rows others at key h count s found fits kept e full =
+pub replace_rows : (rows others : Rows) (at : Place) (key : LedgerKey) (v : Kept) (count : ℕ) → AreRows rows count → IsFoundAt (ranked_key key) rows at → key_format.fits key
+    → IsKeptAt (key_bytes key) v
+    → pairs_of (joined others) ≡ pairs_of (before rows at.row at.index) ++ (ranked_key (key_of v.entry), v) ∷ pairs_of (after rows at.row (suc at.index)) → AllByRecursion HasEntry others
+    → After others count (insert (map_of (joined rows)) (key_bytes key) v)
+replace_rows rows others at key v count s found fits kept e full =
     let d = some_entry (ranked_key key) rows at found in
-    let own : own_key h ≡ ranked_key key = own_fits h (key_bytes key) kept ∙ sym (key_ranked key fits) in
-    let c = replaced rows at key (pairs_of (joined others)) d (own_key h) h.value.kept s.entries found fits own (at_own h (key_bytes key) kept) e in
+    let spelled : ranked_key (key_of v.entry) ≡ key_bytes key = key_ranked (key_of v.entry) (key_of_fits v.entry kept.fits) ∙ sym kept.keyed in
+    let own : ranked_key (key_of v.entry) ≡ ranked_key key = spelled ∙ sym (key_ranked key fits) in
+    let is_at : IsAt (ranked_key (key_of v.entry), v) = subst (λ (b : List ℕ). IsKeptAt b v) (sym spelled) kept in
+    let c = replaced rows at key (pairs_of (joined others)) d (ranked_key (key_of v.entry)) v s.entries found fits own is_at e in
     record {
       rows = rows_after others count c.sorted c.each full
-          (omega (arith, s.counted, length_pairs (joined others), as_many rows at d (pair_of h) (pairs_of (joined others)) found.place.row found.place.index e))
+          (omega (arith, s.counted, length_pairs (joined others), as_many rows at d (ranked_key (key_of v.entry), v) (pairs_of (joined others)) found.place.row found.place.index e))
           (omega (arith, s.counted, s.entries.few, length_pairs (joined rows)));
       map = c.map;
     }
+
+-- an entry that is found has the key of another that is kept at this key
+pub same_key : (rows : Rows) (at : Place) (key : LedgerKey) (v : Kept) (d : Boxed) → AreEntries (pairs_of (joined rows)) → IsFoundAt (ranked_key key) rows at → key_format.fits key
+    → IsKeptAt (key_bytes key) v → own_bytes (get_or (get_or rows at.row []) at.index d) ≡ key_bytes (key_of v.entry)
+same_key rows at key v d s found fits kept = sym (kept_there rows at key d s found fits).keyed ∙ kept.keyed
 
 pub take_rows : (rows others : Rows) (at : Place) (key : LedgerKey) (count : ℕ) → AreRows rows count → IsFoundAt (ranked_key key) rows at → key_format.fits key
     → pairs_of (joined others) ≡ pairs_of (before rows at.row at.index) ++ pairs_of (after rows at.row (suc at.index)) → AllByRecursion HasEntry others

@@ -12,8 +12,9 @@ ghost use Rattle.entry_map.specs.Rows.{joined, rows_of};
 
 use crate::rows::{
     Row, ends_below, entry_at, insert_at, place_of, push_last, raise_at, remove_at, replace_at,
+    set_at,
 };
-use crate::stored::StoredEntry;
+use crate::stored::{StoredEntry, store_at};
 use ledger_spec::Kept;
 use ledger_types::LedgerKey;
 use std::alloc::Global;
@@ -23,8 +24,8 @@ use xdr_core::NoMemory;
 /// As many entries as a 32-bit count can hold.
 const MOST_ENTRIES: usize = 4_294_967_295;
 
-/// The entries of a ledger, sorted by their keys' XDR bytes. A look-up and a change take O(log n) comparisons of keys, and an entry
-/// that is added behind all others takes none. A look-up takes no memory.
+/// The entries of a ledger, sorted by their keys' XDR bytes. A look-up and a change take O(log n) comparisons of keys, and an
+/// entry that is added behind all others takes none. A look-up takes no memory.
 #[derive(Drop)]
 pub struct EntryMap {
     rows: Vec<Row>,
@@ -122,6 +123,31 @@ impl EntryMap {
                 insert_at(&mut self.rows, at, stored)?;
                 self.count += 1;
                 Ok(None)
+            }
+        }
+    }
+
+    /// Stores an entry at its key. An entry in place of another keeps the hash of their key. Only a new key is hashed and takes
+    /// memory. A map that would grow past 2^32 - 1 entries is out of memory.
+    pub fn set(&mut self, alloc: Global, key: &LedgerKey, kept: Kept) -> Result<(), NoMemory>
+        requires fits { key_format.fits key.now }
+        requires kept { IsKeptAt (key_bytes key.now) kept }
+        ensures ok { OnOk result (self.new ≡ insert_in self.old (key_bytes key.now) kept) }
+        ensures err { OnErr result (self.new ≡ self.old) }
+    {
+        match place_of(&self.rows, key) {
+            Ok(at) => {
+                set_at(&mut self.rows, at, kept);
+                Ok(())
+            }
+            Err(at) => {
+                if self.count >= MOST_ENTRIES {
+                    return Err(NoMemory);
+                }
+                let stored = store_at(alloc, key, kept)?;
+                insert_at(&mut self.rows, at, stored)?;
+                self.count += 1;
+                Ok(())
             }
         }
     }

@@ -2,12 +2,16 @@
 
 ghost use Rattle.std.specs.Prelude.{◌≡◌, ◌≤◌, ◌<◌, ◌+◌, ◌^◌, suc, max, [], ◌∷◌, ◌++◌, OnOk, OnErr, get_or, set, length};
 ghost use Rattle.std.specs.List.{AllByRecursion, remove as without};
+ghost use Rattle.ledger_types.specs.Entry.{key_of as key_of_entry};
 ghost use Rattle.ledger_types.specs.KeyOrder.{ranked_key};
-ghost use Rattle.entry_map.specs.Entries.{Boxed, kept_of, lasting, own_key, pair_of, pairs_of, AreSorted};
-ghost use Rattle.entry_map.specs.Rows.{rows_of, joined, before, after, cut, ends_below as ends_below_in, HasEntry, AreBelow, AreAbove, IsSearched, IsPlaced, IsPlace, IsGap, moved};
+ghost use Rattle.ledger_spec.specs.LedgerMap.{key_bytes};
+ghost use Rattle.entry_map.specs.Entries.{Boxed, kept_of, lasting, own_bytes, own_key, pair_of, pairs_of, AreSorted};
+ghost use Rattle.entry_map.specs.Rows.{rows_of, joined, before, after, cut, ends_below as ends_below_in, HasEntry, AreBelow};
+ghost use Rattle.entry_map.specs.Rows.{AreAbove, IsSearched, IsPlaced, IsPlace, IsGap, moved};
 
 use crate::order::cmp_entry;
 use crate::stored::StoredEntry;
+use ledger_spec::Kept;
 use ledger_types::LedgerKey;
 use std::cmp::Ordering;
 use std::mem::replace;
@@ -249,6 +253,28 @@ pub fn replace_at(rows: &mut Vec<Row>, at: Place, stored: Box<StoredEntry>) -> B
     ensures full { AllByRecursion HasEntry (rows_of rows.new.items) }
 {
     replace(&mut rows[at.row][at.index], stored)
+}
+
+/// Stores an entry in place of another with the same key, whose hash stays.
+fn keep(stored: &mut StoredEntry, kept: Kept)
+    requires { key_bytes (key_of_entry stored.old.kept.entry) ≡ key_bytes (key_of_entry kept.entry) }
+    ensures { stored.new.kept ≡ kept }
+{
+    stored.kept = kept;
+}
+
+/// Stores an entry in the place of another with the same key, whose hash stays. It takes no memory.
+pub fn set_at(rows: &mut Vec<Row>, at: Place, kept: Kept)
+    requires full { AllByRecursion HasEntry (rows_of rows.old.items) }
+    requires place { IsPlace (rows_of rows.old.items) at }
+    requires key { (d : Boxed) → own_bytes (get_or (get_or (rows_of rows.old.items) at.row []) at.index d)
+        ≡ key_bytes (key_of_entry kept.entry) }
+    ensures new { pairs_of (joined (rows_of rows.new.items))
+        ≡ pairs_of (before (rows_of rows.old.items) at.row at.index)
+        ++ (ranked_key (key_of_entry kept.entry), kept) ∷ pairs_of (after (rows_of rows.old.items) at.row (suc at.index)) }
+    ensures full { AllByRecursion HasEntry (rows_of rows.new.items) }
+{
+    keep(&mut rows[at.row][at.index], kept);
 }
 
 /// Returns the later of two live-until ledgers.

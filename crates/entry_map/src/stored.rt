@@ -21,6 +21,16 @@ pub struct StoredEntry {
     pub ghost hashed: { key_hash.0 ≡ sha256 (key_bytes (key_of_entry kept.entry)) },
 }
 
+/// Makes an entry at a key as a map stores it.
+pub fn store_at(alloc: Global, key: &LedgerKey, kept: Kept) -> Result<Box<StoredEntry>, NoMemory>
+    requires fits { key_format.fits key.now }
+    requires kept { IsKeptAt (key_bytes key.now) kept }
+    ensures { IfOk result (λ stored. stored.value.kept ≡ kept) }
+{
+    let key_hash = key_hash(alloc, key)?;
+    Ok(Box::new(alloc, StoredEntry { key_hash, kept })?)
+}
+
 /// Makes the key of an entry, and the entry as a map stores it.
 pub fn store_entry(
     alloc: Global,

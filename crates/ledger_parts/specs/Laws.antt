@@ -11,7 +11,8 @@ use Rattle.ledger_parts.specs.Cut.{left_of, cut_from, runs_over}
 -- A cluster that runs on its own entries, and sees besides them only the lent ones at the keys that it reads, runs as a part
 -- that sees all that is lent. None of the entries that it declares read-write is lent.
 abbrev pub SeenLaw : Type 0
-SeenLaw = (step : Step) (reads : Bytes → Bool) (lent own : LedgerMap) (cluster : Cluster) → IsFramed step → PassesRead reads cluster
+SeenLaw =
+    (step : Step) (reads : Bytes → Bool) (lent own : LedgerMap) (cluster : Cluster) → IsFramed step → PassesRead reads cluster
     → ((q : Bytes) → writes_in cluster q ≡ true → get lent q ≡ None)
     → run_cluster (shown_step (shown_with reads lent) step) own cluster ≡ run_owned_all step lent (start own) cluster
 
@@ -19,5 +20,6 @@ SeenLaw = (step : Step) (reads : Bytes → Bool) (lent own : LedgerMap) (cluster
 -- before the stage ends: in a stage without a conflict this is the stage's run.
 abbrev pub CutLaw : Type 0
 CutLaw = (step : Step) (running : RunState) (clusters : Stage) → IsFramed step → HasNoConflict clusters
-    → ended (owns_back (record running { entries = left_of running.entries clusters }) (runs_over step (left_of running.entries clusters) (cut_from running.entries clusters) clusters))
+    → ended (owns_back (record running { entries = left_of running.entries clusters })
+    (runs_over step (left_of running.entries clusters) (cut_from running.entries clusters) clusters))
     ≡ run_stage step running clusters

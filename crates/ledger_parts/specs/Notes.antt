@@ -4,7 +4,8 @@ use Rattle.std.specs.Prelude.{◌≡◌, Bool, true, false, None, List, [], ◌�
 use Rattle.std.specs.FinMap.{get}
 use Rattle.stage_runs.specs.Maps.{Bytes, LedgerMap, AgreeOn, laid_over}
 use Rattle.stage_runs.specs.Transactions.{Envelope, Step, writes, declares, IsFramed}
-use Rattle.stage_runs.specs.Runs.{Cluster, Stage, RunState, start, run_transaction, run_next_cluster, writes_in, declares_in, HasNoConflict}
+use Rattle.stage_runs.specs.Runs.{Cluster, Stage, RunState, start, run_transaction, run_next_cluster, writes_in, declares_in}
+use Rattle.stage_runs.specs.Runs.{HasNoConflict}
 use Rattle.ledger_parts.specs.Shown.{shown_step, shown_with, PassesRead}
 use Rattle.ledger_parts.specs.Cut.{left_of, cut_from}
 
@@ -28,7 +29,8 @@ IsFramedNote note = (m m' n n' : LedgerMap) (tx : Envelope) → AgreeElsewhere t
 abbrev pub noted_in : {K : Type 0} → Step → Note K → RunState → Cluster → List K
 noted_in step note running [] = []
 noted_in step note running (tx ∷ cluster) =
-    note running.entries (run_transaction step running tx).entries tx ∷ noted_in step note (run_transaction step running tx) cluster
+    note running.entries (run_transaction step running tx).entries tx
+    ∷ noted_in step note (run_transaction step running tx) cluster
 
 -- The same for each cluster of a stage in order, on the map after the clusters before it. Nothing is noted at the stage's end.
 abbrev pub noted_in_stage : {K : Type 0} → Step → Note K → RunState → Stage → List (List K)
@@ -47,7 +49,8 @@ shown_note shown note own own' tx = note (shown own) (shown own') tx
 abbrev pub noted_over : {K : Type 0} → Step → Note K → LedgerMap → List LedgerMap → Stage → List (List K)
 noted_over step note lent [] clusters = []
 noted_over step note lent (own ∷ owns) [] = []
-noted_over step note lent (own ∷ owns) (c ∷ clusters) = noted_in step note (start (laid_over own lent)) c ∷ noted_over step note lent owns clusters
+noted_over step note lent (own ∷ owns) (c ∷ clusters) =
+    noted_in step note (start (laid_over own lent)) c ∷ noted_over step note lent owns clusters
 
 -- ---- laws
 
@@ -60,7 +63,8 @@ NotedFrameLaw K = (step : Step) (note : Note K) (m n : LedgerMap) (cluster : Clu
 -- A cluster that runs on its own entries, and sees besides them only the lent ones at the keys that it reads, notes what it
 -- notes on its own entries laid over all that is lent. None of the entries that it declares read-write is lent.
 abbrev pub NotedSeenLaw : Type 0 → Type 0
-NotedSeenLaw K = (step : Step) (note : Note K) (reads : Bytes → Bool) (lent own : LedgerMap) (cluster : Cluster) → IsFramed step → IsFramedNote note
+NotedSeenLaw K = (step : Step) (note : Note K) (reads : Bytes → Bool) (lent own : LedgerMap) (cluster : Cluster) → IsFramed step
+    → IsFramedNote note
     → PassesRead reads cluster
     → ((q : Bytes) → writes_in cluster q ≡ true → get lent q ≡ None)
     → noted_in (shown_step (shown_with reads lent) step) (shown_note (shown_with reads lent) note) (start own) cluster

@@ -10,10 +10,10 @@ ghost use Rattle.ledger_parts.specs.Shown.{shown as shown_by};
 
 use crate::part::{MOST_ENTRIES, OnPart};
 use entry_lookup::Ground;
-use entry_map::{EntryMap, StoredEntry};
+use entry_map::EntryMap;
 use ledger_file::Ledger;
 use ledger_spec::Kept;
-use ledger_types::{LedgerKey, key_hash};
+use ledger_types::LedgerKey;
 use stage_runs::Change;
 use std::alloc::Global;
 use xdr_core::NoMemory;
@@ -43,39 +43,24 @@ pub trait Entries: Ground {
     ghost shows: { (entries : Self) → Self.map entries ≡ shown entries (own entries) };
 }
 
-/// Stores an entry at its key.
-fn put(alloc: Global, entries: &mut EntryMap, key: LedgerKey, kept: Kept) -> Result<(), NoMemory>
-    requires fits { key_format.fits key }
-    requires kept { IsKeptAt (key_bytes key) kept }
-    ensures ok { OnOk result (entries.new ≡ insert_in entries.old (key_bytes key) kept) }
-    ensures err { OnErr result (entries.new ≡ entries.old) }
-{
-    let key_hash = key_hash(alloc, &key)?;
-    let stored = Box::new(alloc, StoredEntry { key_hash, kept })?;
-    match entries.insert(&key, stored) {
-        Ok(_old) => Ok(()),
-        Err(e) => Err(e),
-    }
-}
-
 /// Stores an entry at its key, if a ledger has room for one more entry beside this many others.
 fn put_beside(
     alloc: Global,
     entries: &mut EntryMap,
     others: usize,
-    key: LedgerKey,
+    key: &LedgerKey,
     kept: Kept,
 ) -> Result<(), NoMemory>
-    requires fits { key_format.fits key }
-    requires kept { IsKeptAt (key_bytes key) kept }
+    requires fits { key_format.fits key.now }
+    requires kept { IsKeptAt (key_bytes key.now) kept }
     requires few { len entries.old + others < 2 ^ 32 }
-    ensures ok { OnOk result (entries.new ≡ insert_in entries.old (key_bytes key) kept) }
+    ensures ok { OnOk result (entries.new ≡ insert_in entries.old (key_bytes key.now) kept) }
     ensures few { len entries.new + others < 2 ^ 32 }
 {
     if entries.len() + others >= MOST_ENTRIES {
         return Err(NoMemory);
     }
-    put(alloc, entries, key, kept)
+    entries.set(alloc, key, kept)
 }
 
 /// A cluster may run on a whole ledger: all entries are its own.
@@ -87,7 +72,7 @@ impl Entries for Ledger {
     fn change(&mut self, alloc: Global, change: Change) -> Result<(), NoMemory> {
         let Change { key, after } = change;
         match after {
-            Some(kept) => put(alloc, &mut self.entries, key, kept),
+            Some(kept) => self.entries.set(alloc, &key, kept),
             None => {
                 let _taken = self.entries.take(&key);
                 Ok(())
@@ -112,7 +97,7 @@ impl<'a> Entries for OnPart<'a> {
         let Change { key, after } = change;
         let others = self.lent.len();
         match after {
-            Some(kept) => put_beside(alloc, &mut self.part.own, others, key, kept),
+            Some(kept) => put_beside(alloc, &mut self.part.own, others, &key, kept),
             None => {
                 let _taken = self.part.own.take(&key);
                 Ok(())

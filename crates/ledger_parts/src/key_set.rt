@@ -54,7 +54,8 @@ impl KeySet {
 
     /// Adds a copy of a key, unless the key is there already.
     pub fn add(&mut self, key: &LedgerKey) -> Result<(), NoMemory>
-        ensures { OnOk result ((bytes : List ℕ) → is_read self.new bytes ≡ is_read self.old bytes || bytes_eq bytes (ranked_key key.now)) }
+        ensures { OnOk result ((bytes : List ℕ)
+            → is_read self.new bytes ≡ is_read self.old bytes || bytes_eq bytes (ranked_key key.now)) }
     {
         if self.keys.contains_key(key) {
             return Ok(());

@@ -1,4 +1,5 @@
-//! Parts of a ledger: the entries that one cluster of transactions owns. The rest of the ledger is lent to all clusters of the stage.
+//! Parts of a ledger: the entries that one cluster of transactions owns. The rest of the ledger is lent to all clusters of the
+//! stage.
 #![tactic(auto)]
 
 mod entries;

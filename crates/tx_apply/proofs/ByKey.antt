@@ -6,7 +6,8 @@ use Rattle.std.specs.BTreeMap.{insert_entry, is_at}
 use Rattle.std.specs.FinMap.{get}
 use Rattle.std.specs.declared.cmp.Ordering.TheVariants.{Less, Equal, Greater}
 use Rattle.std.specs.Ordering.{eq_by_cmp, match_ordering}
-use Rattle.std.proofs.Common.{◌≡◌, ℕ, ◌+◌, ◌<◌, Bool, true, false, List, [], ◌∷◌, ◌++◌, length, get_or, take, Option, Some, None, refl, sym, ap, ap₂, subst, ◌∙◌}
+use Rattle.std.proofs.Common.{◌≡◌, ℕ, ◌+◌, ◌<◌, Bool, true, false, List, [], ◌∷◌, ◌++◌, length, get_or, take, Option, Some, None, refl, sym, ap, ap₂, subst, ◌∙◌, arith}
+use Rattle.std.proofs.lemmas.Bool.Decides.{nat_tests}
 use Rattle.std.proofs.lemmas.List.{take_more}
 use Rattle.std.proofs.lemmas.List.Elements.{filter_map-append}
 use Rattle.std.proofs.lemmas.List.Sums.{fold_more}
@@ -126,3 +127,16 @@ module _ (old : LedgerMap) (es : Row) where
   longer_spelled [] fits = tt
   longer_spelled (key ∷ keys) fits =
       cons_spelled (at_key key) (longer_in old es keys) (key_of_extension key (find old key) (found_in old es key) fits.0) (longer_spelled keys fits.1)
+
+-- a key without a change has no extension
+not_below : (n : ℕ) → nat_lt n n ≡ false
+not_below n = grind (arith, nat_tests)
+
+unchanged : (key : LedgerKey) (o : Option Kept) → extension_of key o o ≡ None
+unchanged key None = refl
+unchanged key (Some kept) =
+    let longer : Extension = record { key = key; live_until = kept.live_until } in
+    ap (λ (b : Bool). if b then Some longer else None) (not_below kept.live_until)
+
+pub unchanged_at : (old : LedgerMap) (es : Row) (key : LedgerKey) → None ≡ lookup (is_at (key_cmp key)) es → None ≡ extension_of key (find old key) (found_in old es key)
+unchanged_at old es key e = subst (λ (o : Option (Option Kept)). None ≡ extension_of key (find old key) (now_at (find old key) o)) e (sym (unchanged key (find old key)))

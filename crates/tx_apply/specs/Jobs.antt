@@ -17,7 +17,8 @@ datums_in values = datums values.now
 abbrev pub work_in : Job → Work
 work_in (jobs.Call contract function args) = calling contract function.now (datums args.now)
 work_in (jobs.Upload code) = uploading code.now
-work_in (jobs.Create deployer code salt args) = creating (record { deployer = deployer; code = code; salt = salt; args = option_map datums_in args })
+work_in (jobs.Create deployer code salt args) =
+    creating (record { deployer = deployer; code = code; salt = salt; args = option_map datums_in args })
 
 -- the arguments of a constructor, if it is given any
 abbrev pub values_lent : Option (Bor (List ScVal)) → List ScVal

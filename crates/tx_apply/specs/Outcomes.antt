@@ -92,7 +92,8 @@ performed header verdicts entries tx source (InvokeHostFunction host_function au
 -- the first operation; the checks reject a transaction without one
 abbrev pub first_performed : Header → Verdicts → LedgerMap → Transaction → List Operation → Ended
 first_performed header verdicts entries tx [] = without_effect MissingOperation
-first_performed header verdicts entries tx (operation ∷ rest) = performed header verdicts entries tx operation.source operation.body
+first_performed header verdicts entries tx (operation ∷ rest) =
+    performed header verdicts entries tx operation.source operation.body
 
 -- a transaction that fails a check has no effect
 abbrev pub unless_refused : Option TransactionOutcome → Ended → Ended
@@ -101,4 +102,5 @@ unless_refused None done = done
 
 -- the checks come first, then the operation
 abbrev pub ended : Header → Verdicts → LedgerMap → Transaction → Ended
-ended header verdicts entries tx = unless_refused (refusal_of header tx) (first_performed header verdicts entries tx tx.operations)
+ended header verdicts entries tx =
+    unless_refused (refusal_of header tx) (first_performed header verdicts entries tx tx.operations)

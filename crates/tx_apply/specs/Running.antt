@@ -40,22 +40,29 @@ charging d = paying ValSer (size_of d) (gives d)
 abbrev pub Charges : Result ScVal HostErr → ScVal → Meter → Meter → Type 0
 Charges (Ok v) value before after = (v ≡ value) × Passes {A = Datum} (paying ValSer (size_of (datum value))) before after
 Charges (Err ends.Spent) value before after = Stops {A = Datum} Spent (paying ValSer (size_of (datum value))) before after
-Charges (Err (ends.Failed e)) value before after = Stops {A = Datum} (Failed e) (paying ValSer (size_of (datum value))) before after
+Charges (Err (ends.Failed e)) value before after =
+    Stops {A = Datum} (Failed e) (paying ValSer (size_of (datum value))) before after
 Charges (Err ends.NoMemory) value before after = Unit {0}
 Charges (Err (ends.Undeclared key)) value before after = ⊥
 Charges (Err (ends.Archived key)) value before after = ⊥
 
 -- `Ends` for a work followed by the charge for its value, over the storage's own map
 abbrev pub EndsCharged : {G : Type 0} → Work → Result ScVal HostErr → Host G → Host G → Type 0
-EndsCharged work r old new = (footprint : Footprint) → IsSomeAnd old.ledger.storage.declared (IsFootprint footprint.read_only footprint.read_write) → (rest : World)
-    → (let out = after (done_under all_allowed old.ledger.header.now (authority_of old) work) charging (world_around rest old []) in
-    EndsBy (by_footprint footprint) old.ledger.storage.map (first_rejected (by_footprint footprint) (world_of out).trace) out r datum old new)
+EndsCharged work r old new = (footprint : Footprint)
+    → IsSomeAnd old.ledger.storage.declared (IsFootprint footprint.read_only footprint.read_write) → (rest : World)
+    → (let out = after (done_under all_allowed old.ledger.header.now (authority_of old) work) charging
+    (world_around rest old []) in
+    EndsBy (by_footprint footprint) old.ledger.storage.map
+    (first_rejected (by_footprint footprint) (world_of out).trace) out r datum old new)
 
 -- `EndsRecorded` for a work followed by the charge for its value
 abbrev pub EndsChargedRecorded : {G : Type 0} → Work → Result ScVal HostErr → Host G → Host G → Type 0
-EndsChargedRecorded work r old new = old.ledger.storage.declared ≡ None → (rest : World) (trace : List Access) → old.ledger.storage.touched ≡ touches_of trace
-    → (let out = after (done_under all_allowed old.ledger.header.now (authority_of old) work) charging (world_around rest old trace) in
-    IsEnd all_allowed old.ledger.storage.map out r datum old new × UnlessMemory r (new.ledger.storage.touched ≡ touches_of (world_of out).trace))
+EndsChargedRecorded work r old new =
+    old.ledger.storage.declared ≡ None → (rest : World) (trace : List Access) → old.ledger.storage.touched ≡ touches_of trace
+    → (let out = after (done_under all_allowed old.ledger.header.now (authority_of old) work) charging
+    (world_around rest old trace) in
+    IsEnd all_allowed old.ledger.storage.map out r datum old new
+    × UnlessMemory r (new.ledger.storage.touched ≡ touches_of (world_of out).trace))
 
 -- the whole run after its arguments have entered the host, with this budget then
 abbrev pub entered_run : Header → Authority → Meter → Work → LedgerMap → Out Datum

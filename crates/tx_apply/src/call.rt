@@ -164,7 +164,8 @@ fn returned<G: Ground>(
     requires value { IsHosted (datum value) }
     requires base { host.ledger.storage.base ≡ G.map ground.now }
     ensures done { IfOk result (λ done. ended_of done ≡ ended_of_call (G.map ground.now) resources.now.footprint
-        (outcome_with n resources.now (G.map ground.now) value host.entry.ledger.storage.map host.entry.ledger.events host.entry.ledger.budget.used)) }
+        (outcome_with n resources.now
+        (G.map ground.now) value host.entry.ledger.storage.map host.entry.ledger.events host.entry.ledger.budget.used)) }
     ensures can { IfOk result (λ done. CanEnd (ended_of done)) }
 {
     let used = host.ledger.budget.spent();

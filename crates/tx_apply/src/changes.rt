@@ -121,7 +121,7 @@ pub(crate) fn changes_at<G: Ground>(
     Ok(changes)
 }
 
-/// Returns the extension of a key whose entry lives longer after the changes.
+/// Returns the extension of a key whose entry lives longer after the changes. A key without a change has none.
 fn extension<G: Ground>(
     ground: &G,
     changed: &BTreeMap<LedgerKey, Option<Kept>>,
@@ -132,6 +132,10 @@ fn extension<G: Ground>(
     ensures { IfOk result (λ extension. extension ≡ extension_in key.now (find_in (G.map ground.now) key.now)
         (found_in (G.map ground.now) changed.now.entries key.now)) }
 {
+    match changed.get(key) {
+        None => return Ok(None),
+        Some(_) => {}
+    }
     let Some(old) = ground.find(key) else {
         return Ok(None);
     };

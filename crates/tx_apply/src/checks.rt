@@ -3,7 +3,8 @@
 ghost use Rattle.std.specs.Prelude.{◌≡◌, All, IfOk, IsTrue};
 ghost use Rattle.ledger_types.specs.Key.{key_format};
 ghost use Rattle.ledger_spec.specs.LedgerFile.{has_next};
-ghost use Rattle.apply_spec.specs.Checks.{refusal_of as refusal_in, first_failed, form_checks, footprint_checks, footprint_of, is_soroban as is_soroban_in};
+ghost use Rattle.apply_spec.specs.Checks.{refusal_of as refusal_in, first_failed, form_checks, footprint_checks, footprint_of};
+ghost use Rattle.apply_spec.specs.Checks.{is_soroban as is_soroban_in};
 
 use crate::bounds::{is_too_early, is_too_late};
 use crate::footprint::{may_be_footprint, read_only_of, read_write_of};

@@ -8,7 +8,8 @@ ghost use Rattle.tx_xdr.specs.Envelope.{envelope_format};
 ghost use Rattle.tx_results.specs.Results.{outcome_format, envelope_outcome_format, pair_format};
 ghost use Rattle.stage_runs.specs.Maps.{AgreeOn};
 ghost use Rattle.stage_runs.specs.Transactions.{declares};
-ghost use Rattle.apply_spec.specs.Enforced.{enforced, is_success as is_success_in, fee_bump_outcome as fee_bump_outcome_in, envelope_outcome as envelope_outcome_in, result_pair as result_pair_in};
+ghost use Rattle.apply_spec.specs.Enforced.{enforced, is_success as is_success_in, fee_bump_outcome as fee_bump_outcome_in};
+ghost use Rattle.apply_spec.specs.Enforced.{envelope_outcome as envelope_outcome_in, result_pair as result_pair_in};
 ghost use Rattle.tx_apply.specs.Done.{effect_of, IsWithin};
 
 use crate::transaction::run_transaction;
@@ -117,8 +118,8 @@ fn result_pair(
 /// judged.
 ///
 /// `header` is that of the previous ledger, with the close time of the ledger that is being made. An account's signature of an
-/// authorisation entry is good if `verdicts` has the account's key with the hash of the entry's payload. A code that `codes` has is
-/// loaded once for all transactions. The effect does not depend on `codes`.
+/// authorisation entry is good if `verdicts` has the account's key with the hash of the entry's payload. `codes` keeps each
+/// code that it loads for later transactions; two threads may both load one. The effect does not depend on `codes`.
 pub fn enforce<G: Ground>(
     alloc: Global,
     ground: &G,

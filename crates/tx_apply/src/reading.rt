@@ -8,7 +8,8 @@ ghost use Rattle.ledger_types.specs.Key.{key_format};
 ghost use Rattle.ledger_spec.specs.LedgerMap.{find as find_in, key_bytes, IsKeptAt};
 ghost use Rattle.ledger_spec.specs.Seen.{seen};
 ghost use Rattle.entry_lookup.specs.Found.{kept_of};
-ghost use Rattle.call_spec.specs.Invoked.{is_archived as is_archived_in, live_bytes as live_bytes_in, declares_archived as declares_archived_in, read_bytes};
+ghost use Rattle.call_spec.specs.Invoked.{is_archived as is_archived_in, live_bytes as live_bytes_in};
+ghost use Rattle.call_spec.specs.Invoked.{declares_archived as declares_archived_in, read_bytes};
 
 use entry_lookup::{Found, Ground};
 use ledger_spec::is_temporary;

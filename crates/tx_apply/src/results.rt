@@ -2,7 +2,8 @@
 
 ghost use Rattle.std.specs.Prelude.{◌≡◌, ◌∷◌, [], IfOk};
 ghost use Rattle.stage_runs.specs.Whole.{nothing_used};
-ghost use Rattle.tx_apply.specs.Outcomes.{without_changes as without_changes_in, without_effect as without_effect_in, unsuccessful};
+ghost use Rattle.tx_apply.specs.Outcomes.{without_changes as without_changes_in, without_effect as without_effect_in};
+ghost use Rattle.tx_apply.specs.Outcomes.{unsuccessful};
 ghost use Rattle.tx_apply.specs.Done.{ended_of};
 
 use budget_meter::Used;

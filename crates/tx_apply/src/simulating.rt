@@ -68,11 +68,11 @@ fn with_footprint(mut envelope: Envelope, footprint: Footprint) -> Envelope
 /// Simulates an envelope over the entries of a ledger: finds the footprint that its transaction needs, and its effect with that
 /// footprint. The declared footprint of a call is not read.
 ///
-/// To find the footprint, a call runs once over a storage that allows every access and records the keys. Then the envelope runs as in
-/// `enforce`.
+/// To find the footprint, a call runs once over a storage that allows every access and records the keys. Then the envelope runs
+/// as in `enforce`.
 ///
-/// `header` is that of the previous ledger, with the close time of the ledger that is being made. A code that `codes` has is loaded
-/// once for all runs. The result does not depend on `codes`.
+/// `header` is that of the previous ledger, with the close time of the ledger that is being made. `codes` keeps each code that it
+/// loads for later runs. The result does not depend on `codes`.
 pub fn simulate_with<G: Ground>(
     alloc: Global,
     ground: &G,

@@ -5,5 +5,5 @@ use Rattle.ledger_parts.proofs.entries.put_beside.Goals as goal
 
 pub returns-clause-few : goal.returns-clause-few
 returns-clause-few c =
-    few_after c.put.result c.args.entries.now c.put.new.entries (key_bytes c.args.key) c.args.kept c.args.others c.put.ensures.ok c.put.ensures.err
+    few_after c.set.result c.args.entries.now c.set.new.self (key_bytes c.args.key.now) c.args.kept c.args.others c.set.ensures.ok c.set.ensures.err
     (omega (arith, c.if-len-others-ge-MOST_ENTRIES.false, c.len.ensures.len))

@@ -13,7 +13,7 @@ invariant_of-self c =
     let q : List ℕ = ranked_key c.args.key.now in
     let rows : Rows = rows_of c.self.inside.rows.items in
     let found : IsFoundAt q rows c.in-Ok.at = subst (λ (vs : List Row). IsFoundAt q (rows_of vs) c.in-Ok.at) c.deref.ensures.value c.in-Ok.ensures in
-    (replace_rows rows (rows_of c.replace_at.new.rows.items) c.in-Ok.at c.args.key.now c.args.stored c.self.inside.count c.self.invariant found c.requires.fits c.requires.kept
+    (replace_rows rows (rows_of c.replace_at.new.rows.items) c.in-Ok.at c.args.key.now c.args.stored.value.kept c.self.inside.count c.self.invariant found c.requires.fits c.requires.kept
     c.replace_at.ensures.new c.replace_at.ensures.full).rows
 
 pub returns-in-Ok-clause-old : goal.returns-in-Ok-clause-old
@@ -31,7 +31,7 @@ returns-in-Ok-clause-ok c =
     let q : List ℕ = ranked_key c.args.key.now in
     let rows : Rows = rows_of c.self.inside.rows.items in
     let found : IsFoundAt q rows c.in-Ok.at = subst (λ (vs : List Row). IsFoundAt q (rows_of vs) c.in-Ok.at) c.deref.ensures.value c.in-Ok.ensures in
-    sym (replace_rows rows (rows_of c.replace_at.new.rows.items) c.in-Ok.at c.args.key.now c.args.stored c.self.inside.count c.self.invariant found c.requires.fits c.requires.kept
+    sym (replace_rows rows (rows_of c.replace_at.new.rows.items) c.in-Ok.at c.args.key.now c.args.stored.value.kept c.self.inside.count c.self.invariant found c.requires.fits c.requires.kept
     c.replace_at.ensures.new c.replace_at.ensures.full).map
     ∙ ap (λ (m : LedgerMap). insert m (key_bytes c.args.key.now) c.args.stored.value.kept) c.self.view_is
 
