@@ -5,18 +5,18 @@ use Rattle.std.specs.Prelude.{Ok, IfOk, Result}
 use Rattle.std.proofs.Common.{◌≡◌, ℕ, suc, false, List, [], ◌∷◌, ◌++◌, All, map, None, sym, ap, ap₂, subst, ◌∙◌}
 use Rattle.std.proofs.lemmas.List.{append_assoc, append-nil}
 use Rattle.std.proofs.lemmas.List.Elements.{All-from_recursion, recursion_from_All}
-use Rattle.ledger_parts.specs.Shown.{is_read, shown, shown_step}
+use Rattle.ledger_parts.specs.Shown.{is_read}
 use Rattle.worker_runs.specs.Worked.{IsWorked}
 use Rattle.stage_runs.specs.Maps.{Bytes, LedgerMap, laid_over}
 use Rattle.stage_runs.specs.Transactions.{Step, IsFramed}
 use Rattle.stage_runs.specs.declared.Extension.{Extension}
-use Rattle.stage_runs.specs.Runs.{Cluster, Reported, RunState, start, run_cluster, writes_in, put_all_in, ended}
+use Rattle.stage_runs.specs.Runs.{Cluster, Reported, RunState, start, writes_in, put_all_in, ended}
 use Rattle.stage_runs.specs.Parts.{run_owned_all, own_back, owns_back}
 use Rattle.ledger_parts.specs.Cut.{runs_over}
 use Rattle.ledger_parts.proofs.Seen.{seen_run}
 use Rattle.stage_runs.proofs.Owned.{owned_untouched}
 use Rattle.ledger_apply.specs.State.{between, done_in, pending_of, reports_of, IsKeyed}
-use Rattle.ledger_apply.specs.Job.{cluster_of, own_of, IsCut, IsRun, AreDone, back, IsMovedOf}
+use Rattle.ledger_apply.specs.Job.{cluster_of, own_of, IsCut, IsRun, IsRunOn, AreDone, back, IsMovedOf}
 use Rattle.ledger_apply.specs.declared.running.ClusterDone.{ClusterDone}
 use Rattle.ledger_apply.specs.declared.job.Job.{Job}
 use Rattle.xdr_core.specs.declared.error.NoMemory.{NoMemory}
@@ -27,9 +27,9 @@ module _ (step : Step) (laws : IsFramed step) (lent : LedgerMap) where
   ran : (x y : Job) (d : ClusterDone) → IsCut x → IsMovedOf lent (cluster_of x) → IsRun step lent x y → y.done ≡ Ok d
       → run_owned_all step lent (start (own_of x)) (cluster_of x) ≡ done_in (own_of y) d
   ran x y d cut moved run ok =
-      let here : done_in (own_of y) d ≡ run_cluster (shown_step (shown x.part.read_only lent) step) (own_of x) (cluster_of x) =
-      subst (λ (r : Result ClusterDone NoMemory). IfOk r (λ e. done_in (own_of y) e ≡ run_cluster (shown_step (shown x.part.read_only lent) step) (own_of x) (cluster_of x))) ok run.run in
-      sym (here ∙ seen_run step laws (is_read x.part.read_only) lent (cluster_of x) (own_of x) cut.reads moved)
+      let here : IsRunOn step lent (cluster_of x) (own_of x) (done_in (own_of y) d) =
+      subst (λ (r : Result ClusterDone NoMemory). IfOk r (λ e. IsRunOn step lent (cluster_of x) (own_of x) (done_in (own_of y) e))) ok run.run in
+      sym (here.run ∙ seen_run step laws (is_read here.keys) lent (cluster_of x) (own_of x) here.reads moved)
 
   -- it changed nothing at other keys
   none_else : (x y : Job) (d : ClusterDone) → IsCut x → IsMovedOf lent (cluster_of x) → IsRun step lent x y → y.done ≡ Ok d
@@ -80,6 +80,11 @@ module _ (step : Step) (laws : IsFramed step) (lent : LedgerMap) where
 
   pub all_keyed : (i : ℕ) (xs ys : List Job) (ds : List ClusterDone) → IsWorked (λ _ x y. IsRun step lent x y) i xs ys → AreDone ys ds → All IsKeyed ds
   all_keyed i xs ys ds w done = All-from_recursion IsKeyed ds (each_keyed i xs ys ds w done)
+
+-- the same run, of entries that are told in another way
+pub run_on_same : {step : Step} {lent : LedgerMap} {cluster : Cluster} {own own' : LedgerMap} {ran : RunState} → own ≡ own'
+    → IsRunOn step lent cluster own ran → IsRunOn step lent cluster own' ran
+run_on_same {step} {lent} {cluster} {own} {own'} {ran} e run = subst (λ (m : LedgerMap). IsRunOn step lent cluster m ran) e run
 
 -- one more job that is done
 pub done_more : (js : List Job) (ds : List ClusterDone) (j : Job) (d : ClusterDone) → AreDone js ds → j.done ≡ Ok d → AreDone (js ++ j ∷ []) (ds ++ d ∷ [])

@@ -11,7 +11,7 @@ use Rattle.ledger_types.proofs.header.Header.TheSendSync as header
 use Rattle.ledger_types.proofs.verdicts.Verdicts.TheSendSync as verdicts
 use Rattle.code_cache.proofs.Crosses.{cache_sync}
 use Rattle.value_types.proofs.items.Items.TheSendSync as items
-use Rattle.ledger_parts.proofs.Crosses.{key_sync, map_sync, part_send}
+use Rattle.ledger_parts.proofs.Crosses.{key_sync, map_sync, map_send}
 use Rattle.ledger_parts.proofs.EnvelopeCrosses.{envelope_sync, success_send, extension_send}
 use Rattle.ledger_apply.specs.contracts.reports.Reports as Reports
 use Rattle.ledger_apply.specs.contracts.running.ClusterDone as ClusterDone
@@ -31,7 +31,7 @@ pub done_send : IsSend (ClusterDone.the_field).row
 done_send = search (reports_send, extension_send, heap_crosses, sendable) depth 20 fits 5000
 
 pub job_send : (a : NamedLft) → IsSend (Job.the_field a).row
-job_send a = search (envelope_sync, part_send, done_send, result.the_field_send, memory.the_send, sendable) depth 20 fits 5000
+job_send a = search (envelope_sync, map_send, done_send, result.the_field_send, memory.the_send, sendable) depth 20 fits 5000
 
 pub work_sync : (a : NamedLft) (G : RattleType) → IsSync G → IsSync (ClusterWork.the_field a G).row
 work_sync a G z = search (map_sync, cache_sync, header.the_field_sync, verdicts.the_field_sync, heap_crosses, sendable) depth 20 fits 5000

@@ -9,4 +9,5 @@ use Rattle.apply_spec.specs.Runs.{running_header}
 
 -- stages in order, on the map of all entries; a set runs its own stages so
 abbrev pub run_stages_over : Header → Verdicts → LedgerMap → List runs.Stage → ℕ → runs.RunState
-run_stages_over header verdicts entries stages close_time = runs.run_set (enforced (running_header header close_time) verdicts) (runs.start entries) stages
+run_stages_over header verdicts entries stages close_time =
+    runs.run_set (enforced (running_header header close_time) verdicts) (runs.start entries) stages

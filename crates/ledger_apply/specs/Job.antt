@@ -3,9 +3,9 @@ use Rattle.std.specs.Prelude.{◌≡◌, true, false, List, [], ◌∷◌, None,
 use Rattle.std.specs.List.{AllByRecursion}
 use Rattle.std.specs.FinMap.{get, retain_keys}
 use Rattle.ledger_parts.specs.Shown.{is_read, shown, shown_step, PassesRead}
-use Rattle.stage_runs.specs.Maps.{Bytes, LedgerMap, laid_over}
+use Rattle.stage_runs.specs.Maps.{Bytes, LedgerKey, LedgerMap, laid_over}
 use Rattle.stage_runs.specs.Transactions.{Step}
-use Rattle.stage_runs.specs.Runs.{Cluster, run_cluster, writes_in}
+use Rattle.stage_runs.specs.Runs.{Cluster, RunState, run_cluster, writes_in}
 use Rattle.ledger_apply.specs.Spelled.{AreEnvelopes}
 use Rattle.ledger_apply.specs.State.{done_in, IsKeyed}
 use Rattle.ledger_apply.specs.declared.running.ClusterDone.{ClusterDone}
@@ -15,20 +15,26 @@ use Rattle.ledger_apply.specs.declared.job.Job.{Job}
 abbrev pub cluster_of : Job → Cluster
 cluster_of job = job.envelopes.now
 
--- the entries that the part of a job owns
+-- the entries that a job owns
 abbrev pub own_of : Job → LedgerMap
-own_of job = job.part.own
+own_of job = job.own
 
--- The part owns only entries at keys that the cluster declares read-write, and it has the keys that the cluster declares read-only.
+-- The job has only entries at keys that the cluster declares read-write.
 pub record IsCut (job : Job) : Type 0 where
   pub owned : (q : Bytes) → writes_in (cluster_of job) q ≡ false → get (own_of job) q ≡ None
-  pub reads : PassesRead (is_read job.part.read_only) (cluster_of job)
   pub fits : AreEnvelopes (cluster_of job)
 
--- The job's cluster ran on its part, unless memory ran out.
+-- The cluster ran on its own entries, and saw besides them only the lent ones at some keys. All keys that it declares read-only
+-- are among them.
+pub record IsRunOn (step : Step) (lent : LedgerMap) (cluster : Cluster) (own : LedgerMap) (ran : RunState) : Type 0 where
+  pub keys : List LedgerKey
+  pub reads : PassesRead (is_read keys) cluster
+  pub run : ran ≡ run_cluster (shown_step (shown keys lent) step) own cluster
+
+-- The job's cluster ran on the job's entries, unless memory ran out.
 pub record IsRun (step : Step) (lent : LedgerMap) (before after : Job) : Type 0 where
   pub same : cluster_of after ≡ cluster_of before
-  pub run : IfOk after.done (λ d. done_in (own_of after) d ≡ run_cluster (shown_step (shown before.part.read_only lent) step) (own_of before) (cluster_of before))
+  pub run : IfOk after.done (λ d. IsRunOn step lent (cluster_of before) (own_of before) (done_in (own_of after) d))
   pub keyed : IfOk after.done IsKeyed
 
 -- the map after what a job's part owns at the keys of its cluster came back

@@ -1,6 +1,7 @@
 -- How a cluster's pending extensions are kept (own): the list of all extensions so far, and for each key with pending
 -- extensions the index of the first one and the greatest live-until ledger among them.
-use Rattle.std.specs.Prelude.{◌≡◌, ◌≤◌, ◌+◌, ℕ, Vec, Bool, false, List, [], ◌∷◌, All, length, filter, max, Option, Some, None, nat_le, if◌then◌else◌}
+use Rattle.std.specs.Prelude.{◌≡◌, ◌≤◌, ◌+◌, ℕ, Vec, Bool, false, List, [], ◌∷◌, All, length, filter, max, Option, Some, None}
+use Rattle.std.specs.Prelude.{nat_le, if◌then◌else◌}
 use Rattle.std.specs.BTreeMap.{BTreeMap, get_by}
 use Rattle.std.specs.Cmp.Lexicographic.{slice_cmp}
 use Rattle.std.specs.Option.{ForSome}
@@ -40,4 +41,5 @@ longest (extension ∷ rest) = max extension.live_until (longest rest)
 pub record IsAwaiting (look : Awaiting) (row : List Extension) : Type 0 where
   pub spelled : All (λ e. key_format.fits e.key) row
   pub since : (bytes : List ℕ) → ForSome (look bytes) (λ awaited. awaited.since ≤ length row)
-  pub longest_life : (bytes : List ℕ) → ForSome (look bytes) (λ awaited. awaited.live_until ≡ longest (filter (has_bytes bytes) (still_pending look 0 row)))
+  pub longest_life : (bytes : List ℕ)
+      → ForSome (look bytes) (λ awaited. awaited.live_until ≡ longest (filter (has_bytes bytes) (still_pending look 0 row)))

@@ -9,7 +9,8 @@ use Rattle.ledger_apply.specs.declared.search.StageSearch.{StageSearch}
 
 -- What was found in the stage is its least conflict, or that it has none, unless memory ran out.
 pub record IsAnswered (search : StageSearch) : Type 0 where
-  pub some : IfOk search.found (λ o. IfSome o (λ f. IsLeastConflict (clusters_in (stage_of search.stage)) f.a f.b (key_bytes f.key.now)))
+  pub some : IfOk search.found
+      (λ o. IfSome o (λ f. IsLeastConflict (clusters_in (stage_of search.stage)) f.a f.b (key_bytes f.key.now)))
   pub none : IfOk search.found (λ o. IfNone o (HasNoConflict (clusters_in (stage_of search.stage))))
   pub key : IfOk search.found (λ o. IfSome o (λ f. key_format.fits f.key.now))
 

@@ -46,8 +46,8 @@ fn run_all<E: Entries>(
 
 /// Runs a cluster: its transactions in their order, on the entries. It starts without pending extensions.
 ///
-/// `header` is that of the previous ledger, with the close time of the ledger that is being made. A code that `codes` has is loaded
-/// where it is first needed, and kept. The result does not depend on `codes`.
+/// `header` is that of the previous ledger, with the close time of the ledger that is being made. A code that `codes` has is
+/// loaded where it is first needed, and kept. The result does not depend on `codes`.
 pub fn run_cluster<E: Entries>(
     alloc: Global,
     entries: &mut E,

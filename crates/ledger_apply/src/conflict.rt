@@ -62,7 +62,8 @@ pub fn first_in_turn<'a>(
     Ok(None)
 }
 
-/// Finds the least conflict of the first stage that has one. If the set has more than `FEW_STAGES` stages, all workers look for them.
+/// Finds the least conflict of the first stage that has one. If the set has more than `FEW_STAGES` stages, all workers look for
+/// them.
 pub fn first_conflict<'a, R: Threads + Sync, T>(
     workers: &Workers<'_, R, T>,
     alloc: Global,

@@ -2,14 +2,13 @@
 
 ghost use Rattle.std.specs.Prelude.{◌≡◌, IfOk, IsTrue};
 ghost use Rattle.ledger_spec.specs.LedgerFile.{are_settings, has_next};
-ghost use Rattle.ledger_parts.specs.Shown.{shown, shown_step};
-ghost use Rattle.stage_runs.specs.Runs.{run_cluster as run_cluster_in};
 ghost use Rattle.apply_spec.specs.Enforced.{enforced};
 ghost use Rattle.ledger_apply.specs.State.{done_in, IsKeyed};
 ghost use Rattle.ledger_apply.specs.Spelled.{AreEnvelopes};
-ghost use Rattle.ledger_apply.specs.Job.{IsRun};
+ghost use Rattle.ledger_apply.specs.Job.{IsRun, IsRunOn};
 
 use crate::cluster::run_cluster;
+use crate::moving::read_keys_of;
 use crate::running::ClusterDone;
 use code_cache::Cache;
 use edge_io::Gate;
@@ -21,17 +20,17 @@ use tx_xdr::Envelope;
 use worker_runs::Work;
 use xdr_core::NoMemory;
 
-/// A cluster with its part of the ledger, and room for what it leaves.
+/// A cluster with the entries that it declares read-write, and room for what it leaves.
 #[derive(Drop)]
 pub struct Job<'a> {
     pub envelopes: &'a [Envelope],
-    pub part: Part,
+    pub own: EntryMap,
     /// `Err(NoMemory)` until the cluster has run, and if memory ran out in its run.
     pub done: Result<ClusterDone, NoMemory>,
 }
 
-/// What the workers of a stage share: the entries that no cluster of the stage declares read-write, the codes among them, what all
-/// transactions run under, the gate, and the index of the stage in its set.
+/// What the workers of a stage share: the entries that no cluster of the stage declares read-write, the codes among them, what
+/// all transactions run under, the gate, and the index of the stage in its set.
 #[derive(Drop)]
 pub struct ClusterWork<'a, T> {
     pub alloc: Global,
@@ -45,27 +44,28 @@ pub struct ClusterWork<'a, T> {
     pub ghost next: { IsTrue (has_next header.now) },
 }
 
-/// Runs a cluster on its part. Returns the part, and what the cluster leaves beside it.
+/// Runs a cluster on its part of the ledger: its own entries, and the keys that it declares read-only. Returns its entries, and
+/// what the cluster leaves beside them.
 fn run_part(
     alloc: Global,
     lent: &EntryMap,
     codes: &Cache<'_>,
     header: &Header,
     verdicts: &Verdicts,
-    part: Part,
+    own: EntryMap,
     envelopes: &[Envelope],
-) -> Result<(Part, ClusterDone), NoMemory>
+) -> Result<(EntryMap, ClusterDone), NoMemory>
     requires fits { AreEnvelopes envelopes.now }
     requires settings { IsTrue (are_settings header.now.settings) }
     requires next { IsTrue (has_next header.now) }
-    ensures run { IfOk result (λ r. done_in r.0.own r.1
-        ≡ run_cluster_in (shown_step (shown part.read_only lent.now) (enforced header.now verdicts.now)) part.own envelopes.now) }
+    ensures run { IfOk result (λ r. IsRunOn (enforced header.now verdicts.now) lent.now envelopes.now own (done_in r.0 r.1)) }
     ensures keyed { IfOk result (λ r. IsKeyed r.1) }
 {
-    let mut seen = OnPart::new(part, lent)?;
+    let read_only = read_keys_of(alloc, envelopes)?;
+    let mut seen = OnPart::new(Part { own, read_only }, lent)?;
     let done = run_cluster(alloc, &mut seen, header, verdicts, envelopes, Some(codes))?;
     let OnPart { part, lent: _ } = seen;
-    Ok((part, done))
+    Ok((part.own, done))
 }
 
 impl<'a, 'b, T: Gate> Work<Job<'a>> for ClusterWork<'b, T> {
@@ -76,18 +76,18 @@ impl<'a, 'b, T: Gate> Work<Job<'a>> for ClusterWork<'b, T> {
     /// Enters the gate, and runs the cluster. Its index in the list of jobs is its index in the stage.
     fn work(&self, index: usize, job: &mut Job<'a>) {
         self.gate.enter(self.stage, index);
-        let part = std::mem::replace(&mut job.part, Part::empty(self.alloc));
+        let own = std::mem::replace(&mut job.own, EntryMap::new(self.alloc));
         match run_part(
             self.alloc,
             self.lent,
             self.codes,
             self.header,
             self.verdicts,
-            part,
+            own,
             job.envelopes,
         ) {
-            Ok((part, done)) => {
-                job.part = part;
+            Ok((own, done)) => {
+                job.own = own;
                 job.done = Ok(done);
             }
             Err(e) => {

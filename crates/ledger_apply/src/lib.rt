@@ -1,5 +1,5 @@
-//! Applies a transaction set to a ledger: its stages one after the other, the clusters of a stage by workers, each on its part of the
-//! ledger, and the transactions of a cluster one after the other.
+//! Applies a transaction set to a ledger: its stages one after the other, the clusters of a stage by workers, each on its part of
+//! the ledger, and the transactions of a cluster one after the other.
 #![tactic(auto)]
 
 mod cluster;

@@ -13,14 +13,14 @@ ghost use Rattle.ledger_apply.specs.Stages.{stage_of, IsSpelled};
 ghost use Rattle.ledger_apply.specs.Job.{cluster_of, own_of, IsCut, IsRun, AreDone, back};
 
 use crate::job::{ClusterWork, Job};
-use crate::moving::{move_written, read_keys_of};
+use crate::moving::move_written;
 use crate::running::ClusterDone;
 use crate::stages::SetStage;
 use crate::workers::Workers;
 use code_cache::{Cache, Code};
 use edge_io::Gate;
 use entry_map::EntryMap;
-use ledger_parts::{Lent, Part};
+use ledger_parts::Lent;
 use ledger_types::{Header, Verdicts};
 use stage_codes::{cluster_codes, stage_codes};
 use std::alloc::Global;
@@ -43,10 +43,9 @@ pub fn cut_one<'a>(
 {
     let mut own = EntryMap::new(alloc);
     move_written(entries, &mut own, envelopes)?;
-    let read_only = read_keys_of(alloc, envelopes)?;
     Ok(Job {
         envelopes,
-        part: Part { own, read_only },
+        own,
         done: Err(NoMemory),
     })
 }
@@ -169,8 +168,8 @@ pub fn work_through<'a, R: Threads + Sync, T: Gate + Sync>(
     Ok(jobs)
 }
 
-/// Puts the entries of parts back, and lists what else their clusters left, in their order. It is out of memory if memory ran out in
-/// the run of one of the clusters. The list needs no memory if it has room for all jobs; the map may.
+/// Puts the entries of parts back, and lists what else their clusters left, in their order. It is out of memory if memory ran out
+/// in the run of one of the clusters. The list needs no memory if it has room for all jobs; the map may.
 pub fn put_back(
     entries: &mut EntryMap,
     room: Vec<ClusterDone>,
@@ -185,12 +184,11 @@ pub fn put_back(
     for job in jobs {
         let Job {
             envelopes,
-            part,
+            mut own,
             done,
         } = job;
         let one = done?;
         dones.push(one)?;
-        let mut own = part.own;
         move_written(&mut own, entries, envelopes)?;
     }
     Ok(dones)

@@ -61,7 +61,8 @@ fn run_one<R: Threads + Sync, T: Gate + Sync>(
     requires next { IsTrue (has_next header.now) }
     requires free { HasNoConflict (clusters_in (stage_of stage)) }
     ensures { OnOk result (between entries.new reports.new
-        ≡ run_stage_in (enforced header.now verdicts.now) (between entries.old reports.old) (clusters_in (stage_of stage.entry))) }
+        ≡ run_stage_in (enforced header.now verdicts.now) (between entries.old reports.old)
+        (clusters_in (stage_of stage.entry))) }
 {
     match stage {
         SetStage::Component(component) => run_component(
@@ -158,9 +159,9 @@ fn run_on<R: Threads + Sync, T: Gate + Sync>(
 /// Applies a set to a ledger, unless two clusters of one of its stages conflict. All stages are tested before anything runs.
 ///
 /// `close_time` is that of the new ledger, in seconds since 1970. The clusters of a stage go to the workers in runs of
-/// ceil(clusters / workers) clusters that follow one another. A worker enters the gate before each cluster. The stages run one after
-/// the other, and the outcome is the same for every number of workers. The workers look for the conflicts, too, if there are many
-/// stages.
+/// ceil(clusters / workers) clusters that follow one another. A worker enters the gate before each cluster. The stages run one
+/// after the other, and the outcome is the same for every number of workers. The workers look for the conflicts, too, if there
+/// are many stages.
 pub fn apply_set<'a, R: Threads + Sync, T: Gate + Sync>(
     rt: &R,
     alloc: Global,

@@ -87,8 +87,8 @@ fn run_parts<R: Threads + Sync, T: Gate + Sync>(
     Ok(())
 }
 
-/// Runs a stage without a conflict: its clusters by workers, each on its part of the entries, and then its end. `index` is that of
-/// the stage in its set.
+/// Runs a stage without a conflict: its clusters by workers, each on its part of the entries, and then its end. `index` is that
+/// of the stage in its set.
 pub fn run_stage<R: Threads + Sync, T: Gate + Sync>(
     workers: &Workers<'_, R, T>,
     alloc: Global,
@@ -136,7 +136,8 @@ pub fn run_component<R: Threads + Sync, T: Gate + Sync>(
     requires settings { IsTrue (are_settings header.now.settings) }
     requires next { IsTrue (has_next header.now) }
     ensures { OnOk result (between entries.new reports.new
-        ≡ run_stage_in (enforced header.now verdicts.now) (between entries.old reports.old) (clusters_in (component_stage component.now))) }
+        ≡ run_stage_in (enforced header.now verdicts.now) (between entries.old reports.old)
+        (clusters_in (component_stage component.now))) }
 {
     let part = cut_one(alloc, entries, component.envelopes.as_slice())?;
     let mut parts = Vec::with_capacity(alloc, 1)?;

@@ -64,9 +64,10 @@ fn after<E: Entries>(
 
 /// Runs a transaction in its cluster.
 ///
-/// Before it runs, the pending extensions of its read-write keys are put in, even if it fails. Its changes are made at once. Its own
-/// extensions are pending afterwards. For each of its keys this takes O(log n) comparisons, where n is the number of entries and of
-/// pending keys. A code that `codes` has is loaded where it is first needed, and kept. The result does not depend on `codes`.
+/// Before it runs, the pending extensions of its read-write keys are put in, even if it fails. Its changes are made at once. Its
+/// own extensions are pending afterwards. For each of its keys this takes O(log n) comparisons, where n is the number of entries
+/// and of pending keys. A code that `codes` has is loaded where it is first needed, and kept. The result does not depend on
+/// `codes`.
 pub fn run_transaction<E: Entries>(
     alloc: Global,
     entries: &mut E,

@@ -2,8 +2,8 @@
 
 ghost use Rattle.std.specs.Prelude.{◌<◌};
 
-/// The workers that run the clusters of a set: the runtime that starts their threads, how many they are, and the gate that a worker
-/// enters before each cluster.
+/// The workers that run the clusters of a set: the runtime that starts their threads, how many they are, and the gate that a
+/// worker enters before each cluster.
 #[derive(Drop)]
 pub struct Workers<'a, R, T> {
     pub rt: &'a R,

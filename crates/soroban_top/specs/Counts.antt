@@ -4,7 +4,9 @@ use Rattle.std.specs.List.{AllByRecursion}
 use Rattle.edge_io.specs.Counts.{Rose}
 use Rattle.soroban_top.specs.Product.{File}
 use Rattle.soroban_top.specs.declared.status.Status.{Status}
-use Rattle.soroban_top.specs.declared.status.Status.TheVariants.{Done, Usage, Fault, Ledger, Verdicts, Malformed, NotBase64, Conflict, Schedule, Incomplete, NotAModule, Ill, Unlinked, NoMemory}
+use Rattle.soroban_top.specs.declared.status.Status.TheVariants.{Done, Usage, Fault, Ledger, Verdicts, Malformed, NotBase64}
+use Rattle.soroban_top.specs.declared.status.Status.TheVariants.{Conflict, Schedule, Incomplete, NotAModule, Ill, Unlinked}
+use Rattle.soroban_top.specs.declared.status.Status.TheVariants.{NoMemory}
 
 abbrev pub NoLower : (ℕ → ℕ) → (ℕ → ℕ) → Type 0
 NoLower old new = (option : ℕ) → old option ≤ new option
@@ -15,7 +17,8 @@ SameCounts old new = (option : ℕ) → new option ≡ old option
 -- the count of a file of this name rose
 abbrev pub HasFaulted : List File → List ℕ → (ℕ → ℕ) → (ℕ → ℕ) → Type 0
 HasFaulted [] name old new = ⊥
-HasFaulted (file ∷ files) name old new = ((file.name ≡ name) × Rose (old file.option) (new file.option)) ⊎ HasFaulted files name old new
+HasFaulted (file ∷ files) name old new =
+    ((file.name ≡ name) × Rose (old file.option) (new file.option)) ⊎ HasFaulted files name old new
 
 -- a fault has its cause
 abbrev pub FaultHasCause : List File → (ℕ → ℕ) → (ℕ → ℕ) → Status → Type 0
@@ -50,4 +53,5 @@ HasCauseFor files old new said_old said_new _ = ⊤
 
 -- no count of these files rose, nor the output's
 abbrev pub NoneRose : List File → (ℕ → ℕ) → (ℕ → ℕ) → ℕ → ℕ → Type 0
-NoneRose files old new said_old said_new = AllByRecursion (λ (file : File). ¬ Rose (old file.option) (new file.option)) files × (¬ Rose said_old said_new)
+NoneRose files old new said_old said_new =
+    AllByRecursion (λ (file : File). ¬ Rose (old file.option) (new file.option)) files × (¬ Rose said_old said_new)

@@ -50,12 +50,15 @@ least_meeting c d = least_of (meet_at c d) (bytes_declared c)
 -- the index of the first of these clusters that conflicts with a cluster, and the least key of this conflict
 abbrev pub first_with : Cluster → List Cluster → Option (ℕ × Bytes)
 first_with c [] = None
-first_with c (d ∷ clusters) = option_or (option_map (λ key. (zero, key)) (least_meeting c d)) (option_map (λ f. (suc f.0, f.1)) (first_with c clusters))
+first_with c (d ∷ clusters) =
+    option_or (option_map (λ key. (zero, key)) (least_meeting c d)) (option_map (λ f. (suc f.0, f.1)) (first_with c clusters))
 
 -- the first conflict of a stage: the indices of its clusters, and its key
 abbrev pub first_in : Stage → Option (ℕ × ℕ × Bytes)
 first_in [] = None
-first_in (c ∷ clusters) = option_or (option_map (λ f. (zero, suc f.0, f.1)) (first_with c clusters)) (option_map (λ f. (suc f.0, suc f.1, f.2)) (first_in clusters))
+first_in (c ∷ clusters) =
+    option_or (option_map (λ f. (zero, suc f.0, f.1)) (first_with c clusters))
+    (option_map (λ f. (suc f.0, suc f.1, f.2)) (first_in clusters))
 
 -- a conflict of a stage in the stage with this index
 abbrev pub in_stage : ℕ → ℕ × ℕ × Bytes → FoundConflict
@@ -68,7 +71,8 @@ stage_later f = record f { stage = suc f.stage }
 -- the first conflict of a set
 unfoldable pub first_conflict : List Stage → Option FoundConflict
 first_conflict [] = None
-first_conflict (clusters ∷ stages) = option_or (option_map (in_stage zero) (first_in clusters)) (option_map stage_later (first_conflict stages))
+first_conflict (clusters ∷ stages) =
+    option_or (option_map (in_stage zero) (first_in clusters)) (option_map stage_later (first_conflict stages))
 
 -- ---- its status
 

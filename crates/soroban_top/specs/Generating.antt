@@ -7,7 +7,8 @@ use Rattle.soroban_top.specs.Product.{File, Job, Made, file}
 
 -- the line about a set with this many transactions and stages
 abbrev pub made_line : ℕ → ℕ → List ℕ
-made_line transactions stages = codes "made " ++ decimal transactions ++ codes " transactions in " ++ decimal stages ++ codes " stages\n"
+made_line transactions stages =
+    codes "made " ++ decimal transactions ++ codes " transactions in " ++ decimal stages ++ codes " stages\n"
 
 abbrev pub job : File → List ℕ → Job
 job file bytes = record { file = file; bytes = bytes }

@@ -1,5 +1,6 @@
 -- The files that a command reads: each exists, is not too long, and is checked (own).
-use Rattle.std.specs.Prelude.{ℕ, Bool, true, false, ◌^◌, List, [], ◌∷◌, length, Option, Some, None, Result, Ok, Err, IsSome, nat_lt, if◌then◌else◌, ⊤}
+use Rattle.std.specs.Prelude.{ℕ, Bool, true, false, ◌^◌, List, [], ◌∷◌, length, Option, Some, None, Result, Ok, Err, IsSome}
+use Rattle.std.specs.Prelude.{nat_lt, if◌then◌else◌, ⊤}
 use Rattle.std.specs.FinMap.{get}
 use Rattle.base64_text.specs.Text.{bytes_in}
 use Rattle.edge_io.specs.Contents.{FileMap}

@@ -86,7 +86,8 @@ pub record HasInputs (ledger_name verdicts_name name : List ℕ) (base64 : Bool)
   pub are_bytes : IsBytes last
 
 -- the two files are those of this ledger and of these verdicts
-pub record AreFilesOf (ledger_name verdicts_name : List ℕ) (m : FileMap) (header : Header) (entries : LedgerMap) (verdicts : Verdicts) : Type 0 where
+pub record AreFilesOf (ledger_name verdicts_name : List ℕ) (m : FileMap) (header : Header) (entries : LedgerMap)
+    (verdicts : Verdicts) : Type 0 where
   pub ledger : List ℕ
   pub has_ledger : content_of m ledger_name ≡ Ok ledger
   pub is_ledger : IsFileOf true ledger header entries
@@ -117,7 +118,8 @@ pub record IsScheduleIn (schedule : Schedule) (name : List ℕ) (m : FileMap) : 
 -- The set runs by the schedule that the file spells, with this number of steps, or without one if none is given.
 abbrev pub IsScheduled : Option ScheduleOptions → FileMap → Option ScheduledSteps → Type 0
 IsScheduled None m scheduled = scheduled ≡ None
-IsScheduled (Some options) m scheduled = (schedule : Schedule) × IsScheduleIn schedule options.file m × (scheduled ≡ Some (with_steps schedule options.steps))
+IsScheduled (Some options) m scheduled =
+    (schedule : Schedule) × IsScheduleIn schedule options.file m × (scheduled ≡ Some (with_steps schedule options.steps))
 
 -- Ledger with reason Xdr is due exactly if the bytes are refused, at that offset, whatever else is wrong.
 abbrev pub LedgerLaw : Type 0
@@ -127,7 +129,8 @@ LedgerLaw = (a : ApplyRequest) (m : FileMap) (bytes : List ℕ) → HasLedgerFil
 -- Ledger is due, with any reason, exactly if the bytes are not the file of a ledger that another ledger may follow.
 abbrev pub NoLedgerLaw : Type 0
 NoLedgerLaw = (a : ApplyRequest) (m : FileMap) (bytes : List ℕ) → HasLedgerFile a.ledger m bytes
-    → ((why : LedgerWhy) × (at : ℕ) × (due_of a m ≡ status.Ledger why at)) ↔ (¬ ((header : Header) × (entries : LedgerMap) × IsFileOf true bytes header entries))
+    → ((why : LedgerWhy) × (at : ℕ) × (due_of a m ≡ status.Ledger why at))
+    ↔ (¬ ((header : Header) × (entries : LedgerMap) × IsFileOf true bytes header entries))
 
 -- Verdicts is due exactly if the bytes are refused, at that offset.
 abbrev pub VerdictsLaw : Type 0
@@ -136,7 +139,8 @@ VerdictsLaw = (a : ApplyRequest) (m : FileMap) (bytes : List ℕ) → HasLedger 
 
 -- Malformed is due exactly if the bytes spell no set, with the offset and the reason of their refusal.
 abbrev pub MalformedLaw : Type 0
-MalformedLaw = (a : ApplyRequest) (m : FileMap) (bytes : List ℕ) → HasInputs a.ledger a.verdicts a.set a.base64 m bytes → (at : ℕ) (why : Why)
+MalformedLaw = (a : ApplyRequest) (m : FileMap) (bytes : List ℕ) → HasInputs a.ledger a.verdicts a.set a.base64 m bytes
+    → (at : ℕ) (why : Why)
     → (due_of a m ≡ status.Malformed at why) ↔ Refuses set_format bytes at why
 
 -- If they spell a set, Schedule is due exactly if the bytes of the schedule's file are refused, at that offset.
@@ -146,11 +150,14 @@ ScheduleLaw = (a : ApplyRequest) (options : ScheduleOptions) (m : FileMap) (byte
     → a.schedule ≡ Some options → content_of m options.file ≡ Ok schedule → IsBytes schedule → (at : ℕ)
     → (due_of a m ≡ status.Schedule at) ↔ ((why : Why) × Refuses schedule_format schedule at why)
 
--- If the schedule's file is accepted, or none is given, Conflict is due exactly if they spell a set, and this is its first conflict.
+-- If the schedule's file is accepted, or none is given, Conflict is due exactly if they spell a set, and this is its first
+-- conflict.
 abbrev pub ConflictLaw : Type 0
-ConflictLaw = (a : ApplyRequest) (m : FileMap) (bytes : List ℕ) (scheduled : Option ScheduledSteps) → HasInputs a.ledger a.verdicts a.set a.base64 m bytes
+ConflictLaw = (a : ApplyRequest) (m : FileMap) (bytes : List ℕ) (scheduled : Option ScheduledSteps)
+    → HasInputs a.ledger a.verdicts a.set a.base64 m bytes
     → IsScheduled a.schedule m scheduled → (stage x y : ℕ) (key : List ℕ)
-    → (due_of a m ≡ status.Conflict stage x y key) ↔ ((set : TxSet) × Spells set_format set bytes × IsFirstConflict (stages_in set) stage x y key)
+    → (due_of a m ≡ status.Conflict stage x y key)
+    ↔ ((set : TxSet) × Spells set_format set bytes × IsFirstConflict (stages_in set) stage x y key)
 
 -- no stage of the set has a conflict
 abbrev pub IsFree : TxSet → Type 0
@@ -161,19 +168,23 @@ abbrev pub CanRun : Option ScheduledSteps → TxSet → Type 0
 CanRun None set = IsFree set
 CanRun (Some scheduled) set = IsFree set × (first_incomplete (stages_in set) scheduled.schedule.stages ≡ None)
 
--- The set has no conflict, and this is the least index at which a stage has no list, a list has no stage, or a list is not complete.
+-- The set has no conflict, and this is the least index at which a stage has no list, a list has no stage, or a list is not
+-- complete.
 abbrev pub IsIncompleteAt : ℕ → ScheduledSteps → TxSet → Type 0
 IsIncompleteAt stage scheduled set = IsFree set × (first_incomplete (stages_in set) scheduled.schedule.stages ≡ Some stage)
 
--- Incomplete is due exactly if they spell a set without a conflict, and this is the least index at which the schedule is not complete.
+-- Incomplete is due exactly if they spell a set without a conflict, and this is the least index at which the schedule is not
+-- complete.
 abbrev pub IncompleteLaw : Type 0
-IncompleteLaw = (a : ApplyRequest) (m : FileMap) (bytes : List ℕ) (scheduled : ScheduledSteps) → HasInputs a.ledger a.verdicts a.set a.base64 m bytes
+IncompleteLaw = (a : ApplyRequest) (m : FileMap) (bytes : List ℕ) (scheduled : ScheduledSteps)
+    → HasInputs a.ledger a.verdicts a.set a.base64 m bytes
     → IsScheduled a.schedule m (Some scheduled) → (stage : ℕ)
     → (due_of a m ≡ status.Incomplete stage) ↔ ((set : TxSet) × Spells set_format set bytes × IsIncompleteAt stage scheduled set)
 
 -- Done is due exactly if they spell a set without a conflict, and the schedule is complete, if one is given.
 abbrev pub DoneLaw : Type 0
-DoneLaw = (a : ApplyRequest) (m : FileMap) (bytes : List ℕ) (scheduled : Option ScheduledSteps) → HasInputs a.ledger a.verdicts a.set a.base64 m bytes
+DoneLaw = (a : ApplyRequest) (m : FileMap) (bytes : List ℕ) (scheduled : Option ScheduledSteps)
+    → HasInputs a.ledger a.verdicts a.set a.base64 m bytes
     → IsScheduled a.schedule m scheduled
     → (due_of a m ≡ status.Done) ↔ ((set : TxSet) × Spells set_format set bytes × CanRun scheduled set)
 
@@ -182,25 +193,32 @@ abbrev pub AppliedLaw : Type 0
 AppliedLaw = (a : ApplyRequest) (m : FileMap) (header : Header) (entries : LedgerMap) (verdicts : Verdicts) (set : TxSet)
     → AreFilesOf a.ledger a.verdicts m header entries verdicts → IsSpelledIn set_format set a.set a.base64 m → IsFree set
     → a.schedule ≡ None
-    → outcome_of (Apply a) m ≡ Ok (applied (file 3 a.report) (file 4 a.ledger_out) (outputs header verdicts entries set a.close_time))
+    → outcome_of (Apply a) m
+    ≡ Ok (applied (file 3 a.report) (file 4 a.ledger_out) (outputs header verdicts entries set a.close_time))
 
 -- If a schedule is given, those of its first steps are stored and printed, with the header after the whole set.
 abbrev pub StoppedLaw : Type 0
-StoppedLaw = (a : ApplyRequest) (m : FileMap) (header : Header) (entries : LedgerMap) (verdicts : Verdicts) (set : TxSet) (scheduled : ScheduledSteps)
+StoppedLaw =
+    (a : ApplyRequest) (m : FileMap) (header : Header) (entries : LedgerMap) (verdicts : Verdicts) (set : TxSet)
+    (scheduled : ScheduledSteps)
     → AreFilesOf a.ledger a.verdicts m header entries verdicts → IsSpelledIn set_format set a.set a.base64 m
     → IsScheduled a.schedule m (Some scheduled) → CanRun (Some scheduled) set
     → outcome_of (Apply a) m ≡ Ok (applied (file 3 a.report) (file 4 a.ledger_out)
-    (outputs_after (new_header header a.close_time) (run_stopped header verdicts entries set a.close_time scheduled.schedule.stages scheduled.steps)))
+    (outputs_after (new_header header a.close_time)
+    (run_stopped header verdicts entries set a.close_time scheduled.schedule.stages scheduled.steps)))
 
 -- If all its steps run, a complete schedule changes nothing that is stored or printed, whatever the other files have.
 abbrev pub WholeLaw : Type 0
-WholeLaw = (a : ApplyRequest) (m : FileMap) (set : TxSet) (scheduled : ScheduledSteps) → IsSpelledIn set_format set a.set a.base64 m
-    → IsScheduled a.schedule m (Some scheduled) → CanRun (Some scheduled) set → steps_of scheduled.schedule.stages ≤ scheduled.steps
+WholeLaw =
+    (a : ApplyRequest) (m : FileMap) (set : TxSet) (scheduled : ScheduledSteps) → IsSpelledIn set_format set a.set a.base64 m
+    → IsScheduled a.schedule m (Some scheduled) → CanRun (Some scheduled) set
+    → steps_of scheduled.schedule.stages ≤ scheduled.steps
     → outcome_of (Apply a) m ≡ outcome_of (Apply (record a { schedule = None })) m
 
 -- All its steps run if their number is not given.
 abbrev pub AllStepsLaw : Type 0
-AllStepsLaw = (options : Option ScheduleOptions) (m : FileMap) (scheduled : ScheduledSteps) → IsScheduled options m (Some scheduled) → scheduled.steps ≡ all_steps
+AllStepsLaw = (options : Option ScheduleOptions) (m : FileMap) (scheduled : ScheduledSteps)
+    → IsScheduled options m (Some scheduled) → scheduled.steps ≡ all_steps
     → steps_of scheduled.schedule.stages ≤ scheduled.steps
 
 -- ---- simulate
@@ -217,7 +235,8 @@ SimulateLedgerLaw = (s : SimulateRequest) (m : FileMap) (bytes : List ℕ) → H
 -- Ledger is due, with any reason, exactly if the bytes are not the file of a ledger that another ledger may follow.
 abbrev pub SimulateNoLedgerLaw : Type 0
 SimulateNoLedgerLaw = (s : SimulateRequest) (m : FileMap) (bytes : List ℕ) → HasLedgerFile s.ledger m bytes
-    → ((why : LedgerWhy) × (at : ℕ) × (due_of_simulate s m ≡ status.Ledger why at)) ↔ (¬ ((header : Header) × (entries : LedgerMap) × IsFileOf true bytes header entries))
+    → ((why : LedgerWhy) × (at : ℕ) × (due_of_simulate s m ≡ status.Ledger why at))
+    ↔ (¬ ((header : Header) × (entries : LedgerMap) × IsFileOf true bytes header entries))
 
 -- Verdicts is due exactly if the bytes are refused, at that offset.
 abbrev pub SimulateVerdictsLaw : Type 0
@@ -226,7 +245,8 @@ SimulateVerdictsLaw = (s : SimulateRequest) (m : FileMap) (bytes : List ℕ) →
 
 -- Malformed is due exactly if the bytes spell no envelope, with the offset and the reason of their refusal.
 abbrev pub SimulateMalformedLaw : Type 0
-SimulateMalformedLaw = (s : SimulateRequest) (m : FileMap) (bytes : List ℕ) → HasInputs s.ledger s.verdicts s.tx s.base64 m bytes → (at : ℕ) (why : Why)
+SimulateMalformedLaw = (s : SimulateRequest) (m : FileMap) (bytes : List ℕ) → HasInputs s.ledger s.verdicts s.tx s.base64 m bytes
+    → (at : ℕ) (why : Why)
     → (due_of_simulate s m ≡ status.Malformed at why) ↔ Refuses envelope_format bytes at why
 
 -- Done is due exactly if they spell an envelope, whatever the result of its transaction.
@@ -240,19 +260,22 @@ found s simulation = record { stores = job (file 3 s.out) (simulation_bytes simu
 
 -- These are stored and printed for the envelope over the ledger.
 abbrev pub SimulateLaw : Type 0
-SimulateLaw = (s : SimulateRequest) (m : FileMap) (header : Header) (entries : LedgerMap) (verdicts : Verdicts) (envelope : Envelope)
+SimulateLaw =
+    (s : SimulateRequest) (m : FileMap) (header : Header) (entries : LedgerMap) (verdicts : Verdicts) (envelope : Envelope)
     → AreFilesOf s.ledger s.verdicts m header entries verdicts → IsSpelledIn envelope_format envelope s.tx s.base64 m
     → outcome_of (Simulate s) m ≡ Ok (found s (simulated (running_header header s.close_time) verdicts entries envelope))
 
--- What is stored is what is enforced. Take any map that agrees with the ledger on the footprint. The stored result and success preimage are those that
--- the envelope with this footprint has there.
+-- What is stored is what is enforced. Take any map that agrees with the ledger on the footprint. The stored result and success
+-- preimage are those that the envelope with this footprint has there.
 abbrev pub SimulateEnforcedLaw : Type 0
-SimulateEnforcedLaw = (s : SimulateRequest) (m : FileMap) (header : Header) (entries other : LedgerMap) (verdicts : Verdicts) (envelope : Envelope)
+SimulateEnforcedLaw =
+    (s : SimulateRequest) (m : FileMap) (header : Header) (entries other : LedgerMap) (verdicts : Verdicts) (envelope : Envelope)
     → AreFilesOf s.ledger s.verdicts m header entries verdicts → IsSpelledIn envelope_format envelope s.tx s.base64 m
     → (let running = running_header header s.close_time in
     let simulation = simulated running verdicts entries envelope in
     AgreeOn (declares simulation.envelope) entries other
-    → outcome_of (Simulate s) m ≡ Ok (found s (record simulation { effect = enforced running verdicts other simulation.envelope })))
+    → outcome_of (Simulate s) m
+    ≡ Ok (found s (record simulation { effect = enforced running verdicts other simulation.envelope })))
 
 -- ---- show and vet
 
@@ -269,7 +292,8 @@ due_of_show s m = due (Some (Show s)) m
 
 -- For a shown file of this kind, Malformed is due exactly if the bytes are refused, with that offset and that reason.
 abbrev pub ShownMalformed : ShowKind → {A : Type 0} → Format A → Type 0
-ShownMalformed kind F = (s : ShowRequest) (m : FileMap) (bytes : List ℕ) → s.kind ≡ kind → HasShown s m bytes → (at : ℕ) (why : Why)
+ShownMalformed kind F =
+    (s : ShowRequest) (m : FileMap) (bytes : List ℕ) → s.kind ≡ kind → HasShown s m bytes → (at : ℕ) (why : Why)
     → (due_of_show s m ≡ status.Malformed at why) ↔ Refuses F bytes at why
 
 -- Done is due exactly if they spell one.
@@ -307,7 +331,8 @@ ValueDoneLaw = ShownDone kinds.Value scval_format
 
 -- `vet` reports the sizes of the module that the bytes encode, or its first flaw.
 abbrev pub VetLaw : Type 0
-VetLaw = (v : VetRequest) (m : FileMap) (bytes : List ℕ) (verdict : Result Sizes Flaw) → content_of m v.module_file ≡ Ok bytes → IsVerdict bytes verdict
+VetLaw = (v : VetRequest) (m : FileMap) (bytes : List ℕ) (verdict : Result Sizes Flaw) → content_of m v.module_file ≡ Ok bytes
+    → IsVerdict bytes verdict
     → outcome_of (Vet v) m ≡ (as_vetted verdict >>= λ line. Ok (only_said line))
 
 -- ---- migrate
@@ -329,7 +354,8 @@ MigrateDoneLaw = (g : MigrateRequest) (m : FileMap) (bytes : List ℕ) → HasMi
 
 -- The file of a ledger is stored for the ledger of which the bytes are the file.
 abbrev pub MigrateLaw : Type 0
-MigrateLaw = (g : MigrateRequest) (m : FileMap) (bytes : List ℕ) (header : Header) (entries : LedgerMap) → content_of m g.ledger ≡ Ok bytes → IsFileOf false bytes header entries
+MigrateLaw = (g : MigrateRequest) (m : FileMap) (bytes : List ℕ) (header : Header) (entries : LedgerMap)
+    → content_of m g.ledger ≡ Ok bytes → IsFileOf false bytes header entries
     → outcome_of (Migrate g) m ≡ Ok (migrated (file 1 g.ledger_out) (header, entries))
 
 -- ---- gen

@@ -9,7 +9,9 @@ use Rattle.soroban_top.specs.Steps.{status_of}
 use Rattle.ledger_spec.specs.declared.LedgerWhy.{LedgerWhy}
 use Rattle.ledger_spec.specs.declared.LedgerWhy.TheVariants as why
 use Rattle.soroban_top.specs.declared.status.Status.{Status}
-use Rattle.soroban_top.specs.declared.status.Status.TheVariants.{Done, Usage, Fault, TooLong, Ledger, Verdicts, Malformed, NotBase64, Conflict, Schedule, Incomplete, NotAModule, Ill, Unlinked, NoMemory}
+use Rattle.soroban_top.specs.declared.status.Status.TheVariants.{Done, Usage, Fault, TooLong, Ledger, Verdicts, Malformed}
+use Rattle.soroban_top.specs.declared.status.Status.TheVariants.{NotBase64, Conflict, Schedule, Incomplete, NotAModule, Ill}
+use Rattle.soroban_top.specs.declared.status.Status.TheVariants.{Unlinked, NoMemory}
 use Rattle.xdr_spec.specs.declared.Why.{Why}
 use Rattle.xdr_spec.specs.declared.Why.TheVariants.{End, Padding, Boolean, Tag, Limit, Depth, Trailing}
 
@@ -40,7 +42,8 @@ ill_line (Some func) = codes "ill typed: function " ++ decimal func ++ codes "\n
 -- the line of a conflict: its stage, its clusters, and the XDR bytes of the key in hex
 abbrev pub conflict_line : ℕ → ℕ → ℕ → List ℕ → List ℕ
 conflict_line stage a b key =
-    codes "conflict: stage " ++ decimal stage ++ codes ", clusters " ++ decimal a ++ codes " and " ++ decimal b ++ codes ", key " ++ encode_lower key ++ codes "\n"
+    codes "conflict: stage " ++ decimal stage ++ codes ", clusters " ++ decimal a ++ codes " and " ++ decimal b ++ codes ", key "
+    ++ encode_lower key ++ codes "\n"
 
 -- the line of a status, if the command has no lines of its own
 abbrev pub line_of : Status → List ℕ

@@ -38,7 +38,8 @@ only_said lines = record { stores = []; says = lines }
 
 -- the outputs of an envelope over a ledger, with these verdicts, at a close time
 unfoldable pub simulation_of : Header × LedgerMap → Verdicts → Envelope → ℕ → SimulationOutputs
-simulation_of ledger verdicts envelope close_time = simulation_outputs (running_header ledger.0 close_time) verdicts ledger.1 envelope
+simulation_of ledger verdicts envelope close_time =
+    simulation_outputs (running_header ledger.0 close_time) verdicts ledger.1 envelope
 
 -- The outcome of a command: each file is checked before the next is read. A set is run only if none of its stages has a conflict,
 -- and if the schedule is complete that is given for it.

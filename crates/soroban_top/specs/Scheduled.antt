@@ -55,8 +55,8 @@ unless_incomplete (Some stage) = Err (status.Incomplete stage)
 unfoldable pub complete_for : Schedule → TxSet → Result (Unit {0}) Status
 complete_for schedule set = unless_incomplete (first_incomplete (stages_in set) schedule.stages)
 
--- No stage of the set has a conflict, and the schedule is complete, if one is given. Otherwise it is the status of the first conflict,
--- or else that of the first stage for which the schedule is not complete.
+-- No stage of the set has a conflict, and the schedule is complete, if one is given. Otherwise it is the status of the first
+-- conflict, or else that of the first stage for which the schedule is not complete.
 abbrev pub may_run : Option ScheduledSteps → TxSet → Result (Unit {0}) Status
 may_run None set = free_of_conflict set
 may_run (Some scheduled) set = do

@@ -43,13 +43,12 @@ pub fn apply<'a, R: Threads + Sync, F: Files, G: Gate + Sync>(
     let set = read_set(alloc, files, SET, &request.set, request.base64)?;
     let scheduled = read_scheduled(alloc, files, &request.schedule)?;
     let run = Run {
-        set: &set,
         scheduled: &scheduled,
         close_time: request.close_time,
         verdicts: &verdicts,
         workers: request.workers as usize,
     };
-    let outputs = make_outputs(rt, alloc, ledger, &run, gate)?;
+    let outputs = make_outputs(rt, alloc, ledger, set, &run, gate)?;
     let product = product_of(alloc, request, outputs)?;
     Ok(product)
 }

@@ -2,7 +2,8 @@
 
 ghost use Rattle.std.specs.Prelude.{◌≡◌, ◌⊎◌, ◌≤◌, ◌++◌, IfOk};
 ghost use Rattle.edge_io.specs.Counts.{OnFailed, Rose};
-ghost use Rattle.soroban_top.specs.Lines.{Finishes, HasSayCause, IsStatusAfter, SaysLines, conflict_line, ill_line, line_of, name_of, number_of};
+ghost use Rattle.soroban_top.specs.Lines.{Finishes, HasSayCause, IsStatusAfter, SaysLines, conflict_line, ill_line, line_of};
+ghost use Rattle.soroban_top.specs.Lines.{name_of, number_of};
 ghost use Rattle.soroban_top.specs.Steps.{status_of, viewed};
 
 use crate::Status;
@@ -13,8 +14,8 @@ use std::alloc::{AllocError, Global};
 use text_lines::{push_hex, push_number};
 use xdr_spec::Why;
 
-/// Prints the lines of a command: its own lines if it is done, otherwise the line of its status. Returns the final status, which is
-/// that of the failure if the lines could not be printed.
+/// Prints the lines of a command: its own lines if it is done, otherwise the line of its status. Returns the final status, which
+/// is that of the failure if the lines could not be printed.
 pub fn finish<S: Say>(alloc: Global, came_to: Result<Vec<u8>, Status>, say: &mut S) -> Status
     ensures said { Finishes (viewed (λ v. v.items) came_to) result (S.text say.old) (S.text say.new) }
     ensures cause { HasSayCause (viewed (λ v. v.items) came_to) (S.faults say.old) (S.faults say.new) result }

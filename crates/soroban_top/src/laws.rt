@@ -1,13 +1,18 @@
 //! The outcomes of the commands, in terms of the spellings of their files' bytes.
 
 ghost use Rattle.soroban_top.specs.ConflictLaws.{FirstConflictLaw, NoConflictLaw};
-ghost use Rattle.soroban_top.specs.Laws.{AllStepsLaw, AppliedLaw, ConflictLaw, DoneLaw, EnvelopeDoneLaw, EnvelopeMalformedLaw, GenLaw, IncompleteLaw, LedgerDoneLaw, LedgerLaw, LedgerShownLaw, MalformedLaw, MigrateDoneLaw, MigrateLaw, MigrateRefusedLaw, NoLedgerLaw, ScheduleLaw, SetDoneLaw, SetMalformedLaw, SimulateDoneLaw, SimulateEnforcedLaw, SimulateLaw, SimulateLedgerLaw, SimulateMalformedLaw, SimulateNoLedgerLaw, SimulateVerdictsLaw, StoppedLaw, ValueDoneLaw, ValueMalformedLaw, VerdictsLaw, VetLaw, WholeLaw};
+ghost use Rattle.soroban_top.specs.Laws.{AllStepsLaw, AppliedLaw, ConflictLaw, DoneLaw, EnvelopeDoneLaw, EnvelopeMalformedLaw};
+ghost use Rattle.soroban_top.specs.Laws.{GenLaw, IncompleteLaw, LedgerDoneLaw, LedgerLaw, LedgerShownLaw, MalformedLaw};
+ghost use Rattle.soroban_top.specs.Laws.{MigrateDoneLaw, MigrateLaw, MigrateRefusedLaw, NoLedgerLaw, ScheduleLaw, SetDoneLaw};
+ghost use Rattle.soroban_top.specs.Laws.{SetMalformedLaw, SimulateDoneLaw, SimulateEnforcedLaw, SimulateLaw, SimulateLedgerLaw};
+ghost use Rattle.soroban_top.specs.Laws.{SimulateMalformedLaw, SimulateNoLedgerLaw, SimulateVerdictsLaw, StoppedLaw};
+ghost use Rattle.soroban_top.specs.Laws.{ValueDoneLaw, ValueMalformedLaw, VerdictsLaw, VetLaw, WholeLaw};
 
 /// `apply`: Ledger is due exactly if the bytes are not the file of a ledger, with reason Xdr if they are refused. If that file is
-/// accepted, Verdicts is due exactly if the verdicts' bytes are refused. If these are accepted, too, Malformed is due exactly if the
-/// set's bytes are refused. If the schedule's file is accepted or none is given, Conflict is due exactly if they spell a set with this
-/// first conflict, and Done exactly if they spell a set without a conflict, for which the schedule is complete, if one is given. Then
-/// its outputs over the ledger are stored.
+/// accepted, Verdicts is due exactly if the verdicts' bytes are refused. If these are accepted, too, Malformed is due exactly if
+/// the set's bytes are refused. If the schedule's file is accepted or none is given, Conflict is due exactly if they spell a set
+/// with this first conflict, and Done exactly if they spell a set without a conflict, for which the schedule is complete, if one
+/// is given. Then its outputs over the ledger are stored.
 pub fn apply_laws()
     ensures ledger { LedgerLaw }
     ensures no_ledger { NoLedgerLaw }
@@ -18,10 +23,10 @@ pub fn apply_laws()
     ensures applied { AppliedLaw }
 {}
 
-/// `apply` by a schedule: Schedule is due exactly if the schedule's bytes are refused, after the set's and before conflicts are looked
-/// for. Incomplete is due exactly if the set has no conflict, and this is the least index at which the schedule is not complete.
-/// Otherwise the outputs of its first steps are stored; they are those of the set if all its steps run, as they do if their number is
-/// not given.
+/// `apply` by a schedule: Schedule is due exactly if the schedule's bytes are refused, after the set's and before conflicts are
+/// looked for. Incomplete is due exactly if the set has no conflict, and this is the least index at which the schedule is not
+/// complete. Otherwise the outputs of its first steps are stored; they are those of the set if all its steps run, as they do if
+/// their number is not given.
 pub fn schedule_laws()
     ensures schedule { ScheduleLaw }
     ensures incomplete { IncompleteLaw }
@@ -50,8 +55,9 @@ pub fn simulate_laws()
     ensures enforced { SimulateEnforcedLaw }
 {}
 
-/// `show`: for a set, an envelope or a value, Malformed is due exactly if the bytes are refused, and Done exactly if they spell one.
-/// For a ledger, Ledger with reason Xdr is due exactly if the bytes are refused, and Done exactly if they are the file of a ledger.
+/// `show`: for a set, an envelope or a value, Malformed is due exactly if the bytes are refused, and Done exactly if they spell
+/// one. For a ledger, Ledger with reason Xdr is due exactly if the bytes are refused, and Done exactly if they are the file of a
+/// ledger.
 pub fn show_laws()
     ensures ledger_refused { LedgerShownLaw }
     ensures ledger_done { LedgerDoneLaw }

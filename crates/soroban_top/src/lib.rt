@@ -77,8 +77,8 @@ pub fn soroban<R: Threads + Sync, F: Files, S: Say, G: Gate + Sync>(
         (F.faults files.old) (F.faults files.new) (S.faults say.old) (S.faults say.new) →
         (result ≡ due (asked_of words.now) m) ⊎ (result ≡ Status.NoMemory)) }
 
-    // With steady files and a steady output, the status is the one that is due, unless memory ran out. For a missing file that is a
-    // fault of its name.
+    // With steady files and a steady output, the status is the one that is due, unless memory ran out. For a missing file that is
+    // a fault of its name.
     ensures steady_exact { F.steady files.old → S.steady say.old → IfSome (F.contents files.old) (λ m.
         (result ≡ due (asked_of words.now) m) ⊎ (result ≡ Status.NoMemory)) }
 
@@ -88,8 +88,8 @@ pub fn soroban<R: Threads + Sync, F: Files, S: Say, G: Gate + Sync>(
     ensures refused { OnRefused result
         ((F.contents files.new ≡ F.contents files.old) × (S.text say.new ≡ extended (S.text say.old) (line_of result))) }
 
-    // With steady files no count rises if no fault is due, or if each file that is read exists. The count of a steady output never
-    // rises.
+    // With steady files no count rises if no fault is due, or if each file that is read exists. The count of a steady output
+    // never rises.
     ensures steady { F.steady files.old → IfSome (F.contents files.old) (λ m. UnlessFault (due (asked_of words.now) m)
         (SameCounts (F.faults files.old) (F.faults files.new))) }
     ensures present { F.steady files.old → IfSome (F.contents files.old) (λ m. AreThere (reads_named (asked_of words.now)) m →

@@ -1,30 +1,15 @@
 //! The lines of `apply`.
 
-ghost use Rattle.std.specs.Prelude.{◌≡◌, ◌≤◌, ◌++◌, length, OnOk, IfOk};
-ghost use Rattle.apply_spec.specs.Outputs.{count_line, hash_line, has_succeeded as has_succeeded_in, outputs_with, successes};
+ghost use Rattle.std.specs.Prelude.{◌≡◌, ◌≤◌, ◌++◌, List, ℕ, length, OnOk, IfOk};
+ghost use Rattle.sha2.specs.Sha256.{sha256};
+ghost use Rattle.apply_spec.specs.Outputs.{count_line, hash_line, has_succeeded as has_succeeded_in, successes};
 
-use sha2::{Digest, Sha256};
 use std::alloc::{AllocError, Global};
 use text_lines::{push_hex, push_number};
 use tx_results::{EnvelopeOutcome, TransactionOutcome, TransactionResultPair};
 
-/// Makes the line that counts the transactions of ledger `seq`, and the lines with the hashes of the report and the ledger's file.
-pub fn lines(
-    alloc: Global,
-    seq: u32,
-    results: &[TransactionResultPair],
-    report: &[u8],
-    ledger: &[u8],
-) -> Result<Vec<u8>, AllocError>
-    ensures { IfOk result (λ v. v.items ≡ (outputs_with seq results.now report.now ledger.now).lines) }
-{
-    let mut lines = count_line(alloc, seq, results)?;
-    push_hash(alloc, &mut lines, b"report ", report)?;
-    push_hash(alloc, &mut lines, b"ledger ", ledger)?;
-    Ok(lines)
-}
-
-fn count_line(
+/// Makes the line that counts the transactions of ledger `seq`.
+pub fn count_line(
     alloc: Global,
     seq: u32,
     results: &[TransactionResultPair],
@@ -60,16 +45,17 @@ fn has_succeeded(outcome: &EnvelopeOutcome) -> bool
     )
 }
 
-/// Appends a line: a name, and the SHA-256 of bytes in hex.
-fn push_hash(
+/// Appends a line: a name, and a hash in hex.
+pub fn push_hash(
     alloc: Global,
     lines: &mut Vec<u8>,
     name: &[u8],
-    bytes: &[u8],
+    hash: &[u8; 32],
 ) -> Result<(), AllocError>
-    ensures { OnOk result (lines.new.items ≡ lines.old.items ++ hash_line name.now bytes.now) }
+    ensures { OnOk result ((bytes : List ℕ) → hash.now ≡ sha256 bytes
+        → lines.new.items ≡ lines.old.items ++ hash_line name.now bytes) }
 {
     lines.extend_from_slice(name)?;
-    push_hex(alloc, lines, &Sha256::digest(bytes), b"\n")?;
+    push_hex(alloc, lines, hash, b"\n")?;
     Ok(())
 }

@@ -44,8 +44,8 @@ pub enum Status {
     NotBase64 {
         name: Word,
     },
-    /// These two clusters of a stage conflict on this key, and the set has no conflict before that: by the index of the stage, then
-    /// by those of the clusters, then by the key's XDR bytes.
+    /// These two clusters of a stage conflict on this key, and the set has no conflict before that: by the index of the stage,
+    /// then by those of the clusters, then by the key's XDR bytes.
     Conflict {
         stage: u64,
         a: u64,
@@ -56,15 +56,15 @@ pub enum Status {
     Schedule {
         at: u64,
     },
-    /// The schedule is not complete for the set: the least index at which a stage has no list, a list has no stage, or a list is not
-    /// complete.
+    /// The schedule is not complete for the set: the least index at which a stage has no list, a list has no stage, or a list is
+    /// not complete.
     Incomplete {
         stage: u64,
     },
     /// The bytes are no WebAssembly module.
     NotAModule,
-    /// The module is ill typed: the index of its first ill-typed function, with imports counted, or none if a rule outside function
-    /// bodies is broken.
+    /// The module is ill typed: the index of its first ill-typed function, with imports counted, or none if a rule outside
+    /// function bodies is broken.
     Ill {
         func: Option<u32>,
     },

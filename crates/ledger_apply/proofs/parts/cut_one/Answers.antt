@@ -2,7 +2,7 @@ use Rattle.std.proofs.Common.{◌∷◌, [], ap, ◌∙◌}
 use Rattle.std.specs.FinMap.{get, retain_keys}
 use Rattle.stage_runs.specs.Maps.{LedgerMap, laid_over}
 use Rattle.stage_runs.specs.Runs.{writes_in}
-use Rattle.ledger_apply.proofs.Moved.{over_empty, kept_owned, passes}
+use Rattle.ledger_apply.proofs.Moved.{over_empty, kept_owned}
 use Rattle.ledger_apply.proofs.parts.cut_one.Goals as goal
 
 pub returns-clause-own : goal.returns-clause-own
@@ -16,6 +16,5 @@ returns-clause-cut c =
     let m = retain_keys c.args.entries.now (writes_in txs) in
     record {
       owned = λ q w. ap (λ (n : LedgerMap). get n q) (c.in_ok-move_written.ensures.to ∙ ap (laid_over m) c.new-own.ensures ∙ over_empty m) ∙ kept_owned c.args.entries.now txs q w;
-      reads = λ q d w. c.in_ok-read_only.ensures q ∙ passes txs c.requires q d w;
       fits = c.requires;
     }

@@ -5,21 +5,21 @@ use Rattle.soroban_top.proofs.Made.{conflict_is, free_is, new_header_fits, outpu
 use Rattle.soroban_top.proofs.outputs.by_workers.Goals as goal
 
 pub written-requires-clause-header : goal.written-requires-clause-header
-written-requires-clause-header g c =
+written-requires-clause-header g c κs within =
     rw c.in-Ok.ensures.header (new_header_fits c.args.ledger.header c.args.run.now.close_time c.requires.header c.requires.next (omega arith))
 
 pub returns-in-Ok-clause-free : goal.returns-in-Ok-clause-free
-returns-in-Ok-clause-free g c = free_is c.args.run.now.set.now c.in-Ok.ensures.free
+returns-in-Ok-clause-free g c = free_is c.args.set c.in-Ok.ensures.free
 
 pub returns-in-Ok-clause-outputs : goal.returns-in-Ok-clause-outputs
 unfolding outputs_of
 returns-in-Ok-clause-outputs g c =
     let run = c.args.run.now in
     c.in_ok-outputs-in-Ok.ensures
-    ∙ outputs_applied (new_header c.args.ledger.header run.close_time) c.in-Ok.applied.ledger.header (run_set c.args.ledger.header run.verdicts.now c.args.ledger.entries run.set.now run.close_time) c.in-Ok.applied.ledger.entries
+    ∙ outputs_applied (new_header c.args.ledger.header run.close_time) c.in-Ok.applied.ledger.header (run_set c.args.ledger.header run.verdicts.now c.args.ledger.entries c.args.set run.close_time) c.in-Ok.applied.ledger.entries
     c.in-Ok.applied.results.pairs c.in-Ok.applied.successes c.in-Ok.ensures.header c.in-Ok.ensures.entries c.in-Ok.ensures.results c.in-Ok.ensures.successes
 
 pub returns-in-Err-Conflict-clause-refused : goal.returns-in-Err-Conflict-clause-refused
 returns-in-Err-Conflict-clause-refused g c =
     let refused = rw c.in-Err-Conflict.field-0-is at c.in-Err-Conflict.ensures.conflict in
-    rw c.in_ok-key-in-Err-Conflict.ensures (conflict_is c.args.run.now.set.now c.in-Err-Conflict.stage c.in-Err-Conflict.found.a c.in-Err-Conflict.found.b _ refused.0)
+    rw c.in_ok-key-in-Err-Conflict.ensures (conflict_is c.args.set c.in-Err-Conflict.stage c.in-Err-Conflict.found.a c.in-Err-Conflict.found.b _ refused.0)
