@@ -1,0 +1,4 @@
+mod Characters
+mod Ranges
+mod Reading
+mod Small
