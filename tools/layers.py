@@ -1,10 +1,14 @@
 #!/usr/bin/env python3
-"""Keeps the picture of the crates in docs/ARCHITECTURE.md in step with crates.txt.
+"""Keeps crates.txt in step with what crates name, and the picture of the crates in docs/ARCHITECTURE.md with crates.txt.
 
 python3 tools/layers.py            writes the picture anew
-python3 tools/layers.py --check    says whether the picture is what this writes; the status is 1 if it is not
+python3 tools/layers.py --check    says whether the picture is what this writes, and whether each crate stands in crates.txt with
+                                   exactly the libraries that its files name; the status is 1 if not
+
+`rt` lists the crates below a crate once for each way to them, so a crate that stands on others through a third one leaves them out.
 """
 import pathlib
+import re
 import sys
 
 TOP = pathlib.Path(__file__).resolve().parent.parent
@@ -20,6 +24,31 @@ def crates():
         if colon and not name.startswith("#"):
             listed[name.strip()] = needs.split()
     return {name: ([need for need in needs if need in listed], [need for need in needs if need not in listed]) for name, needs in listed.items()}
+
+
+def named(name):
+    """Returns the words of a crate's files that can be names of libraries, with those of its tests and without its edits."""
+    words = set()
+    for folder in ("src", "specs", "proofs", "tests"):
+        for file in (TOP / "crates" / name / folder).glob("**/*"):
+            if file.suffix in (".rt", ".antt"):
+                text = file.read_text(encoding="utf-8")
+                words.update(re.findall(r"\bRattle\.(\w+)", text), re.findall(r"\b(\w+)::", text) if file.suffix == ".rt" else ())
+    return words
+
+
+def faults():
+    """Returns a line for each crate that stands in crates.txt with other libraries than its files name."""
+    listed = crates()
+    libraries = set(listed).union(*(kit for _, kit in listed.values()))
+    lines = []
+    for name, (own, kit) in listed.items():
+        words = named(name) & libraries - {name}
+        for each in sorted(words - {*own, *kit}):
+            lines.append(f"{name} names {each}, which crates.txt leaves out")
+        for each in sorted({*own, *kit} - words):
+            lines.append(f"{name} stands on {each} in crates.txt, and names it nowhere")
+    return lines
 
 
 def below(name, needs, known):
@@ -62,8 +91,11 @@ def main():
     start, end = page.index(START) + len(START), page.index(END)
     anew = page[:start] + picture() + page[end:]
     if sys.argv[1:] == ["--check"]:
+        wrong = faults()
         if page != anew:
-            sys.exit("docs/ARCHITECTURE.md is not in step with crates.txt: run tools/layers.py")
+            wrong.append("docs/ARCHITECTURE.md is not in step with crates.txt: run tools/layers.py")
+        if wrong:
+            sys.exit("\n".join(wrong))
     elif sys.argv[1:]:
         sys.exit(__doc__)
     else:
