@@ -1,8 +1,10 @@
 -- The checks of a transaction before it runs (own, after CAP-0021, CAP-0046-05 and CAP-0063).
-use Rattle.std.specs.Prelude.{ℕ, ◌==◌, Bool, true, false, not, ◌||◌, ◌&&◌, List, [], ◌∷◌, ◌++◌, length, Option, Some, None, nat_lt, nat_le, if◌then◌else◌}
+use Rattle.std.specs.Prelude.{ℕ, ◌==◌, Bool, true, false, not, ◌||◌, ◌&&◌, List, [], ◌∷◌, ◌++◌, length, Option, Some, None}
+use Rattle.std.specs.Prelude.{nat_lt, nat_le, if◌then◌else◌}
 use Rattle.std.specs.List.{list_all}
 use Rattle.ledger_types.specs.declared.key.LedgerKey.{LedgerKey}
-use Rattle.ledger_types.specs.declared.key.LedgerKey.TheVariants.{Account, Trustline, Offer, Data, ClaimableBalance, LiquidityPool, ContractData, ContractCode, Ttl}
+use Rattle.ledger_types.specs.declared.key.LedgerKey.TheVariants.{Account, Trustline, Offer, Data, ClaimableBalance}
+use Rattle.ledger_types.specs.declared.key.LedgerKey.TheVariants.{LiquidityPool, ContractData, ContractCode, Ttl}
 use Rattle.ledger_types.specs.declared.header.Header.{Header}
 use Rattle.tx_parts.specs.declared.bounds.TimeBounds.{TimeBounds}
 use Rattle.tx_parts.specs.declared.bounds.LedgerBounds.{LedgerBounds}
@@ -13,7 +15,8 @@ use Rattle.tx_xdr.specs.declared.transaction.Transaction.{Transaction}
 use Rattle.tx_xdr.specs.declared.transaction.TransactionExt.{TransactionExt}
 use Rattle.tx_xdr.specs.declared.transaction.TransactionExt.TheVariants as exts
 use Rattle.tx_results.specs.declared.results.TransactionOutcome.{TransactionOutcome}
-use Rattle.tx_results.specs.declared.results.TransactionOutcome.TheVariants.{TooEarly, TooLate, MissingOperation, Malformed, SorobanInvalid}
+use Rattle.tx_results.specs.declared.results.TransactionOutcome.TheVariants.{TooEarly, TooLate, MissingOperation, Malformed}
+use Rattle.tx_results.specs.declared.results.TransactionOutcome.TheVariants.{SorobanInvalid}
 use Rattle.stage_runs.specs.Transactions.{footprint_in}
 use Rattle.stage_runs.specs.Whole.{has_twice}
 use Rattle.call_spec.specs.World.{next_seq}
@@ -83,12 +86,14 @@ is_after_ledger n (Some bounds) = not (bounds.max_ledger == 0) && nat_le bounds.
 -- txTOO_EARLY: below the minimum time or the minimum ledger
 abbrev pub is_too_early : Header → Transaction → Bool
 is_too_early header tx =
-    is_before_time header.close_time (time_bounds_of tx.preconditions) || is_before_ledger (next_seq header) (ledger_bounds_of tx.preconditions)
+    is_before_time header.close_time (time_bounds_of tx.preconditions)
+    || is_before_ledger (next_seq header) (ledger_bounds_of tx.preconditions)
 
 -- txTOO_LATE: above the maximum time, or at the maximum ledger or above it
 abbrev pub is_too_late : Header → Transaction → Bool
 is_too_late header tx =
-    is_after_time header.close_time (time_bounds_of tx.preconditions) || is_after_ledger (next_seq header) (ledger_bounds_of tx.preconditions)
+    is_after_time header.close_time (time_bounds_of tx.preconditions)
+    || is_after_ledger (next_seq header) (ledger_bounds_of tx.preconditions)
 
 -- ---- the checks: the first that fails decides
 

@@ -1,6 +1,7 @@
 -- The results of transactions and fee bumps, their runs over a map of all entries, and what these runs may leave there (own,
 -- after CAP-0015, CAP-0046-05 and CAP-0046-12). What becomes of a call is defined in call_spec.
-use Rattle.std.specs.Prelude.{ℕ, pos, ◌+◌, Bool, true, false, ◌&&◌, List, [], ◌∷◌, Option, None, length, nat_lt, ◌==◌, if◌then◌else◌}
+use Rattle.std.specs.Prelude.{ℕ, pos, ◌+◌, Bool, true, false, ◌&&◌, List, [], ◌∷◌, Option, None, length, nat_lt, ◌==◌}
+use Rattle.std.specs.Prelude.{if◌then◌else◌}
 use Rattle.std.specs.List.{list_all, fold}
 use Rattle.std.specs.Option.{option_map, unwrap_or}
 use Rattle.budget_meter.specs.declared.budget.Used.{Used}
@@ -10,7 +11,8 @@ use Rattle.auth_types.specs.declared.auth_entry.AuthEntry.{AuthEntry}
 use Rattle.invoke_types.specs.declared.host_function.HostFunction.{HostFunction}
 use Rattle.invoke_types.specs.declared.success.SuccessPreimage.{SuccessPreimage}
 use Rattle.ledger_types.specs.declared.key.LedgerKey.{LedgerKey}
-use Rattle.ledger_types.specs.declared.key.LedgerKey.TheVariants.{Account, Trustline, Offer, Data, ClaimableBalance, LiquidityPool, ContractData, ContractCode, Ttl}
+use Rattle.ledger_types.specs.declared.key.LedgerKey.TheVariants.{Account, Trustline, Offer, Data, ClaimableBalance}
+use Rattle.ledger_types.specs.declared.key.LedgerKey.TheVariants.{LiquidityPool, ContractData, ContractCode, Ttl}
 use Rattle.ledger_types.specs.declared.header.Header.{Header}
 use Rattle.ledger_types.specs.declared.header.Settings.{Settings}
 use Rattle.ledger_types.specs.declared.verdicts.Verdicts.{Verdicts}
@@ -34,7 +36,8 @@ use Rattle.tx_results.specs.declared.operation.InnerResult.TheVariants.{Invoke, 
 use Rattle.tx_results.specs.declared.operation.OperationResult.{OperationResult}
 use Rattle.tx_results.specs.declared.operation.OperationResult.TheVariants.{Inner, NotSupported}
 use Rattle.tx_results.specs.declared.results.TransactionOutcome.{TransactionOutcome}
-use Rattle.tx_results.specs.declared.results.TransactionOutcome.TheVariants.{Success, Failed, TooEarly, TooLate, MissingOperation, Malformed, SorobanInvalid}
+use Rattle.tx_results.specs.declared.results.TransactionOutcome.TheVariants.{Success, Failed, TooEarly, TooLate, MissingOperation}
+use Rattle.tx_results.specs.declared.results.TransactionOutcome.TheVariants.{Malformed, SorobanInvalid}
 use Rattle.tx_results.specs.declared.results.InnerTransactionResultPair.{InnerTransactionResultPair}
 use Rattle.tx_results.specs.declared.results.TransactionResultPair.{TransactionResultPair}
 use Rattle.tx_results.specs.declared.results.EnvelopeOutcome.{EnvelopeOutcome}
@@ -143,7 +146,8 @@ all_lengthened n until entries keys = fold (lengthened n until) entries keys
 abbrev pub extended : Header → LedgerMap → Footprint → ℕ → Performed
 extended header entries footprint extend_to =
     if may_extend header.settings footprint extend_to then
-    unmetered (Success (Inner (Extend extends.Success) ∷ [])) (all_lengthened (next_seq header) (next_seq header + extend_to) entries footprint.read_only)
+    unmetered (Success (Inner (Extend extends.Success) ∷ []))
+    (all_lengthened (next_seq header) (next_seq header + extend_to) entries footprint.read_only)
     else failed entries (Inner (Extend extends.Malformed))
 
 -- ---- INVOKE_HOST_FUNCTION
@@ -154,7 +158,8 @@ outcome_of_call (invokes.Success preimage) = Success (Inner (Invoke (invokes.Suc
 outcome_of_call result = Failed (Inner (Invoke result) ∷ [])
 
 abbrev pub performed_call : Invoked → Performed
-performed_call end = record { outcome = outcome_of_call end.result; success = end.success; entries = end.entries; used = end.used }
+performed_call end =
+    record { outcome = outcome_of_call end.result; success = end.success; entries = end.entries; used = end.used }
 
 -- the account without the id of a muxed account
 abbrev pub account_of : MuxedAccount → AccountId
@@ -172,7 +177,8 @@ authority_of verdicts tx source auth = record { entries = auth; source = source_
 -- The call has the resources that the transaction declares. The checks reject a transaction without Soroban data.
 abbrev pub called : Header → Authority → LedgerMap → TransactionExt → HostFunction → Performed
 called header authority entries exts.None function = unmetered Malformed entries
-called header authority entries (exts.Soroban resources) function = performed_call (invoked header authority resources entries function)
+called header authority entries (exts.Soroban resources) function =
+    performed_call (invoked header authority resources entries function)
 
 -- ---- the run of a transaction, and its effect
 
@@ -186,7 +192,8 @@ performed header verdicts entries tx source (InvokeHostFunction host_function au
 -- the first operation; the checks reject a transaction without one
 abbrev pub first_performed : Header → Verdicts → LedgerMap → Transaction → List Operation → Performed
 first_performed header verdicts entries tx [] = unmetered MissingOperation entries
-first_performed header verdicts entries tx (operation ∷ rest) = performed header verdicts entries tx operation.source operation.body
+first_performed header verdicts entries tx (operation ∷ rest) =
+    performed header verdicts entries tx operation.source operation.body
 
 -- the run of an envelope, by that of its transaction
 abbrev pub judged : Header → Envelope → Performed → runs.JudgedRun
@@ -201,7 +208,8 @@ judged header envelope done = record {
 -- The run of an envelope over the whole map. A fee bump's inner transaction runs as if alone. Fees are not judged.
 abbrev pub whole : Header → Verdicts → runs.JudgedStep
 whole header verdicts entries envelope =
-    judged header envelope (first_performed header verdicts entries (transaction_in envelope) (transaction_in envelope).operations)
+    judged header envelope
+    (first_performed header verdicts entries (transaction_in envelope) (transaction_in envelope).operations)
 
 -- The effect of an envelope. If a check fails, it is the result alone. Otherwise it is what the run changes at the declared keys.
 abbrev pub enforced : Header → Verdicts → Step

@@ -49,15 +49,17 @@ ExtensionLaw = (header : Header) (verdicts : Verdicts) (entries : LedgerMap) (en
 
 -- ---- calls
 
--- The envelope's transaction passes its checks. Its only operation calls this host function with these authorisation entries and resources.
-pub record Invokes (header : Header) (envelope : Envelope) (resources : SorobanData) (operation : Operation) (function : HostFunction) (auth : List AuthEntry) : Type 0 where
+-- The envelope's transaction passes its checks. Its only operation calls this host function with these authorisation entries and
+-- resources.
+pub record Invokes (header : Header) (envelope : Envelope) (resources : SorobanData) (operation : Operation)
+    (function : HostFunction) (auth : List AuthEntry) : Type 0 where
   pub passes : refusal_of header (transaction_in envelope) ≡ None
   pub only : (transaction_in envelope).operations ≡ operation ∷ []
   pub calls : operation.body ≡ InvokeHostFunction function auth
   pub with_resources : (transaction_in envelope).ext ≡ exts.Soroban resources
 
--- The result, the success preimage and the sums are those of the call. Only after SUCCESS it has a change at each read-write key, and extensions at
--- read-only keys: of the entries that the call leaves with a longer life.
+-- The result, the success preimage and the sums are those of the call. Only after SUCCESS it has a change at each read-write key,
+-- and extensions at read-only keys: of the entries that the call leaves with a longer life.
 abbrev pub effect_of_call : Header → LedgerMap → Envelope → Invoked → Effect
 effect_of_call header entries envelope end = record {
   result = result_pair header.network_id envelope (outcome_of_call end.result);
@@ -67,11 +69,12 @@ effect_of_call header entries envelope end = record {
   used = end.used;
 }
 
--- Such an envelope has the effect of what becomes of the call. The authority is that of the operation: its entries, its source account or else the
--- transaction's, and the verdicts.
+-- Such an envelope has the effect of what becomes of the call. The authority is that of the operation: its entries, its source
+-- account or else the transaction's, and the verdicts.
 abbrev pub InvokeLaw : Type 0
 InvokeLaw = (header : Header) (verdicts : Verdicts) (entries : LedgerMap) (envelope : Envelope)
     → (resources : SorobanData) (operation : Operation) (function : HostFunction) (auth : List AuthEntry)
     → Invokes header envelope resources operation function auth
     → (let authority = authority_of verdicts (transaction_in envelope) operation.source auth in
-    enforced header verdicts entries envelope ≡ effect_of_call header entries envelope (invoked header authority resources entries function))
+    enforced header verdicts entries envelope
+    ≡ effect_of_call header entries envelope (invoked header authority resources entries function))

@@ -1,5 +1,6 @@
 -- The footprint that a run needs: the keys that it touches (own, after CAP-0046-05).
-use Rattle.std.specs.Prelude.{◌≡◌, Bool, true, false, not, ◌||◌, ◌&&◌, List, [], ◌∷◌, All, Option, Some, None, is_some, map, if◌then◌else◌}
+use Rattle.std.specs.Prelude.{◌≡◌, Bool, true, false, not, ◌||◌, ◌&&◌, List, [], ◌∷◌, All, Option, Some, None, is_some, map}
+use Rattle.std.specs.Prelude.{if◌then◌else◌}
 use Rattle.std.specs.declared.cmp.Ordering.{Ordering}
 use Rattle.std.specs.List.{filter, fold, list_any}
 use Rattle.std.specs.List.Sorted.{IsStrictlySortedBy}
@@ -81,7 +82,8 @@ abbrev pub first_key : List Access → Bytes → Option LedgerKey
 first_key [] bytes = None
 first_key (a ∷ older) bytes = option_or (first_key older bytes) (if bytes_eq bytes (key_bytes a.key) then Some a.key else None)
 
--- Each key is as its first access has it. For keys that fit their format this follows from their bytes, which no two of them share.
+-- Each key is as its first access has it. For keys that fit their format this follows from their bytes, which no two of them
+-- share.
 abbrev pub AreFirst : List Access → List LedgerKey → Type 0
 AreFirst trace keys = All (λ key. first_key trace (key_bytes key) ≡ Some key) keys
 
@@ -120,10 +122,11 @@ is_declared footprint bytes = has_bytes footprint.read_only bytes || has_bytes f
 -- the key is left out, or is read-only in place of read-write
 abbrev pub is_less_at : Footprint → Footprint → Bytes → Bool
 is_less_at smaller footprint bytes =
-    (is_declared footprint bytes && not (is_declared smaller bytes)) || (has_bytes footprint.read_write bytes && has_bytes smaller.read_only bytes)
+    (is_declared footprint bytes && not (is_declared smaller bytes))
+    || (has_bytes footprint.read_write bytes && has_bytes smaller.read_only bytes)
 
--- Every key of the smaller footprint is in the other one. No key is in the smaller one twice. Some key is left out, or is read-only in place of
--- read-write.
+-- Every key of the smaller footprint is in the other one. No key is in the smaller one twice. Some key is left out, or is
+-- read-only in place of read-write.
 pub record IsSmaller (smaller footprint : Footprint) : Type 0 where
   pub within : (bytes : Bytes) → is_declared smaller bytes ≡ true → is_declared footprint bytes ≡ true
   pub once : has_twice (declared smaller) ≡ false

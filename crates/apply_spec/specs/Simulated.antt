@@ -1,4 +1,5 @@
--- A transaction that is simulated: the footprint that its run needs, and its effect with that footprint (own, after CAP-0046-05 and CAP-0046-07).
+-- A transaction that is simulated: the footprint that its run needs, and its effect with that footprint (own, after CAP-0046-05
+-- and CAP-0046-07).
 use Rattle.std.specs.Prelude.{ℕ, ◌==◌, Bool, true, false, ◌&&◌, List, [], ◌∷◌, length, Option, Some, None, if◌then◌else◌}
 use Rattle.std.specs.List.{list_all}
 use Rattle.budget_meter.specs.declared.budget.Used.{Used}
@@ -39,7 +40,8 @@ tx_with footprint tx = record tx { ext = ext_with footprint tx.ext }
 
 -- the envelope whose transaction has this footprint, of a fee bump the inner one
 abbrev pub with_footprint : Footprint → Envelope → Envelope
-with_footprint footprint (envelopes.Transaction signed) = envelopes.Transaction (record signed { tx = tx_with footprint signed.tx })
+with_footprint footprint (envelopes.Transaction signed) =
+    envelopes.Transaction (record signed { tx = tx_with footprint signed.tx })
 with_footprint footprint (envelopes.FeeBump signed) = envelopes.FeeBump (record signed {
   fee_bump = record signed.fee_bump { inner = record signed.fee_bump.inner { tx = tx_with footprint signed.fee_bump.inner.tx } };
 })
@@ -75,7 +77,8 @@ body_needs header verdicts entries tx (exts.Soroban resources) source RestoreFoo
 -- the first operation; the checks reject a transaction without one
 abbrev pub first_needs : Header → Verdicts → LedgerMap → Transaction → List Operation → Needs
 first_needs header verdicts entries tx [] = needs_nothing
-first_needs header verdicts entries tx (operation ∷ rest) = body_needs header verdicts entries tx tx.ext operation.source operation.body
+first_needs header verdicts entries tx (operation ∷ rest) =
+    body_needs header verdicts entries tx tx.ext operation.source operation.body
 
 -- A transaction that a check rejects runs nothing. The footprint's own check is left out.
 abbrev pub unless_refused : Option TransactionOutcome → Needs → Needs
@@ -92,7 +95,8 @@ acts_on_footprint RestoreFootprint = true
 
 -- the only operation of a transaction with Soroban data is one of these
 abbrev pub keeps_footprint : Transaction → Bool
-keeps_footprint tx = is_soroban tx.ext && (length tx.operations == 1) && list_all (λ operation. acts_on_footprint operation.body) tx.operations
+keeps_footprint tx =
+    is_soroban tx.ext && (length tx.operations == 1) && list_all (λ operation. acts_on_footprint operation.body) tx.operations
 
 -- What a transaction needs. An operation on the declared footprint keeps it, whatever its result.
 abbrev pub needs : Header → Verdicts → LedgerMap → Transaction → Needs
@@ -102,8 +106,8 @@ needs header verdicts entries tx =
 
 -- ---- the simulated transaction
 
--- The footprint, the envelope with it, the effect of that envelope, and the sums of the whole run. These are not the effect's own if a test stops the
--- operation before it runs.
+-- The footprint, the envelope with it, the effect of that envelope, and the sums of the whole run. These are not the effect's own
+-- if a test stops the operation before it runs.
 pub record Simulated : Type 0 where
   pub footprint : Footprint
   pub envelope : Envelope
@@ -120,4 +124,5 @@ simulated_with header verdicts entries envelope n = record {
 
 -- An envelope over the entries of a ledger. The header is that of the ledger before, with the close time of the one that is made.
 abbrev pub simulated : Header → Verdicts → LedgerMap → Envelope → Simulated
-simulated header verdicts entries envelope = simulated_with header verdicts entries envelope (needs header verdicts entries (transaction_in envelope))
+simulated header verdicts entries envelope =
+    simulated_with header verdicts entries envelope (needs header verdicts entries (transaction_in envelope))

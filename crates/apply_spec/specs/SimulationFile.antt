@@ -22,7 +22,8 @@ use Rattle.tx_results.specs.declared.operation.InnerResult.TheVariants as inners
 use Rattle.tx_results.specs.declared.operation.OperationResult.{OperationResult}
 use Rattle.tx_results.specs.declared.operation.OperationResult.TheVariants as operations
 use Rattle.tx_results.specs.declared.results.TransactionOutcome.{TransactionOutcome}
-use Rattle.tx_results.specs.declared.results.TransactionOutcome.TheVariants.{Success, Failed, TooEarly, TooLate, MissingOperation, Malformed, SorobanInvalid}
+use Rattle.tx_results.specs.declared.results.TransactionOutcome.TheVariants.{Success, Failed, TooEarly, TooLate, MissingOperation}
+use Rattle.tx_results.specs.declared.results.TransactionOutcome.TheVariants.{Malformed, SorobanInvalid}
 use Rattle.tx_results.specs.declared.results.EnvelopeOutcome.{EnvelopeOutcome}
 use Rattle.tx_results.specs.declared.results.EnvelopeOutcome.TheVariants as outcomes
 use Rattle.stage_runs.specs.Maps.{LedgerMap}
@@ -41,7 +42,8 @@ data_of exts.None = record {
 }
 data_of (exts.Soroban resources) = resources
 
--- The Soroban data with the recorded footprint, the result, and a boolean that is 1 if an INVOKE_HOST_FUNCTION succeeded, and then its preimage.
+-- The Soroban data with the recorded footprint, the result, and a boolean that is 1 if an INVOKE_HOST_FUNCTION succeeded, and
+-- then its preimage.
 abbrev pub simulation_bytes : Simulated → List ℕ
 simulation_bytes s =
     soroban_format.spell (data_of (transaction_in s.envelope).ext)
@@ -97,16 +99,20 @@ operations_text _ = codes "-"
 
 -- `result TX OP`: of a fee bump the outer code and the inner operation's
 abbrev pub result_line : EnvelopeOutcome → List ℕ
-result_line outcome = codes "result " ++ (result_text outcome ++ (codes " " ++ (operations_text (outcome_in outcome) ++ codes "\n")))
+result_line outcome =
+    codes "result " ++ (result_text outcome ++ (codes " " ++ (operations_text (outcome_in outcome) ++ codes "\n")))
 
 -- `used I instructions, M memory`
 abbrev pub used_line : Used → List ℕ
-used_line used = codes "used " ++ (decimal used.instructions ++ (codes " instructions, " ++ (decimal used.memory ++ codes " memory\n")))
+used_line used =
+    codes "used " ++ (decimal used.instructions ++ (codes " instructions, " ++ (decimal used.memory ++ codes " memory\n")))
 
 -- `footprint R read-only, W read-write`
 abbrev pub footprint_line : Footprint → List ℕ
 footprint_line footprint =
-    codes "footprint " ++ (decimal (length footprint.read_only) ++ (codes " read-only, " ++ (decimal (length footprint.read_write) ++ codes " read-write\n")))
+    codes "footprint "
+    ++ (decimal (length footprint.read_only)
+    ++ (codes " read-only, " ++ (decimal (length footprint.read_write) ++ codes " read-write\n")))
 
 abbrev pub simulation_lines : Simulated → List ℕ
 simulation_lines s = result_line s.effect.result.result.outcome ++ (used_line s.used ++ footprint_line s.footprint)

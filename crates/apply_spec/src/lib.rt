@@ -20,8 +20,8 @@ pub fn call_is_exact()
     ensures { InvokeLaw }
 {}
 
-/// The recorded footprint of a run has the keys with a write as read-write, and the other touched keys as read-only. It allows the
-/// run, and no smaller footprint does.
+/// The recorded footprint of a run has the keys with a write as read-write, and the other touched keys as read-only. It allows
+/// the run, and no smaller footprint does.
 pub fn footprints_are_recorded()
     ensures recorded { RecordedLaw }
     ensures only { OnlyLaw }

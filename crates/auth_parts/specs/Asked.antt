@@ -1,4 +1,5 @@
--- How an authorisation entry is proved, up to the run of a contract's own function, and what is left then (own, after CAP-0046-11).
+-- How an authorisation entry is proved, up to the run of a contract's own function, and what is left then (own, after
+-- CAP-0046-11).
 use Rattle.std.specs.Prelude.{ℕ, List, length}
 use Rattle.sha2.specs.Sha256.{sha256}
 use Rattle.budget_meter.specs.declared.kind.Kind.TheVariants.{ComputeSha256Hash}
@@ -29,17 +30,20 @@ pub data Asked : Type 0 where
 -- ---- up to the contract's own function
 
 abbrev pub asks_address : Env → Hash → AddressCredentials → Invocation → ScAddress → Act Asked
-asks_address env payload signer root (addresses.Account account) = only_where (is_good env.authority.verdicts account.0 payload) DENIED (gives proved)
+asks_address env payload signer root (addresses.Account account) =
+    only_where (is_good env.authority.verdicts account.0 payload) DENIED (gives proved)
 asks_address env payload signer root (addresses.Contract contract) =
     let args = check_args payload signer root in denying (entering args (gives (by_contract contract args)))
 asks_address env payload signer root _ = fails DENIED
 
 -- the address judges the signature of this payload, whose charge comes first
 abbrev pub asks_payload : Env → List ℕ → AddressCredentials → Invocation → Act Asked
-asks_payload env payload signer root = paying ComputeSha256Hash (length payload) (asks_address env (hash_of (sha256 payload)) signer root signer.address)
+asks_payload env payload signer root =
+    paying ComputeSha256Hash (length payload) (asks_address env (hash_of (sha256 payload)) signer root signer.address)
 
 abbrev pub asks_signer : Env → Invocation → AddressCredentials → Act Asked
-asks_signer env root signer = after (uses_nonce env signer) (λ _. asks_payload env (signed_bytes env.header.network_id signer root) signer root)
+asks_signer env root signer =
+    after (uses_nonce env signer) (λ _. asks_payload env (signed_bytes env.header.network_id signer root) signer root)
 
 abbrev pub asks_by : Env → Invocation → Credentials → Act Asked
 asks_by env root SourceAccount = gives proved

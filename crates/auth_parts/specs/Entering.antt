@@ -22,7 +22,8 @@ Passes {A} enter before after = (act : Act A) (w : World) → w.meter ≡ before
 
 -- In each world with this budget, the tests before an act end so, with that budget then.
 abbrev pub Stops : {A : Type 0} → Failure → (Act A → Act A) → Meter → Meter → Type 0
-Stops {A} failure enter before after = (act : Act A) (w : World) → w.meter ≡ before → enter act w ≡ Bad failure (with_meter after w)
+Stops {A} failure enter before after =
+    (act : Act A) (w : World) → w.meter ≡ before → enter act w ≡ Bad failure (with_meter after w)
 
 -- A call makes the charges and tests before an act. Memory may run out at any time.
 abbrev pub Enters : {A : Type 0} → Result (Unit {0}) ValueErr → (Act A → Act A) → Meter → Meter → Type 0

@@ -5,7 +5,8 @@ ghost use Rattle.value_types.specs.Datum.{bytes, symbol, vec, items_of};
 ghost use Rattle.value_types.specs.Views.{datum, datums, datum_pair, datum_pairs};
 ghost use Rattle.auth_types.specs.Tree.{trees_of};
 ghost use Rattle.auth_types.specs.Views.{tree_of, forest_of};
-ghost use Rattle.call_spec.specs.Contexts.{context, executable_in, salt_in, arguments_in, context_of, contexts_of, all_contexts_of};
+ghost use Rattle.call_spec.specs.Contexts.{context, executable_in, salt_in, arguments_in, context_of, contexts_of};
+ghost use Rattle.call_spec.specs.Contexts.{all_contexts_of};
 
 use auth_types::Invocation;
 use invoke_types::{

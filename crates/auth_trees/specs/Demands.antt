@@ -1,5 +1,6 @@
 -- Which authorisation meets a demand (own, after CAP-0046-11).
-use Rattle.std.specs.Prelude.{◌≡◌, ℕ, suc, ◌&&◌, ◌||◌, List, [], ◌∷◌, ◌++◌, take, not, Bool, true, false, Option, Some, None, if◌then◌else◌}
+use Rattle.std.specs.Prelude.{◌≡◌, ℕ, suc, ◌&&◌, ◌||◌, List, [], ◌∷◌, ◌++◌, take, not, Bool, true, false, Option, Some, None}
+use Rattle.std.specs.Prelude.{if◌then◌else◌}
 use Rattle.std.specs.List.{slice_get}
 use Rattle.std.specs.Option.{option_and_then, option_map, option_or}
 use Rattle.std.specs.Coded.{Coded}
@@ -78,9 +79,11 @@ abbrev pub signer : AccountId → Credentials → ScAddress
 signer source credentials.SourceAccount = Account source
 signer source (credentials.Address address) = address.address
 
--- Whether an entry may meet demands for the address. An entry with a create from an asset, or of the contract of an asset, meets none.
+-- Whether an entry may meet demands for the address. An entry with a create from an asset, or of the contract of an asset, meets
+-- none.
 abbrev pub authorises : AccountId → ScAddress → AuthEntry → Bool
-authorises source address entry = not (has_asset (tree_of entry.root_invocation)) && same_address (signer source entry.credentials) address
+authorises source address entry =
+    not (has_asset (tree_of entry.root_invocation)) && same_address (signer source entry.credentials) address
 
 -- ---- the state
 
@@ -92,7 +95,8 @@ pub record Marked : Type 0 where
 
 -- ---- the choice of a node
 
--- The first result that a search gives over the items of a list. It is told each item and its index; the first item has the given index.
+-- The first result that a search gives over the items of a list. It is told each item and its index; the first item has the given
+-- index.
 abbrev pub first_from : {A B : Type 0} → (ℕ → A → Option B) → ℕ → List A → Option B
 first_from search_in index [] = None
 first_from search_in index (x ∷ xs) = option_or (search_in index x) (first_from search_in (suc index) xs)
@@ -100,18 +104,22 @@ first_from search_in index (x ∷ xs) = option_or (search_in index x) (first_fro
 -- a child of a node, if the child has no pair and has this function
 abbrev pub open_child : List Pair → ℕ → List ℕ → Function → ℕ → Tree → Option (List ℕ)
 open_child pairs entry parent function index child =
-    if not (is_paired pairs entry (parent ++ index ∷ [])) && same_function (function_of child) function then Some (parent ++ index ∷ []) else None
+    if not (is_paired pairs entry (parent ++ index ∷ [])) && same_function (function_of child) function
+    then Some (parent ++ index ∷ []) else None
 
 -- the first such child of a pair's node, in the entry with this root
 abbrev pub open_below : List Pair → Function → Tree → Pair → Option (List ℕ)
 open_below pairs function root pair =
-    option_and_then (λ tree. first_from (open_child pairs pair.entry pair.node function) 0 (children tree)) (node_at root pair.node)
+    option_and_then (λ tree. first_from (open_child pairs pair.entry pair.node function) 0 (children tree))
+    (node_at root pair.node)
 
--- In an entry of the address: the first such child of the deepest node whose path is a proper prefix of this path. No other node is looked at.
+-- In an entry of the address: the first such child of the deepest node whose path is a proper prefix of this path. No other node
+-- is looked at.
 abbrev pub by_child : Marked → List ℕ → ScAddress → Function → ℕ → AuthEntry → Option (ℕ × List ℕ)
 by_child s path address function index entry =
     if authorises s.source address entry
-    then option_map (λ place. (index, place)) (option_and_then (open_below s.pairs function (tree_of entry.root_invocation)) (deepest s.pairs path index))
+    then option_map (λ place. (index, place))
+    (option_and_then (open_below s.pairs function (tree_of entry.root_invocation)) (deepest s.pairs path index))
     else None
 
 -- in an entry of the address that has no pair: the root, if it has the function
@@ -120,7 +128,8 @@ by_root s address function index entry =
     if not (has_pair s.pairs index) && authorises s.source address entry && same_function entry.root_invocation.function function
     then Some (index, []) else None
 
--- the entry and the node that meet the demand, if any do: first a child in the entries in order, then a root in the entries in order
+-- the entry and the node that meet the demand, if any do: first a child in the entries in order, then a root in the entries in
+-- order
 abbrev pub chosen : Marked → List ℕ → ScAddress → Function → Option (ℕ × List ℕ)
 chosen s path address function =
     option_or (first_from (by_child s path address function) 0 s.entries) (first_from (by_root s address function) 0 s.entries)
@@ -148,8 +157,9 @@ abbrev pub choice_of : Option (ℕ × List ℕ) → Choice
 choice_of None = ByNothing
 choice_of (Some x) = ByNode x.0 x.1
 
--- What meets the demand for an address: the first of the direct caller, a child and a root. The path is that of the frame; for a create it has the
--- create's number behind it. The caller is the direct caller, if there is one; for a create it is the frame's own contract.
+-- What meets the demand for an address: the first of the direct caller, a child and a root. The path is that of the frame; for a
+-- create it has the create's number behind it. The caller is the direct caller, if there is one; for a create it is the frame's
+-- own contract.
 abbrev pub choice : Marked → List ℕ → Option ScAddress → ScAddress → Function → Choice
 choice s path caller address function =
     if not (may_authorise address) then ByNothing

@@ -1,5 +1,6 @@
 -- How the program finds the node that meets a demand. Nodes are given by their index in the list of all nodes (own).
-use Rattle.std.specs.Prelude.{◌≡◌, ℕ, suc, ◌+◌, ◌≤◌, ◌&&◌, List, [], ◌∷◌, length, map, nat_eq, nat_lt, slice_index, not, Bool, true, false, Option, Some, None, if◌then◌else◌}
+use Rattle.std.specs.Prelude.{◌≡◌, ℕ, suc, ◌+◌, ◌≤◌, ◌&&◌, List, [], ◌∷◌, length, map, nat_eq, nat_lt, slice_index, not, Bool}
+use Rattle.std.specs.Prelude.{true, false, Option, Some, None, if◌then◌else◌}
 use Rattle.std.specs.List.{list_any, slice_get, slice_index_or}
 use Rattle.std.specs.Option.{option_and_then, option_map}
 use Rattle.value_types.specs.declared.account_id.AccountId.{AccountId}
@@ -52,29 +53,35 @@ deepest_record records path entry = option_map known (deepest (map flat records)
 -- the nodes of trees in a row stand from this index on
 abbrev pub IsRowAt : List Kept → ℕ → List Tree → Type 0
 IsRowAt nodes id [] = Unit {0}
-IsRowAt nodes id (t ∷ ts) = (slice_get nodes id ≡ Some (kept_of t)) × (id + size t ≤ length nodes) × IsRowAt nodes (id + size t) ts
+IsRowAt nodes id (t ∷ ts) =
+    (slice_get nodes id ≡ Some (kept_of t)) × (id + size t ≤ length nodes) × IsRowAt nodes (id + size t) ts
 
 -- the first tree in a row that is not taken and has this function
 unfoldable pub first_open : List Bool → Function → ℕ → List Tree → Option ℕ
 first_open taken function id [] = None
 first_open taken function id (t ∷ ts) =
-    if not (slice_index_or taken id false) && same_function (function_of t) function then Some id else first_open taken function (id + size t) ts
+    if not (slice_index_or taken id false) && same_function (function_of t) function then Some id
+    else first_open taken function (id + size t) ts
 
 -- ---- the choice
 
 -- the first such child of the deepest node of an entry
 unfoldable pub open_below : List Kept → List Bool → Function → Deepest → Option ℕ
-open_below nodes taken function best = option_and_then (λ k. first_open taken function (suc best.node) (children k.tree)) (slice_get nodes best.node)
+open_below nodes taken function best =
+    option_and_then (λ k. first_open taken function (suc best.node) (children k.tree)) (slice_get nodes best.node)
 
-unfoldable pub child_in : List Kept → List Bool → List (Option Deepest) → ScAddress → Function → ℕ → Option ScAddress → Option Found
+unfoldable pub child_in : List Kept → List Bool → List (Option Deepest) → ScAddress → Function → ℕ → Option ScAddress
+    → Option Found
 child_in nodes taken deepest address function entry known =
     if is_known address known
-    then option_map (λ id. record { entry = entry; node = id; first = false }) (option_and_then (open_below nodes taken function) (slice_index_or deepest entry None))
+    then option_map (λ id. record { entry = entry; node = id; first = false })
+    (option_and_then (open_below nodes taken function) (slice_index_or deepest entry None))
     else None
 
 unfoldable pub root_in : List Bool → List (Option ScAddress) → ScAddress → Function → ℕ → ℕ → List AuthEntry → Option Found
 root_in used addresses address function entry id [] = None
 root_in used addresses address function entry id (e ∷ es) =
-    if not (slice_index_or used entry false) && is_known address (slice_index_or addresses entry None) && same_function e.root_invocation.function function
+    if not (slice_index_or used entry false) && is_known address (slice_index_or addresses entry None)
+    && same_function e.root_invocation.function function
     then Some (record { entry = entry; node = id; first = true })
     else root_in used addresses address function (suc entry) (id + size (tree_of e.root_invocation)) es

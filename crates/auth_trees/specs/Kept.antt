@@ -17,12 +17,14 @@ use Rattle.auth_trees.specs.Ready.{IsReady}
 
 abbrev pub pair_code : Coded Pair
 pair_code =
-    code_by (ℕ × (List ℕ × List ℕ)) (coded× coded_ℕ (coded× (coded_list coded_ℕ) (coded_list coded_ℕ))) (λ p. (p.entry, (p.node, p.path)))
+    code_by (ℕ × (List ℕ × List ℕ)) (coded× coded_ℕ (coded× (coded_list coded_ℕ) (coded_list coded_ℕ)))
+    (λ p. (p.entry, (p.node, p.path)))
     (λ q. record { entry = q.0; node = q.1.0; path = q.1.1 }) (λ _. refl)
 
 abbrev pub marked_code : Coded AuthEntry → Coded AccountId → Coded Marked
 marked_code e a =
-    code_by (List AuthEntry × (AccountId × List Pair)) (coded× (coded_list e) (coded× a (coded_list pair_code))) (λ s. (s.entries, (s.source, s.pairs)))
+    code_by (List AuthEntry
+    × (AccountId × List Pair)) (coded× (coded_list e) (coded× a (coded_list pair_code))) (λ s. (s.entries, (s.source, s.pairs)))
     (λ q. record { entries = q.0; source = q.1.0; pairs = q.1.1 }) (λ _. refl)
 
 -- ---- records as pairs

@@ -7,7 +7,8 @@ use Rattle.auth_trees.specs.declared.nodes.Node.{Node}
 
 -- ---- the nodes of trees, with their places
 
--- a node of trees in a row: the index of its tree, the indices of the children that lead to it, and the tree that it is the root of
+-- a node of trees in a row: the index of its tree, the indices of the children that lead to it, and the tree that it is the root
+-- of
 pub record Spot : Type 0 where
   pub entry : ℕ
   pub place : List ℕ

@@ -3,8 +3,8 @@ use Rattle.std.specs.Prelude.{ℕ, ◌&&◌, List, length, nat_eq, nat_lt, Bool,
 use Rattle.std.specs.List.{list_any, starts_with, filter, fold}
 use Rattle.std.specs.Str.{bytes_eq}
 
--- A node of an authorisation entry that met a demand, and the path of the frame that demanded it. The entry is given by its index, the node by the
--- indices of the children that lead to it from the root.
+-- A node of an authorisation entry that met a demand, and the path of the frame that demanded it. The entry is given by its
+-- index, the node by the indices of the children that lead to it from the root.
 pub record Pair : Type 0 where
   pub entry : ℕ
   pub node : List ℕ
@@ -27,6 +27,7 @@ abbrev pub deeper : Option Pair → Pair → Option Pair
 deeper None later = Some later
 deeper (Some best) later = if nat_lt (length later.path) (length best.path) then Some best else Some later
 
--- The pair of an entry with the longest path that is a proper prefix of this path. Of several pairs with that path it is the last one.
+-- The pair of an entry with the longest path that is a proper prefix of this path. Of several pairs with that path it is the last
+-- one.
 abbrev pub deepest : List Pair → List ℕ → ℕ → Option Pair
 deepest pairs path entry = fold deeper None (filter (λ pair. nat_eq pair.entry entry && is_below path pair.path) pairs)

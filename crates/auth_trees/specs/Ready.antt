@@ -25,18 +25,21 @@ pub record IsReady (t : Tables) : Type 0 where
 pub record IsMarked (records : List Record) (path : List ℕ) (t : Tables) : Type 0 where
   pub taken : (id : ℕ) → id < length t.taken.items → slice_index_or t.taken.items id false ≡ has_record records id
   pub used : (entry : ℕ) → entry < length t.used.items → slice_index_or t.used.items entry false ≡ has_entry records entry
-  pub deepest : (entry : ℕ) → entry < length t.deepest.items → slice_index_or t.deepest.items entry None ≡ deepest_record records path entry
+  pub deepest : (entry : ℕ) → entry < length t.deepest.items
+      → slice_index_or t.deepest.items entry None ≡ deepest_record records path entry
 
 -- the deepest nodes are nodes
 abbrev pub AreWithin : Tables → Type 0
-AreWithin t = (entry : ℕ) (best : Deepest) → slice_index_or t.deepest.items entry None ≡ Some best → best.node < length t.nodes.items
+AreWithin t =
+    (entry : ℕ) (best : Deepest) → slice_index_or t.deepest.items entry None ≡ Some best → best.node < length t.nodes.items
 
 -- the children of each node stand behind it
 abbrev pub HaveChildren : List Kept → Type 0
 HaveChildren nodes = (id : ℕ) (k : Kept) → slice_get nodes id ≡ Some k → IsRowAt nodes (suc id) (children k.tree)
 
 abbrev pub child_found : Tables → ScAddress → Function → Option Found
-child_found t address function = first_from (child_in (map kept t.nodes.items) t.taken.items t.deepest.items address function) 0 t.addresses.items
+child_found t address function =
+    first_from (child_in (map kept t.nodes.items) t.taken.items t.deepest.items address function) 0 t.addresses.items
 
 abbrev pub root_found : Tables → ScAddress → Function → Option Found
 root_found t address function = root_in t.used.items t.addresses.items address function 0 0 t.entries.now

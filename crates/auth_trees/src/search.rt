@@ -110,7 +110,8 @@ fn child_in(
     requires ready { IsReady tables.now }
     requires within { AreWithin tables.now }
     requires entry { entry < length tables.now.entries.now }
-    ensures { result ≡ child_in (map kept tables.now.nodes.items) tables.now.taken.items tables.now.deepest.items address function.now entry known }
+    ensures { result ≡ child_in
+        (map kept tables.now.nodes.items) tables.now.taken.items tables.now.deepest.items address function.now entry known }
 {
     if !is_known(known, address) {
         return None;

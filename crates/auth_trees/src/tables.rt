@@ -84,7 +84,8 @@ fn deeper(best: Option<Deepest>, later: Deepest) -> Option<Deepest>
 fn note(deepest: &mut Vec<Option<Deepest>>, record: &Record, path: &[u64])
     requires { record.now.entry < length deepest.old.items }
     ensures { deepest.new.items ≡ (if is_below path.now record.now.path
-        then slice_set deepest.old.items record.now.entry (deeper_known (slice_index_or deepest.old.items record.now.entry None) (known (flat record.now)))
+        then slice_set deepest.old.items record.now.entry
+        (deeper_known (slice_index_or deepest.old.items record.now.entry None) (known (flat record.now)))
         else deepest.old.items) }
 {
     let above = record.path.as_slice();

@@ -22,4 +22,5 @@ auth_entry_format = via entry_of entry_fields (pair credentials_format invocatio
 
 pub auth_entry_lawful : IsFormat auth_entry_format
 unfolding auth_entry_format
-auth_entry_lawful = via_lawful entry_of entry_fields _ (λ f. refl) (λ e. refl) (pair_lawful _ _ credentials_lawful invocation_lawful)
+auth_entry_lawful =
+    via_lawful entry_of entry_fields _ (λ f. refl) (λ e. refl) (pair_lawful _ _ credentials_lawful invocation_lawful)

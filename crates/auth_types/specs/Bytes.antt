@@ -1,5 +1,5 @@
--- The bytes of a tree of invocations, at any depth: the function, and the count of its sub-invocations and these (RFC 4506). At each level
--- that is its spelling there.
+-- The bytes of a tree of invocations, at any depth: the function, and the count of its sub-invocations and these (RFC 4506). At
+-- each level that is its spelling there.
 use Rattle.std.specs.Prelude.{ℕ, ◌<◌, ◌^◌, List, [], ◌++◌, length}
 use Rattle.std.specs.Int.{w32, to_be_bytes}
 use Rattle.std.specs.List.{flat_map, AllByRecursion}
@@ -26,7 +26,9 @@ abbrev mutual
 
 -- the bytes of an invocation of the program
 abbrev pub invocation_bytes : Invocation → List ℕ
-invocation_bytes i = function_format.spell i.function ++ (to_be_bytes w32 (length i.sub_invocations) ++ flat_map tree_bytes i.sub_invocations)
+invocation_bytes i =
+    function_format.spell i.function ++ (to_be_bytes w32 (length i.sub_invocations) ++ flat_map tree_bytes i.sub_invocations)
 
 abbrev pub IsInvocationBounded : Invocation → Type 0
-IsInvocationBounded i = function_format.fits i.function × (length i.sub_invocations < 2 ^ 32) × AllByRecursion IsTreeBounded i.sub_invocations
+IsInvocationBounded i =
+    function_format.fits i.function × (length i.sub_invocations < 2 ^ 32) × AllByRecursion IsTreeBounded i.sub_invocations

@@ -57,7 +57,8 @@ abbrev pub address_credentials_fields : AddressCredentials → Fields
 address_credentials_fields c = (c.address, (c.nonce, (c.signature_expiration_ledger, c.signature)))
 
 unfoldable pub address_credentials_format : Format AddressCredentials
-address_credentials_format = via address_credentials_of address_credentials_fields (pair address_format (pair signed64 (pair number32 scval_format)))
+address_credentials_format =
+    via address_credentials_of address_credentials_fields (pair address_format (pair signed64 (pair number32 scval_format)))
 
 pub address_credentials_lawful : IsFormat address_credentials_format
 unfolding address_credentials_format
@@ -95,7 +96,8 @@ arms_lawful types.Address = arm_lawful address_of as_address _ (λ x. refl) back
 
 coherent : (k : CredentialsType) (v : Credentials) → (arms k).fits v → kind v ≡ k
 coherent types.SourceAccount v h = ap kind h
-coherent types.Address v h = arm_kind kind types.Address address_of as_address address_credentials_format (λ x. refl) back_address v h
+coherent types.Address v h =
+    arm_kind kind types.Address address_of as_address address_credentials_format (λ x. refl) back_address v h
 
 pub credentials_lawful : IsFormat credentials_format
 unfolding credentials_format

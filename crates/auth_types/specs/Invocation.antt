@@ -1,5 +1,5 @@
--- How trees of invocations are spelled (XDR file Stellar-transaction, `SorobanAuthorizedInvocation`): a function, and the count of its
--- sub-invocations and these. At the last of the levels there are none.
+-- How trees of invocations are spelled (XDR file Stellar-transaction, `SorobanAuthorizedInvocation`): a function, and the count
+-- of its sub-invocations and these. At the last of the levels there are none.
 use Rattle.std.specs.Prelude.{ℕ, zero, suc, List}
 use Rattle.xdr_spec.specs.declared.Why.TheVariants.{Depth}
 use Rattle.xdr_spec.specs.Format.{Format, pair, via, empty_list, counted}

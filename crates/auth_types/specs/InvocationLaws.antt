@@ -27,10 +27,12 @@ pub tree_of-invocation : (t : Tree) → tree_of (invocation_of t) ≡ t
 tree_of-invocation (node f ts) = ap (node f) (trees_back ts)
 
 one_level_lawful : (subs : Format (List Tree)) → IsFormat subs → IsFormat (one_level subs)
-one_level_lawful subs s = via_lawful invocation_of_parts invocation_parts _ (λ p. refl) (λ i. refl) (pair_lawful _ _ function_lawful s)
+one_level_lawful subs s =
+    via_lawful invocation_of_parts invocation_parts _ (λ p. refl) (λ i. refl) (pair_lawful _ _ function_lawful s)
 
 tree_lawful : (subs : Format (List Tree)) → IsFormat subs → IsFormat (tree_format subs)
-tree_lawful subs s = via_lawful tree_of invocation_of (one_level subs) invocation_of-tree tree_of-invocation (one_level_lawful subs s)
+tree_lawful subs s =
+    via_lawful tree_of invocation_of (one_level subs) invocation_of-tree tree_of-invocation (one_level_lawful subs s)
 
 pub subs_lawful : (n : ℕ) → IsFormat (subs_format n)
 unfolding subs_format

@@ -1,5 +1,6 @@
--- What the signature of an authorisation signs (XDR file Stellar-transaction, `HashIDPreimage`): SHA-256 (FIPS 180-4) of the number 9
--- (ENVELOPE_TYPE_SOROBAN_AUTHORIZATION), the network's id, the nonce, the ledger in which the signature ends, and the root of the tree.
+-- What the signature of an authorisation signs (XDR file Stellar-transaction, `HashIDPreimage`): SHA-256 (FIPS 180-4) of the
+-- number 9 (ENVELOPE_TYPE_SOROBAN_AUTHORIZATION), the network's id, the nonce, the ledger in which the signature ends, and the
+-- root of the tree.
 use Rattle.std.specs.Prelude.{ℕ, List, [], ◌++◌}
 use Rattle.sha2.specs.Sha256.{sha256}
 use Rattle.xdr_spec.specs.Format.{number32, signed64}
@@ -19,7 +20,9 @@ IsOfAddress (Address address) = Unit {0}
 
 abbrev pub signed_bytes : Hash → AddressCredentials → Invocation → List ℕ
 signed_bytes network address root =
-    number32.spell 9 ++ (hash_format.spell network ++ (signed64.spell address.nonce ++ (number32.spell address.signature_expiration_ledger ++ invocation_format.spell root)))
+    number32.spell 9
+    ++ (hash_format.spell network
+    ++ (signed64.spell address.nonce ++ (number32.spell address.signature_expiration_ledger ++ invocation_format.spell root)))
 
 -- the hashed bytes; none for credentials without a signature
 abbrev pub payload : Hash → Credentials → Invocation → List ℕ

@@ -2,7 +2,8 @@
 
 ghost use Rattle.std.specs.Prelude.{◌≡◌};
 ghost use Rattle.xdr_core.specs.Reads.{Reads};
-ghost use Rattle.auth_types.specs.Credentials.{number, kind_of, kind, type_format, type_lawful, arms, address_credentials_format, address_credentials_lawful, credentials_format, credentials_lawful};
+ghost use Rattle.auth_types.specs.Credentials.{number, kind_of, kind, type_format, type_lawful, arms, address_credentials_format};
+ghost use Rattle.auth_types.specs.Credentials.{address_credentials_lawful, credentials_format, credentials_lawful};
 
 use std::alloc::{AllocError, Global};
 use value_types::{ScAddress, ScVal};

@@ -1,5 +1,6 @@
 -- Bytes as base64 text (RFC 4648 section 4: the standard alphabet, with padding).
-use Rattle.std.specs.Prelude.{◌≡◌, ◌↔◌, ◌-◌, ◌==◌, ◌&&◌, ℕ, List, length, take, slice_index, Option, Some, None, Result, Ok, Err, nat_lt, if◌then◌else◌, ⊤}
+use Rattle.std.specs.Prelude.{◌≡◌, ◌↔◌, ◌-◌, ◌==◌, ◌&&◌, ℕ, List, length, take, slice_index, Option, Some, None, Result, Ok, Err}
+use Rattle.std.specs.Prelude.{nat_lt, if◌then◌else◌, ⊤}
 use Rattle.std.specs.Result.{result_ok}
 use Rattle.base64.specs.Engines.{standard}
 use Rattle.base64.specs.GeneralPurpose.{IsBytes, decode_of, encode_of}
@@ -8,7 +9,8 @@ use Rattle.base64_text.specs.declared.TextErr.TheVariants.{NotBase64, NoMemory}
 
 -- the text before one newline (10) at its end (own)
 abbrev pub without_newline : List ℕ → List ℕ
-without_newline text = if nat_lt 0 (length text) && (slice_index text (length text - 1) == 10) then take (length text - 1) text else text
+without_newline text =
+    if nat_lt 0 (length text) && (slice_index text (length text - 1) == 10) then take (length text - 1) text else text
 
 -- the text is the encoding of these bytes
 abbrev pub IsTextOf : List ℕ → List ℕ → Type 0

@@ -1,7 +1,9 @@
 -- What a charge costs, and when a budget has room for it (own, after the network's linear cost model).
 use Rattle.std.specs.Prelude.{ℕ, ◌+◌, ◌*◌, ◌/◌, ◌≤◌}
 use Rattle.budget_meter.specs.declared.kind.Kind.{Kind}
-use Rattle.budget_meter.specs.declared.kind.Kind.TheVariants.{WasmInsnExec, MemAlloc, MemCpy, MemCmp, DispatchHostFunction, VisitObject, ValSer, ValDeser, ComputeSha256Hash, VmInstantiation, InvokeVmFunction}
+use Rattle.budget_meter.specs.declared.kind.Kind.TheVariants.{WasmInsnExec, MemAlloc, MemCpy, MemCmp, DispatchHostFunction}
+use Rattle.budget_meter.specs.declared.kind.Kind.TheVariants.{VisitObject, ValSer, ValDeser, ComputeSha256Hash, VmInstantiation}
+use Rattle.budget_meter.specs.declared.kind.Kind.TheVariants.{InvokeVmFunction}
 use Rattle.budget_meter.specs.declared.terms.LinearCost.{LinearCost}
 use Rattle.budget_meter.specs.declared.terms.KindTerms.{KindTerms}
 use Rattle.budget_meter.specs.declared.terms.Terms.{Terms}

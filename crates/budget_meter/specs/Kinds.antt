@@ -1,7 +1,9 @@
 -- The network's numbers of the kinds of cost (ContractCostType in Stellar-contract-config-setting.x).
 use Rattle.std.specs.Prelude.{ℕ}
 use Rattle.budget_meter.specs.declared.kind.Kind.{Kind}
-use Rattle.budget_meter.specs.declared.kind.Kind.TheVariants.{WasmInsnExec, MemAlloc, MemCpy, MemCmp, DispatchHostFunction, VisitObject, ValSer, ValDeser, ComputeSha256Hash, VmInstantiation, InvokeVmFunction}
+use Rattle.budget_meter.specs.declared.kind.Kind.TheVariants.{WasmInsnExec, MemAlloc, MemCpy, MemCmp, DispatchHostFunction}
+use Rattle.budget_meter.specs.declared.kind.Kind.TheVariants.{VisitObject, ValSer, ValDeser, ComputeSha256Hash, VmInstantiation}
+use Rattle.budget_meter.specs.declared.kind.Kind.TheVariants.{InvokeVmFunction}
 
 abbrev pub number_of : Kind → ℕ
 number_of WasmInsnExec = 0

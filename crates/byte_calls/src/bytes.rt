@@ -2,7 +2,8 @@
 
 ghost use Rattle.std.specs.Prelude.{[], ◌∷◌};
 ghost use Rattle.host_interface.specs.declared.kinds.ArgKind.TheVariants as kinds;
-ghost use Rattle.host_spec.specs.ByteRows.{bytes_new, bytes_put, bytes_get, bytes_del, bytes_len, bytes_push, bytes_pop, bytes_front, bytes_back, bytes_insert, bytes_append, bytes_slice};
+ghost use Rattle.host_spec.specs.ByteRows.{bytes_new, bytes_put, bytes_get, bytes_del, bytes_len, bytes_push, bytes_pop};
+ghost use Rattle.host_spec.specs.ByteRows.{bytes_front, bytes_back, bytes_insert, bytes_append, bytes_slice};
 ghost use Rattle.host_frame.specs.Answered.{Answers};
 
 use crate::edits::{joined, with_inserted, with_pushed, with_put, without};

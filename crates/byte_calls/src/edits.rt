@@ -66,7 +66,7 @@ pub fn with_inserted(
     Ok(copy)
 }
 
-/// The bytes of both.
+/// Returns the bytes of both, one after the other.
 #[tactic(auto, using(host_frame::proofs::Making::few_bytes))]
 pub fn joined(alloc: Global, front: &[u8], back: &[u8]) -> Result<Vec<u8>, AllocError>
     requires front { IsHosted (bytes_datum front.now) }

@@ -2,7 +2,8 @@
 
 ghost use Rattle.std.specs.Prelude.{[], ◌∷◌};
 ghost use Rattle.host_interface.specs.declared.kinds.ArgKind.TheVariants as kinds;
-ghost use Rattle.host_spec.specs.ByteRows.{bytes_copy_from_linear_memory, bytes_new_from_linear_memory, string_new_from_linear_memory, symbol_new_from_linear_memory};
+ghost use Rattle.host_spec.specs.ByteRows.{bytes_copy_from_linear_memory, bytes_new_from_linear_memory};
+ghost use Rattle.host_spec.specs.ByteRows.{string_new_from_linear_memory, symbol_new_from_linear_memory};
 ghost use Rattle.host_frame.specs.Answered.{AnswersOver};
 ghost use Rattle.host_frame.specs.Made.{IsMemory};
 
@@ -75,7 +76,8 @@ pub fn symbol_new_from_linear_memory(
     Ok(Answer::symbol(Vec::from_slice(values.allocator(), found)?))
 }
 
-/// `bytes_copy_from_linear_memory`: other bytes from an index on, those of a range of the memory. They may end behind the old ones.
+/// `bytes_copy_from_linear_memory`: other bytes from an index on, those of a range of the memory. They may end behind the old
+/// ones.
 pub fn bytes_copy_from_linear_memory(
     values: &Values<'_>,
     memory: &[u8],

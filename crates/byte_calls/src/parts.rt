@@ -1,6 +1,7 @@
 //! Items and ranges of bytes.
 
-ghost use Rattle.std.specs.Prelude.{◌≡◌, ◌+◌, ◌-◌, ◌<◌, ◌≤◌, ◌^◌, ◌&&◌, Some, length, take, nat_lt, nat_le, slice_get, slice_range, true, false, MatchOption, MatchResult, IfOk};
+ghost use Rattle.std.specs.Prelude.{◌≡◌, ◌+◌, ◌-◌, ◌<◌, ◌≤◌, ◌^◌, ◌&&◌, Some, length, take, nat_lt, nat_le, slice_get};
+ghost use Rattle.std.specs.Prelude.{slice_range, true, false, MatchOption, MatchResult, IfOk};
 ghost use Rattle.value_types.specs.Datum.{bytes as bytes_datum};
 ghost use Rattle.host_spec.specs.Hosted.{IsHosted};
 ghost use Rattle.host_spec.specs.Errors.{OUTSIDE_OBJECT as outside, INVALID_VALUE as invalid};
@@ -45,14 +46,14 @@ pub fn gap_of(bytes: &[u8], index: u32) -> Result<usize, ValueErr>
     }
 }
 
-/// The byte at an index.
+/// Returns the byte at an index, or None behind the end.
 pub fn byte_at(bytes: &[u8], index: u32) -> Option<u8>
     ensures { result ≡ slice_get bytes.now index }
 {
     bytes.get(index as usize).copied()
 }
 
-/// The last byte.
+/// Returns the last byte, or None if there is none.
 pub fn last_of(bytes: &[u8]) -> Option<u8>
     ensures { MatchOption result (nat_lt 0 (length bytes.now) ≡ false)
         (λ b. (nat_lt 0 (length bytes.now) ≡ true) × (slice_get bytes.now (length bytes.now - 1) ≡ Some b)) }

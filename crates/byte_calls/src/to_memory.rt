@@ -4,7 +4,8 @@ ghost use Rattle.std.specs.Prelude.{[], ◌∷◌, List};
 ghost use Rattle.value_types.specs.Datum.{Datum};
 ghost use Rattle.host_interface.specs.declared.kinds.ArgKind.TheVariants as kinds;
 ghost use Rattle.host_spec.specs.Acts.{state, Says};
-ghost use Rattle.host_spec.specs.ByteRows.{copy_to_linear_memory, bytes_copy_to_linear_memory, string_copy_to_linear_memory, symbol_copy_to_linear_memory};
+ghost use Rattle.host_spec.specs.ByteRows.{copy_to_linear_memory, bytes_copy_to_linear_memory, string_copy_to_linear_memory};
+ghost use Rattle.host_spec.specs.ByteRows.{symbol_copy_to_linear_memory};
 ghost use Rattle.host_frame.specs.Answered.{AnswersInto, answer_of, IsMadeIfOk};
 
 use crate::parts::range_of;

@@ -16,10 +16,11 @@ refusal_of WrongArity = Some OTHER_ARITY
 refusal_of Segment = Some SEGMENT_OUTSIDE
 refusal_of (Ready index store) = None
 
--- The instance is at the start of a call of this function with so many arguments, or the start is refused with the error. Memory may run out at
--- any time.
+-- The instance is at the start of a call of this function with so many arguments, or the start is refused with the error. Memory
+-- may run out at any time.
 abbrev pub IsStarted : Module → List ℕ → ℕ → Result Suspended HostErr → Type 0
-IsStarted m function n (Ok i) = (index : ℕ) × (store : Store) × (start_of m function n ≡ Ready index store) × IsFresh i m index n store
+IsStarted m function n (Ok i) =
+    (index : ℕ) × (store : Store) × (start_of m function n ≡ Ready index store) × IsFresh i m index n store
 IsStarted m function n (Err (ends.Failed e)) = refusal_of (start_of m function n) ≡ Some e
 IsStarted m function n (Err ends.NoMemory) = Unit {0}
 IsStarted m function n (Err _) = ⊥

@@ -11,8 +11,8 @@ use Rattle.call_spec.specs.Outcomes.{Says, quiet}
 use Rattle.host_ledger.specs.Traced.{leaving}
 use Rattle.host_ledger.specs.Worlds.{Serves}
 
--- A step over the ledger and the budget does an act of every environment that the storage serves, in every world with its entries and this
--- budget.
+-- A step over the ledger and the budget does an act of every environment that the storage serves, in every world with its entries
+-- and this budget.
 abbrev pub Steps : {A B : Type 0} → Result A HostErr → (A → B) → (Env → Act B) → Stored → Stored → Meter → Meter → Type 0
 Steps r view act old new before after =
     (env : Env) → Serves env old → (w : World) → w.entries ≡ old.map → w.meter ≡ before

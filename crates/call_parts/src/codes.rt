@@ -151,7 +151,8 @@ fn store<G: Ground>(
     }
 }
 
-/// Uploads a code in ledger `n`: it has to encode a valid, linked module. Code that is there already stays as it is. Returns its hash.
+/// Uploads a code in ledger `n`: it has to encode a valid, linked module. Code that is there already stays as it is. Returns its
+/// hash.
 pub fn upload<G: Ground>(
     alloc: Global,
     storage: &mut Storage<'_, G>,

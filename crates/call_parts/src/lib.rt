@@ -1,12 +1,14 @@
-//! The steps of a call and of a create that run no code of a contract: what they find in the ledger, what they write, what they show.
+//! The steps of a call and of a create that run no code of a contract: what they find in the ledger, what they write, what they
+//! show.
 //!
-//! The crate above strings these steps together, as `call` and `creates` of call_spec do. So the clause of each step has the act of
-//! call_spec that it carries out, word for word:
+//! The crate above strings these steps together, as `call` and `creates` of call_spec do. So the clause of each step has the act
+//! of call_spec that it carries out, word for word:
 //!
 //! 1. `Steps` is a step over the ledger and the budget, in every environment that the storage serves and every world with its
-//!    entries and this budget. A step that charges nothing has `Accesses` of host_ledger. By both, a storage that has recorded the
-//!    accesses before the step has recorded those after it.
-//! 2. `Charges` is a step that only charges, `Shows` one that shows values, `Returns` one that changes nothing. They make no access.
+//!    entries and this budget. A step that charges nothing has `Accesses` of host_ledger. By both, a storage that has recorded
+//!    the accesses before the step has recorded those after it.
+//! 2. `Charges` is a step that only charges, `Shows` one that shows values, `Returns` one that changes nothing. They make no
+//!    access.
 //! 3. A charge that comes before a write may be made after it: a run that the charge ends shows nothing but its budget.
 #![tactic(auto)]
 

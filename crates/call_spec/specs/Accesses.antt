@@ -1,5 +1,5 @@
--- Accesses of ledger keys (own, after CAP-0046-05 and CAP-0046-12). Nothing else reads or changes the ledger's entries, but for a caught failure,
--- which puts them back.
+-- Accesses of ledger keys (own, after CAP-0046-05 and CAP-0046-12). Nothing else reads or changes the ledger's entries, but for a
+-- caught failure, which puts them back.
 use Rattle.std.specs.Prelude.{ℕ, ◌∷◌, length, Bool, true, false, Option, Some, None}
 use Rattle.xdr_core.specs.Sizes.{capped}
 use Rattle.budget_meter.specs.declared.kind.Kind.{Kind}
@@ -70,4 +70,5 @@ put_kept settings n entry (Some kept) = record { entry = written n entry; live_u
 
 -- a put, whose charge comes first
 abbrev pub puts : {A : Type 0} → Env → LedgerEntry → A → Option Kept → Effect A
-puts env entry a found = costs ValSer (entry_size entry) (leaves (Some (put_kept env.header.settings (made_seq env) entry found)) a)
+puts env entry a found =
+    costs ValSer (entry_size entry) (leaves (Some (put_kept env.header.settings (made_seq env) entry found)) a)

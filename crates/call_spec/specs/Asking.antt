@@ -1,4 +1,5 @@
--- How the address of an authorisation entry proves that it authorises: its nonce is used once, and its signature is judged (own, after CAP-0046-11).
+-- How the address of an authorisation entry proves that it authorises: its nonce is used once, and its signature is judged (own,
+-- after CAP-0046-11).
 use Rattle.std.specs.Prelude.{ℕ, ℤ, ◌+◌, ◌&&◌, List, [], ◌∷◌, length, codes, Bool, nat_le, nat_lt, Option, Some, None}
 use Rattle.std.specs.List.{list_any}
 use Rattle.std.specs.Str.{bytes_eq}
@@ -26,7 +27,8 @@ use Rattle.auth_types.specs.declared.credentials.Credentials.{Credentials}
 use Rattle.auth_types.specs.declared.credentials.Credentials.TheVariants.{SourceAccount, Address}
 use Rattle.call_spec.specs.Errors.{DENIED, EXPIRED, USED_NONCE}
 use Rattle.call_spec.specs.World.{Write, Env, made_seq}
-use Rattle.call_spec.specs.Acts.{Failed, Spent, Archived, Out, Good, Bad, Undeclared, Act, after, gives, fails, only_where, paying}
+use Rattle.call_spec.specs.Acts.{Failed, Spent, Archived, Out, Good, Bad, Undeclared, Act, after, gives, fails, only_where}
+use Rattle.call_spec.specs.Acts.{paying}
 use Rattle.call_spec.specs.Accesses.{Effect, leaves, refuses, costs, access, entry_size}
 use Rattle.call_spec.specs.Calling.{Call, calls_for_host}
 use Rattle.call_spec.specs.Contexts.{contexts_of}
@@ -88,8 +90,8 @@ CHECK = codes "__check_auth"
 abbrev pub check_args : Hash → AddressCredentials → Invocation → List Datum
 check_args payload signer root = bytes payload.0 ∷ datum signer.signature ∷ vec (items_of (contexts_of (tree_of root))) ∷ []
 
--- The contract's own function judges the signature. Its frame has no caller: the contract that demands is not one. It returns Void if the signature
--- is good.
+-- The contract's own function judges the signature. Its frame has no caller: the contract that demands is not one. It returns
+-- Void if the signature is good.
 abbrev pub check_of : Hash → List Datum → Call
 check_of contract args = record { caller = None; address = addresses.Contract contract; function = CHECK; args = args }
 
@@ -101,15 +103,18 @@ checks env opener contract args =
 
 -- the address judges the signature of a payload with this hash; addresses of other kinds never authorise
 abbrev pub asks : Env → Opener → Hash → AddressCredentials → Invocation → ScAddress → Act (Unit {0})
-asks env opener payload signer root (addresses.Account account) = only_where (is_good env.authority.verdicts account.0 payload) DENIED (gives tt)
-asks env opener payload signer root (addresses.Contract contract) = denying (checks env opener contract (check_args payload signer root))
+asks env opener payload signer root (addresses.Account account) =
+    only_where (is_good env.authority.verdicts account.0 payload) DENIED (gives tt)
+asks env opener payload signer root (addresses.Contract contract) =
+    denying (checks env opener contract (check_args payload signer root))
 asks env opener payload signer root _ = fails DENIED
 
 -- the payload's charge comes after the nonce's
 abbrev pub proves_by : Env → Opener → Invocation → AddressCredentials → Act (Unit {0})
 proves_by env opener root signer =
     let payload = signed_bytes env.header.network_id signer root in
-    after (uses_nonce env signer) (λ _. paying ComputeSha256Hash (length payload) (asks env opener (hash_of (sha256 payload)) signer root signer.address))
+    after (uses_nonce env signer)
+    (λ _. paying ComputeSha256Hash (length payload) (asks env opener (hash_of (sha256 payload)) signer root signer.address))
 
 -- The operation's source is taken to have signed the transaction: it uses no nonce, and is not asked.
 abbrev pub proves : Env → Opener → Invocation → Credentials → Act (Unit {0})

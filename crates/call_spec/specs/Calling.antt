@@ -70,12 +70,13 @@ admits named env enter call path contract =
     only_where named RESERVED_NAME (with_world (is_running contract) (λ running.
     only_where (not running) REENTERED (looks_up env enter call contract path)))
 
--- The tests in their order: another frame may be open; the address is a contract's; the name is not reserved; the contract has no open frame;
--- its instance is there, is an instance, runs WebAssembly, and has storage that may enter the host; its code is there and is a valid, linked
--- module, which exports the function with this arity; its segments fit.
+-- The tests in their order: another frame may be open; the address is a contract's; the name is not reserved; the contract has no
+-- open frame; its instance is there, is an instance, runs WebAssembly, and has storage that may enter the host; its code is there
+-- and is a valid, linked module, which exports the function with this arity; its segments fit.
 -- `named`: the name is one that the caller may call
 abbrev pub calls_if : Bool → Env → Opener → Call → Act Datum
-calls_if named env opener call = begins (λ path. with_opener opener (λ enter. with_contract call.address (admits named env enter call path)))
+calls_if named env opener call =
+    begins (λ path. with_opener opener (λ enter. with_contract call.address (admits named env enter call path)))
 
 -- a call by a contract or a transaction
 abbrev pub calls : Env → Opener → Call → Act Datum
@@ -124,4 +125,5 @@ abbrev pub call : Env → Opener → ScAddress → List ℕ → List Datum → A
 call env opener address function args = returning (call_by (calls env opener) address function args) (λ d. d)
 
 abbrev pub try_call : Env → Opener → ScAddress → List ℕ → List Datum → Act Answer
-try_call env opener address function args = returning (call_by (λ c. catching (calls env opener c)) address function args) (λ d. d)
+try_call env opener address function args =
+    returning (call_by (λ c. catching (calls env opener c)) address function args) (λ d. d)

@@ -1,5 +1,5 @@
--- Accesses as changes of the ledger's map: a put, a delete, an extension and the make of an instance are those of ledger_spec (own, after
--- CAP-0046-12).
+-- Accesses as changes of the ledger's map: a put, a delete, an extension and the make of an instance are those of ledger_spec
+-- (own, after CAP-0046-12).
 use Rattle.std.specs.Prelude.{◌≡◌, ℕ, Bool, true, false, Option, Some, None, Result, Ok, Err}
 use Rattle.budget_meter.specs.declared.kind.Kind.TheVariants.{ValSer}
 use Rattle.value_types.specs.declared.hash.Hash.{Hash}

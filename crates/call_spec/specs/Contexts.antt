@@ -1,4 +1,5 @@
--- What the function that checks an authorisation is told of it: the functions that its entry authorises (CAP-0046-11; the forms of creates are own).
+-- What the function that checks an authorisation is told of it: the functions that its entry authorises (CAP-0046-11; the forms
+-- of creates are own).
 use Rattle.std.specs.Prelude.{ℕ, List, [], ◌∷◌, ◌++◌, codes}
 use Rattle.value_types.specs.Datum.{Datum, void, bytes, symbol, vec, map as map_datum, address, items_of, members_of}
 use Rattle.value_types.specs.Views.{datums}
@@ -31,7 +32,8 @@ arguments_in ds = vec (items_of ds)
 -- the members stand in the order of their keys
 abbrev pub context_of : Function → Datum
 context_of (ContractFn call) = context (codes "Contract") (
-    (symbol (codes "args"), arguments_in (datums call.args)) ∷ (symbol (codes "contract"), address call.contract) ∷ (symbol (codes "fn_name"), symbol call.function) ∷ [])
+    (symbol (codes "args"), arguments_in (datums call.args)) ∷ (symbol (codes "contract"), address call.contract)
+    ∷ (symbol (codes "fn_name"), symbol call.function) ∷ [])
 context_of (CreateContract create) = context (codes "CreateContractHostFn") (
     (symbol (codes "executable"), executable_in create.executable) ∷ (symbol (codes "salt"), salt_in create.preimage) ∷ [])
 context_of (CreateContractV2 create) = context (codes "CreateContractWithCtorHostFn") (

@@ -1,4 +1,5 @@
--- Module l: uploads of code, creates of contracts, updates of their code (own, after CAP-0046-02, CAP-0046-05, CAP-0046-08 and CAP-0058).
+-- Module l: uploads of code, creates of contracts, updates of their code (own, after CAP-0046-02, CAP-0046-05, CAP-0046-08 and
+-- CAP-0058).
 use Rattle.std.specs.Prelude.{ℕ, ◌==◌, List, [], ◌∷◌, ◌++◌, length, map, codes, Bool, true, false, is_some, Option, Some, None}
 use Rattle.std.specs.Option.{unwrap_or}
 use Rattle.sha2.specs.Sha256.{sha256}
@@ -107,7 +108,8 @@ constructs enter creator id code args path m =
 -- A module without a constructor takes no arguments. A constructor is a call in a frame of the new contract, and returns Void.
 abbrev pub constructs_if : Option ℕ → Opener → Option ScAddress → Hash → Hash → List Datum → List ℕ → Module → Act (Unit {0})
 constructs_if None opener creator id code args path m = only_where (length args == 0) NO_FUNCTION (gives tt)
-constructs_if (Some index) opener creator id code args path m = with_opener opener (λ enter. constructs enter creator id code args path m)
+constructs_if (Some index) opener creator id code args path m =
+    with_opener opener (λ enter. constructs enter creator id code args path m)
 
 -- ---- the create
 
@@ -144,7 +146,8 @@ upload_wasm env code = returning (uploads env code) (λ hash. bytes hash.0)
 abbrev pub creates_by : Env → Opener → ScAddress → List ℕ → List ℕ → Option (List Datum) → Act Answer
 creates_by env opener deployer code salt args =
     only_hash code (λ code. only_hash salt (λ salt. with_frame (λ frame.
-    returning (creates env opener (Some (Contract frame.contract)) (record { deployer = deployer; code = code; salt = salt; args = args }))
+    returning (creates env opener (Some (Contract frame.contract))
+    (record { deployer = deployer; code = code; salt = salt; args = args }))
     (λ id. address (Contract id)))))
 
 abbrev pub create_contract : Env → Opener → ScAddress → List ℕ → List ℕ → Act Answer

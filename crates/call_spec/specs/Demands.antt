@@ -24,7 +24,8 @@ with_pair pair w = record w { pairs = w.pairs ++ pair ∷ [] }
 abbrev pub uses_node : Pair → Act (Unit {0})
 uses_node pair = sets (with_pair pair) tt
 
--- The root of an entry is used for the first time: its address proves that it authorises. A demand is met only by entries that are there.
+-- The root of an entry is used for the first time: its address proves that it authorises. A demand is met only by entries that
+-- are there.
 abbrev pub proves_entry : Env → Opener → Option AuthEntry → Act (Unit {0})
 proves_entry env opener None = fails DENIED
 proves_entry env opener (Some entry) = proves env opener entry.root_invocation entry.credentials
@@ -41,19 +42,22 @@ met env opener path (ByNode entry node) =
     after (uses_node (record { entry = entry; node = node; path = path })) (λ _. proves_root env opener entry node)
 met env opener path ByNothing = fails DENIED
 
--- A demand for an address in the frame of a path, whose direct caller is given. For a create the path has the create's number behind it, and the
--- caller is the frame's own contract.
+-- A demand for an address in the frame of a path, whose direct caller is given. For a create the path has the create's number
+-- behind it, and the caller is the frame's own contract.
 abbrev pub demanded : Env → Opener → List ℕ → Option ScAddress → ScAddress → Function → Act (Unit {0})
 demanded env opener path caller address function =
-    with_world (λ w. choice (record { entries = env.authority.entries; source = env.authority.source; pairs = w.pairs }) path caller address function)
+    with_world (λ w. choice
+    (record { entries = env.authority.entries; source = env.authority.source; pairs = w.pairs }) path caller address function)
     (met env opener path)
 
 -- the frame's function with these arguments
 abbrev pub invocation : Frame → List Datum → Function
-invocation frame args = ContractFn (record { contract = addresses.Contract frame.contract; function = frame.function; args = map scval args })
+invocation frame args =
+    ContractFn (record { contract = addresses.Contract frame.contract; function = frame.function; args = map scval args })
 
 abbrev pub requires : Env → Opener → ScAddress → List Datum → Frame → Act Answer
-requires env opener address args frame = after (demanded env opener frame.path frame.caller address (invocation frame args)) (λ _. gives nothing)
+requires env opener address args frame =
+    after (demanded env opener frame.path frame.caller address (invocation frame args)) (λ _. gives nothing)
 
 abbrev pub require_auth : Env → Opener → ScAddress → Act Answer
 require_auth env opener address = with_frame (λ frame. requires env opener address frame.args frame)

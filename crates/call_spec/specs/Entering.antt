@@ -1,4 +1,5 @@
--- Arguments that enter the host from outside: those of a transaction, and those of the function that checks an authorisation (own).
+-- Arguments that enter the host from outside: those of a transaction, and those of the function that checks an authorisation
+-- (own).
 use Rattle.std.specs.Prelude.{List, [], ◌∷◌, nat_le, Result, Ok, Err, if◌then◌else◌}
 use Rattle.budget_meter.specs.declared.kind.Kind.TheVariants.{ValDeser}
 use Rattle.value_types.specs.Datum.{Datum}

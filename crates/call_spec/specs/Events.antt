@@ -50,7 +50,8 @@ executable_topic code = vec (items_of (symbol (codes "Wasm") ∷ bytes code.0 �
 -- the event of an update of a contract's code
 abbrev pub update_event : Hash → Hash → Hash → ContractEvent
 update_event contract old new =
-    event_of types.System contract (symbol (codes "executable_update") ∷ executable_topic old ∷ executable_topic new ∷ []) (vec (items_of []))
+    event_of types.System contract (symbol (codes "executable_update") ∷ executable_topic old ∷ executable_topic new ∷ [])
+    (vec (items_of []))
 
 -- ---- the ledger and the contract
 

@@ -15,7 +15,8 @@ use Rattle.wasm_spec.specs.declared.types.ResizableLimits.{ResizableLimits}
 use Rattle.wasm_spec.specs.declared.values.Value.{Value}
 use Rattle.wasm_spec.specs.declared.values.Value.TheVariants.{I64}
 use Rattle.wasm_spec.specs.declared.values.TrapKind.{TrapKind}
-use Rattle.wasm_spec.specs.declared.values.TrapKind.TheVariants.{Unreachable, OutOfBounds, Arithmetic, IndirectType, EmptyElement, CallDepth}
+use Rattle.wasm_spec.specs.declared.values.TrapKind.TheVariants.{Unreachable, OutOfBounds, Arithmetic, IndirectType, EmptyElement}
+use Rattle.wasm_spec.specs.declared.values.TrapKind.TheVariants.{CallDepth}
 use Rattle.wasm_spec.specs.declared.module.Module.{Module}
 use Rattle.wasm_spec.specs.Stores.{PAGE, Store}
 use Rattle.wasm_spec.specs.Runs.{Run, Normal, Branch, Return, Trap, Spent as SpentRun, Stuck, Ask}
@@ -25,7 +26,8 @@ use Rattle.host_spec.specs.Words.{meaning as word_meaning}
 use Rattle.host_spec.specs.VecRows.{all_given}
 use Rattle.call_spec.specs.Errors.{IMPOSSIBLE, HIDDEN_ERROR, TOO_MANY_FRAMES}
 use Rattle.call_spec.specs.World.{Write, Copied, Frame, World, Env, made_seq}
-use Rattle.call_spec.specs.Acts.{Spent, Out, Good, Bad, Undeclared, Act, then_do, after, gives, fails, with_world, with_frame, lift, paying}
+use Rattle.call_spec.specs.Acts.{Spent, Out, Good, Bad, Undeclared, Act, then_do, after, gives, fails, with_world, with_frame}
+use Rattle.call_spec.specs.Acts.{lift, paying}
 use Rattle.call_spec.specs.Accesses.{access, puts}
 use Rattle.call_spec.specs.Keys.{instance_of, instance_key, instance_entry}
 
@@ -106,7 +108,9 @@ runs_from host e words = with_world (λ w. w.meter) (λ meter. runs host (meanin
 
 -- The first pages and the run are charged, then the arguments are shown one by one, then the code runs.
 abbrev pub started : HostCalls → Entered → Act ℕ
-started host e = paying_pages e.module_.memories (paying InvokeVmFunction 1 (after (lift (all_given e.args)) (λ words. runs_from host e words)))
+started host e =
+    paying_pages e.module_.memories
+    (paying InvokeVmFunction 1 (after (lift (all_given e.args)) (λ words. runs_from host e words)))
 
 -- ---- what a frame ends with
 
@@ -131,7 +135,8 @@ is_same first copy = is_eq (datum_cmp (instance_of first) (instance_of copy))
 
 abbrev pub writes_if : Bool → Env → Frame → Act (Unit {0})
 writes_if false env frame = gives tt
-writes_if true env frame = access env Write (instance_key frame.contract) (puts env (instance_entry (made_seq env) frame.contract frame.copy) tt)
+writes_if true env frame =
+    access env Write (instance_key frame.contract) (puts env (instance_entry (made_seq env) frame.contract frame.copy) tt)
 
 -- the frame's copy of the instance is written if it differs
 abbrev pub writes_instance : Env → Act (Unit {0})
@@ -139,7 +144,8 @@ writes_instance env = with_frame (λ frame. writes_if (not (is_same frame.first 
 
 -- First the result is judged. Then the instance is written.
 abbrev pub finished : Env → ℕ → Act Datum
-finished env word = after (with_frame (λ frame. returned_value (word_meaning frame.shown word))) (λ d. after (writes_instance env) (λ _. gives d))
+finished env word =
+    after (with_frame (λ frame. returned_value (word_meaning frame.shown word))) (λ d. after (writes_instance env) (λ _. gives d))
 
 -- ---- frames
 

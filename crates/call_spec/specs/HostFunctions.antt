@@ -1,4 +1,5 @@
--- The host functions: the rule of each that acts on the world, and the frames in which contracts call them (own, after CAP-0046-03).
+-- The host functions: the rule of each that acts on the world, and the frames in which contracts call them (own, after
+-- CAP-0046-03).
 use Rattle.std.specs.Prelude.{ℕ, zero, suc, List, Option, Some, None}
 use Rattle.std.specs.Option.{option_map}
 use Rattle.host_interface.specs.Rows.{Row}
@@ -13,11 +14,13 @@ use Rattle.call_spec.specs.Errors.{IMPOSSIBLE}
 use Rattle.call_spec.specs.World.{Env}
 use Rattle.call_spec.specs.Acts.{Act, fails, lift}
 use Rattle.call_spec.specs.Rules.{Rule, call_of}
-use Rattle.call_spec.specs.Events.{contract_event, get_ledger_version, get_ledger_sequence, get_ledger_timestamp, get_ledger_network_id}
+use Rattle.call_spec.specs.Events.{contract_event, get_ledger_version, get_ledger_sequence, get_ledger_timestamp}
+use Rattle.call_spec.specs.Events.{get_ledger_network_id}
 use Rattle.call_spec.specs.Events.{get_current_contract_address, get_max_live_until_ledger, fail_with_error}
 use Rattle.call_spec.specs.Storage.{put_contract_data, has_contract_data, get_contract_data, del_contract_data}
 use Rattle.call_spec.specs.Storage.{extend_contract_data_ttl, extend_current_contract_instance_and_code_ttl}
-use Rattle.call_spec.specs.Creating.{upload_wasm, create_contract, create_contract_with_constructor, update_current_contract_wasm, get_contract_id}
+use Rattle.call_spec.specs.Creating.{upload_wasm, create_contract, create_contract_with_constructor, update_current_contract_wasm}
+use Rattle.call_spec.specs.Creating.{get_contract_id}
 use Rattle.call_spec.specs.Calling.{call, try_call}
 use Rattle.call_spec.specs.Demands.{require_auth, require_auth_for_args}
 use Rattle.call_spec.specs.Frames.{HostCalls, Opener, framed}

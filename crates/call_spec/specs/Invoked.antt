@@ -1,5 +1,5 @@
--- What becomes of an INVOKE_HOST_FUNCTION operation (own, after CAP-0046-05 and CAP-0046-07). The first test that holds decides: malformed; an
--- archived key; bytes read; an undeclared access; the budget; a failure; bytes written; else success.
+-- What becomes of an INVOKE_HOST_FUNCTION operation (own, after CAP-0046-05 and CAP-0046-07). The first test that holds decides:
+-- malformed; an archived key; bytes read; an undeclared access; the budget; a failure; bytes written; else success.
 use Rattle.std.specs.Prelude.{ℕ, List, ◌++◌, Bool, true, false, Option, Some, None, nat_lt, if◌then◌else◌}
 use Rattle.std.specs.List.{list_any, sum_by}
 use Rattle.std.specs.FinMap.{get, keys}
@@ -19,7 +19,8 @@ use Rattle.invoke_types.specs.declared.success.SuccessPreimage.{SuccessPreimage}
 use Rattle.tx_xdr.specs.declared.transaction.Footprint.{Footprint}
 use Rattle.tx_xdr.specs.declared.transaction.SorobanData.{SorobanData}
 use Rattle.tx_results.specs.declared.operation.InvokeResult.{InvokeResult}
-use Rattle.tx_results.specs.declared.operation.InvokeResult.TheVariants.{Success, Malformed, Trapped, ResourceLimitExceeded, EntryArchived}
+use Rattle.tx_results.specs.declared.operation.InvokeResult.TheVariants.{Success, Malformed, Trapped, ResourceLimitExceeded}
+use Rattle.tx_results.specs.declared.operation.InvokeResult.TheVariants.{EntryArchived}
 use Rattle.ledger_spec.specs.LedgerMap.{LedgerMap}
 use Rattle.ledger_spec.specs.Seen.{Seen, live, absent, archived, seen, seen_of}
 use Rattle.stage_runs.specs.Whole.{nothing_used}

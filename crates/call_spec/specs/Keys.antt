@@ -59,4 +59,5 @@ code_key hash = keys.ContractCode hash
 
 -- the entry of a code, modified in ledger n
 abbrev pub code_entry : ℕ → Hash → List ℕ → LedgerEntry
-code_entry n hash code = record { last_modified_ledger_seq = n; «data» = entries.ContractCode (record { hash = hash; code = code }) }
+code_entry n hash code =
+    record { last_modified_ledger_seq = n; «data» = entries.ContractCode (record { hash = hash; code = code }) }

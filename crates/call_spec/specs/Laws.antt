@@ -1,4 +1,5 @@
--- Laws of runs: what a run does depends on the entries at declared keys alone, up to its first undeclared access (own, after CAP-0046-05).
+-- Laws of runs: what a run does depends on the entries at declared keys alone, up to its first undeclared access (own, after
+-- CAP-0046-05).
 use Rattle.std.specs.Prelude.{◌≡◌, ◌≤◌, ◌<◌, ◌+◌, ◌^◌, ◌&&◌, ℕ, List, Bool, true, false, not, Option, Some, None, is_some}
 use Rattle.std.specs.List.{list_any}
 use Rattle.std.specs.Str.{bytes_eq}
@@ -57,12 +58,15 @@ pub record AlikeRuns {A : Type 0} (may : Judge) (m n : LedgerMap) (one other : O
 
 -- Whole runs over two maps that agree on a footprint are the same up to the first access that the footprint does not declare.
 abbrev pub LocalLaw : Type 0
-LocalLaw = (header : Header) (authority : Authority) (instructions : ℕ) (work : Work) (footprint : Footprint) (m n : LedgerMap) → Agree (by_footprint footprint) m n
-    → AlikeRuns (by_footprint footprint) m n (whole header authority instructions work m) (whole header authority instructions work n)
+LocalLaw = (header : Header) (authority : Authority) (instructions : ℕ) (work : Work) (footprint : Footprint) (m n : LedgerMap)
+    → Agree (by_footprint footprint) m n
+    → AlikeRuns (by_footprint footprint) m n (whole header authority instructions work m)
+    (whole header authority instructions work n)
 
 -- The same holds of a call, an upload or a create from any world.
 abbrev pub LocalFromLaw : Type 0
-LocalFromLaw = (header : Header) (authority : Authority) (work : Work) (footprint : Footprint) (w : World) (n : LedgerMap) → Agree (by_footprint footprint) w.entries n
+LocalFromLaw = (header : Header) (authority : Authority) (work : Work) (footprint : Footprint) (w : World) (n : LedgerMap)
+    → Agree (by_footprint footprint) w.entries n
     → (let one = done_under all_allowed header authority work w in
     let other = done_under all_allowed header authority work (record w { entries = n }) in
     AlikeRuns (by_footprint footprint) w.entries n one other)
@@ -79,17 +83,19 @@ abbrev pub Stops : {A : Type 0} → Judge → LedgerMap → LedgerMap → Option
 Stops may m n (Some a) one cut = IsStoppedAt a cut
 Stops may m n None one cut = AlikeEnds may m n one cut
 
--- For every map that agrees with the footprint's keys, a run that judges each access when it is made is the whole run, up to its first
--- undeclared access.
+-- For every map that agrees with the footprint's keys, a run that judges each access when it is made is the whole run, up to its
+-- first undeclared access.
 abbrev pub StopLaw : Type 0
-StopLaw = (header : Header) (authority : Authority) (instructions : ℕ) (work : Work) (footprint : Footprint) (m n : LedgerMap) → Agree (by_footprint footprint) m n
+StopLaw = (header : Header) (authority : Authority) (instructions : ℕ) (work : Work) (footprint : Footprint) (m n : LedgerMap)
+    → Agree (by_footprint footprint) m n
     → (let one = whole header authority instructions work m in
     let cut = run_under (by_footprint footprint) header authority instructions work n in
     Stops (by_footprint footprint) m n (first_rejected (by_footprint footprint) (world_of one).trace) one cut)
 
 -- The same holds of a call, an upload or a create from any world without an undeclared access so far.
 abbrev pub EndToEndLaw : Type 0
-EndToEndLaw = (header : Header) (authority : Authority) (work : Work) (footprint : Footprint) (w : World) (n : LedgerMap) → Agree (by_footprint footprint) w.entries n
+EndToEndLaw = (header : Header) (authority : Authority) (work : Work) (footprint : Footprint) (w : World) (n : LedgerMap)
+    → Agree (by_footprint footprint) w.entries n
     → first_rejected (by_footprint footprint) w.trace ≡ None
     → (let one = done_under all_allowed header authority work w in
     let cut = done_under (by_footprint footprint) header authority work (record w { entries = n }) in
@@ -115,11 +121,15 @@ IsExtended _ _ = ⊥
 -- At a key that the run did not write, its entry stays as it was, but for its life, which may be longer.
 abbrev pub WrittenLaw : Type 0
 WrittenLaw = (header : Header) (authority : Authority) (instructions : ℕ) (work : Work) (entries : LedgerMap) (key : List ℕ)
-    → (let w = world_of (whole header authority instructions work entries) in writes_in w.trace key ≡ false → IsExtended (get entries key) (get w.entries key))
+    → (let w = world_of (whole header authority instructions work entries) in writes_in w.trace key ≡ false
+    → IsExtended (get entries key) (get w.entries key))
 
--- So a run without an undeclared access may make lives longer at the keys that are not declared read-write, and changes nothing else there.
+-- So a run without an undeclared access may make lives longer at the keys that are not declared read-write, and changes nothing
+-- else there.
 abbrev pub ReadOnlyLaw : Type 0
-ReadOnlyLaw = (header : Header) (authority : Authority) (instructions : ℕ) (work : Work) (footprint : Footprint) (entries : LedgerMap) (key : List ℕ)
+ReadOnlyLaw =
+    (header : Header) (authority : Authority) (instructions : ℕ) (work : Work) (footprint : Footprint) (entries : LedgerMap)
+    (key : List ℕ)
     → (let w = world_of (whole header authority instructions work entries) in
     first_rejected (by_footprint footprint) w.trace ≡ None → has_bytes footprint.read_write key ≡ false
     → IsExtended (get entries key) (get w.entries key))
@@ -143,20 +153,24 @@ pub record AreNumberedLives (header : Header) : Type 0 where
 
 -- However a whole run ends, it leaves each entry at its own key, each life in 32 bits and each code at its hash.
 abbrev pub KeptLaw : Type 0
-KeptLaw = (header : Header) (authority : Authority) (instructions : ℕ) (work : Work) (entries : LedgerMap) → AreNumberedLives header → AreWellKept entries
+KeptLaw = (header : Header) (authority : Authority) (instructions : ℕ) (work : Work) (entries : LedgerMap)
+    → AreNumberedLives header → AreWellKept entries
     → AreWellKept (world_of (whole header authority instructions work entries)).entries
 
 -- The same holds of a call, an upload or a create from any world.
 abbrev pub KeptFromLaw : Type 0
-KeptFromLaw = (header : Header) (authority : Authority) (work : Work) (w : World) → AreNumberedLives header → AreWellKept w.entries
+KeptFromLaw =
+    (header : Header) (authority : Authority) (work : Work) (w : World) → AreNumberedLives header → AreWellKept w.entries
     → AreWellKept (world_of (done_under all_allowed header authority work w)).entries
 
 -- ---- archived entries
 
--- If a persistent entry lives one ledger at least, no declared key is archived, and no access is undeclared, then the run does not end at an
--- archived entry.
+-- If a persistent entry lives one ledger at least, no declared key is archived, and no access is undeclared, then the run does
+-- not end at an archived entry.
 abbrev pub NeverArchivedLaw : Type 0
-NeverArchivedLaw = (header : Header) (authority : Authority) (instructions : ℕ) (work : Work) (footprint : Footprint) (entries : LedgerMap) (key : LedgerKey) (w : World)
+NeverArchivedLaw =
+    (header : Header) (authority : Authority) (instructions : ℕ) (work : Work) (footprint : Footprint) (entries : LedgerMap)
+    (key : LedgerKey) (w : World)
     → 1 ≤ header.settings.min_persistent_ttl → declares_archived (next_seq header) entries footprint ≡ false
     → first_rejected (by_footprint footprint) (world_of (whole header authority instructions work entries)).trace ≡ None
     → whole header authority instructions work entries ≡ Bad (Archived key) w → ⊥
@@ -174,7 +188,8 @@ pub record AlikeInvoked (may : Judge) (m n : LedgerMap) (one other : Invoked) : 
 abbrev pub FrameLaw : Type 0
 FrameLaw = (header : Header) (authority : Authority) (resources : SorobanData) (function : HostFunction) (one other : LedgerMap)
     → Agree (by_footprint resources.footprint) one other
-    → AlikeInvoked (by_footprint resources.footprint) one other (invoked header authority resources one function) (invoked header authority resources other function)
+    → AlikeInvoked (by_footprint resources.footprint) one other (invoked header authority resources one function)
+    (invoked header authority resources other function)
 
 -- ---- host functions
 

@@ -21,8 +21,9 @@ abbrev pub stopped_kind : {A : Type 0} → Out A → AccessKind
 stopped_kind (Undeclared a w) = a.kind
 stopped_kind _ = Read
 
--- What the program leaves at the end of an act. The program does not hold the list of accesses, so it shows the act's final world only when that list is
--- given. `told` is what it knows of the list: a storage that records has the touched keys, one that enforces a footprint has none.
+-- What the program leaves at the end of an act. The program does not hold the list of accesses, so it shows the act's final world
+-- only when that list is given. `told` is what it knows of the list: a storage that records has the touched keys, one that
+-- enforces a footprint has none.
 pub record Leaves : Type 1 where
   pub world : List Access → World
   pub told : List Access → Type 0
@@ -34,7 +35,8 @@ EndsSo e out left = left.told (trace_of out) × (out ≡ Bad e (world_of out)) �
 -- The act makes an access of this key, which the judge rejects.
 abbrev pub StopsSo : {A : Type 0} → LedgerKey → Out A → Leaves → Type 0
 StopsSo key out left =
-    left.told (trace_of out) × (out ≡ Undeclared (record { kind = stopped_kind out; key = key; used = (left.world []).meter.used }) (world_of out))
+    left.told (trace_of out)
+    × (out ≡ Undeclared (record { kind = stopped_kind out; key = key; used = (left.world []).meter.used }) (world_of out))
     × ((world_of out).meter ≡ (left.world []).meter)
 
 -- The Rust function returns what the act returns, and leaves the act's final world. Out of memory is always allowed.

@@ -1,5 +1,5 @@
--- The shape of all host functions that act on the world: the arguments from left to right, the charges of the call, the function's own rule,
--- its result (own).
+-- The shape of all host functions that act on the world: the arguments from left to right, the charges of the call, the
+-- function's own rule, its result (own).
 use Rattle.std.specs.Prelude.{ℕ, List, [], ◌∷◌, Result, Ok, Err}
 use Rattle.host_interface.specs.declared.kinds.ArgKind.{ArgKind}
 use Rattle.value_types.specs.Datum.{Datum, void}
@@ -15,7 +15,8 @@ abbrev pub Rule : List ArgKind → Type 0
 Rule [] = Act Answer
 Rule (k ∷ ks) = Means k → Rule ks
 
--- the rule with the arguments that the words mean, or the error of the first word that means none; a call has a word for each argument
+-- the rule with the arguments that the words mean, or the error of the first word that means none; a call has a word for each
+-- argument
 abbrev pub applied : (ks : List ArgKind) → Rule ks → List ℕ → List Datum → Result (Act Answer) ScError
 applied [] rule words shown = Ok rule
 applied (k ∷ ks) rule [] shown = Err INVALID_VALUE
@@ -27,7 +28,8 @@ charged_then charges (Ok rule) = after charges (λ _. rule)
 
 -- what a function returns
 abbrev pub answered : (ks : List ArgKind) → Rule ks → List ℕ → Act Answer
-answered ks rule words = with_frame (λ frame. charged_then (lift (dispatched (tagged_words ks words))) (applied ks rule words frame.shown))
+answered ks rule words =
+    with_frame (λ frame. charged_then (lift (dispatched (tagged_words ks words))) (applied ks rule words frame.shown))
 
 -- the whole call
 abbrev pub call_of : (ks : List ArgKind) → Rule ks → List ℕ → Act ℕ

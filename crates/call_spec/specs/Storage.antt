@@ -46,7 +46,8 @@ with_storage storage w = record w { frame = record w.frame { copy = record w.fra
 abbrev pub put_in_copy : Datum → Datum → Act Answer
 put_in_copy key val = with_frame (λ frame.
     let storage = Some (put key val (members frame.copy.storage)) in
-    only_where (is_within_limits (instance_of (record frame.copy { storage = storage }))) TOO_LARGE (sets (with_storage storage) nothing))
+    only_where (is_within_limits (instance_of (record frame.copy { storage = storage }))) TOO_LARGE
+    (sets (with_storage storage) nothing))
 
 abbrev pub has_in_copy : Datum → Act Answer
 has_in_copy key = with_frame (λ frame. gives (value (boolean (is_some (value_at key (members frame.copy.storage))))))
@@ -94,7 +95,8 @@ lengthens (Some life) n kept threshold = leaves (Some (longer n kept threshold l
 
 abbrev pub extends : Env → ℕ → ℕ → Option Kept → Effect Answer
 extends env threshold extend_to None = refuses NO_ENTRY
-extends env threshold extend_to (Some kept) = lengthens (asked_life env.header.settings (made_seq env) kept.entry extend_to) (made_seq env) kept threshold
+extends env threshold extend_to (Some kept) =
+    lengthens (asked_life env.header.settings (made_seq env) kept.entry extend_to) (made_seq env) kept threshold
 
 -- A threshold above extend_to is refused before any access.
 abbrev pub unless_backward : {A : Type 0} → ℕ → ℕ → Act A → Act A
@@ -109,20 +111,24 @@ abbrev pub put_contract_data : Env → Datum → Datum → ℕ → Act Answer
 put_contract_data env key val kind =
     by_storage kind
     (λ durability. with_frame (λ frame.
-    access env Write (data_key frame.contract key durability) (puts env (data_entry (made_seq env) frame.contract key durability val) nothing)))
+    access env Write (data_key frame.contract key durability)
+    (puts env (data_entry (made_seq env) frame.contract key durability val) nothing)))
     (put_in_copy key val)
 
 abbrev pub has_contract_data : Env → Datum → ℕ → Act Answer
 has_contract_data env key kind =
-    by_storage kind (λ durability. with_frame (λ frame. access env Read (data_key frame.contract key durability) has)) (has_in_copy key)
+    by_storage kind (λ durability. with_frame (λ frame. access env Read (data_key frame.contract key durability) has))
+    (has_in_copy key)
 
 abbrev pub get_contract_data : Env → Datum → ℕ → Act Answer
 get_contract_data env key kind =
-    by_storage kind (λ durability. with_frame (λ frame. access env Read (data_key frame.contract key durability) gets)) (get_in_copy key)
+    by_storage kind (λ durability. with_frame (λ frame. access env Read (data_key frame.contract key durability) gets))
+    (get_in_copy key)
 
 abbrev pub del_contract_data : Env → Datum → ℕ → Act Answer
 del_contract_data env key kind =
-    by_storage kind (λ durability. with_frame (λ frame. access env Write (data_key frame.contract key durability) deletes)) (del_in_copy key)
+    by_storage kind (λ durability. with_frame (λ frame. access env Write (data_key frame.contract key durability) deletes))
+    (del_in_copy key)
 
 -- Instance storage lives as long as the instance and has no extension of its own.
 abbrev pub extend_contract_data_ttl : Env → Datum → ℕ → ℕ → ℕ → Act Answer
@@ -136,4 +142,5 @@ extend_contract_data_ttl env key kind threshold extend_to =
 abbrev pub extend_current_contract_instance_and_code_ttl : Env → ℕ → ℕ → Act Answer
 extend_current_contract_instance_and_code_ttl env threshold extend_to =
     unless_backward threshold extend_to (with_frame (λ frame.
-    after (extending env (instance_key frame.contract) threshold extend_to) (λ _. extending env (code_key frame.code) threshold extend_to)))
+    after (extending env (instance_key frame.contract) threshold extend_to)
+    (λ _. extending env (code_key frame.code) threshold extend_to)))

@@ -12,7 +12,8 @@ use Rattle.value_types.specs.declared.executable.Executable.TheVariants.{Wasm}
 use Rattle.invoke_types.specs.declared.preimage.Preimage.{Preimage}
 use Rattle.invoke_types.specs.declared.preimage.Preimage.TheVariants.{FromAddress}
 use Rattle.invoke_types.specs.declared.host_function.HostFunction.{HostFunction}
-use Rattle.invoke_types.specs.declared.host_function.HostFunction.TheVariants.{InvokeContract, CreateContract, UploadContractWasm, CreateContractV2}
+use Rattle.invoke_types.specs.declared.host_function.HostFunction.TheVariants.{InvokeContract, CreateContract, UploadContractWasm}
+use Rattle.invoke_types.specs.declared.host_function.HostFunction.TheVariants.{CreateContractV2}
 use Rattle.ledger_types.specs.declared.header.Header.{Header}
 use Rattle.ledger_spec.specs.LedgerMap.{LedgerMap}
 use Rattle.host_spec.specs.Hosted.{size_of}
@@ -32,7 +33,8 @@ pub data Work : Type 0 where
   creating : Creation → Work
 
 abbrev pub creation_of : Preimage → Executable → Option (List Datum) → Option Work
-creation_of (FromAddress deployer salt) (Wasm code) args = Some (creating (record { deployer = deployer; code = code; salt = salt; args = args }))
+creation_of (FromAddress deployer salt) (Wasm code) args =
+    Some (creating (record { deployer = deployer; code = code; salt = salt; args = args }))
 creation_of _ _ args = None
 
 -- What a host function does. None is MALFORMED. A contract of an asset cannot be made.
@@ -51,7 +53,8 @@ arguments_in (creating c) = unwrap_or c.args []
 
 -- The call, the upload or the create. It returns the called function's value, the code's hash or the new contract's address.
 abbrev pub does : Env → Opener → Work → Act Datum
-does env opener (calling contract function args) = calls env opener (record { caller = None; address = contract; function = function; args = args })
+does env opener (calling contract function args) =
+    calls env opener (record { caller = None; address = contract; function = function; args = args })
 does env opener (uploading code) = after (uploads env code) (λ hash. gives (bytes hash.0))
 does env opener (creating c) = after (creates env opener None c) (λ id. gives (address (Contract id)))
 

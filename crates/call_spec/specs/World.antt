@@ -1,5 +1,5 @@
--- What contracts act on (own, after CAP-0046-02, CAP-0046-05 and CAP-0046-11): the ledger's entries, the events, the authorisations that were
--- used, the running frame, the accesses so far, and the budget.
+-- What contracts act on (own, after CAP-0046-02, CAP-0046-05 and CAP-0046-11): the ledger's entries, the events, the
+-- authorisations that were used, the running frame, the accesses so far, and the budget.
 use Rattle.std.specs.Prelude.{ℕ, ◌+◌, Bool, List, [], Option, None}
 use Rattle.budget_meter.specs.Meter.{Meter}
 use Rattle.budget_meter.specs.declared.budget.Used.{Used}
@@ -41,9 +41,9 @@ pub record Copied : Type 0 where
   pub code : Hash
   pub storage : Option (List Member)
 
--- What belongs to one run of a contract's function. Calls and creates are numbered from 0 by the frame that begins them, and so are the calls by which
--- the host asks a contract for a demand of the frame. A frame's path has these numbers, from the transaction down to the frame. A constructor's path is
--- that of its create and the number 1.
+-- What belongs to one run of a contract's function. Calls and creates are numbered from 0 by the frame that begins them, and so
+-- are the calls by which the host asks a contract for a demand of the frame. A frame's path has these numbers, from the
+-- transaction down to the frame. A constructor's path is that of its create and the number 1.
 pub record Frame : Type 0 where
   pub contract : Hash
   -- the contract that called or created it, if a contract did: none for a call by the transaction or by the host
@@ -90,15 +90,15 @@ pub record World : Type 0 where
   pub trace : List Access
   pub meter : Meter
 
--- What may meet demands of authorisation: the operation's entries, the account that is the operation's source, and the signatures that are known to
--- be good.
+-- What may meet demands of authorisation: the operation's entries, the account that is the operation's source, and the signatures
+-- that are known to be good.
 pub record Authority : Type 0 where
   pub entries : List AuthEntry
   pub source : AccountId
   pub verdicts : Verdicts
 
--- What no run changes: the header of the ledger before the one that is made, with the close time of the one that is made, what may meet demands,
--- and which accesses are allowed.
+-- What no run changes: the header of the ledger before the one that is made, with the close time of the one that is made, what
+-- may meet demands, and which accesses are allowed.
 pub record Env : Type 0 where
   pub header : Header
   pub authority : Authority

@@ -3,7 +3,8 @@
 ghost use Rattle.host_spec.specs.Answers.{Answer};
 ghost use Rattle.call_spec.specs.Changed.{PutLaw, DeleteLaw, MakeLaw, ExtendLaw};
 ghost use Rattle.call_spec.specs.Folding.{FoldLaw};
-ghost use Rattle.call_spec.specs.Laws.{LocalLaw, LocalFromLaw, StopLaw, EndToEndLaw, WrittenLaw, ReadOnlyLaw, KeptLaw, KeptFromLaw, NeverArchivedLaw, SumsGrowLaw, FrameLaw, EachHasRule};
+ghost use Rattle.call_spec.specs.Laws.{LocalLaw, LocalFromLaw, StopLaw, EndToEndLaw, WrittenLaw, ReadOnlyLaw, KeptLaw};
+ghost use Rattle.call_spec.specs.Laws.{KeptFromLaw, NeverArchivedLaw, SumsGrowLaw, FrameLaw, EachHasRule};
 
 /// What a run does depends on the entries at declared keys alone, up to its first undeclared access.
 pub fn runs_are_local()

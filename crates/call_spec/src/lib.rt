@@ -1,5 +1,5 @@
-//! What contracts do to a ledger: accesses of storage, host functions, calls, creates, and the run of a transaction, as functions of plain
-//! values over a map of all entries.
+//! What contracts do to a ledger: accesses of storage, host functions, calls, creates, and the run of a transaction, as functions
+//! of plain values over a map of all entries.
 #![tactic(auto)]
 
 mod laws;

@@ -26,7 +26,7 @@ enum Cut<'a> {
 }
 
 impl Fragments {
-    /// No names.
+    /// Makes a list of no names.
     pub fn new(alloc: Global) -> Fragments {
         Fragments {
             named: BTreeMap::new(alloc),

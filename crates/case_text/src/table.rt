@@ -42,7 +42,7 @@ pub struct Record {
 }
 
 impl Record {
-    /// No case was judged.
+    /// Makes the record of a table of which no case was judged.
     pub fn new(alloc: Global) -> Record {
         Record {
             fragments: Fragments::new(alloc),

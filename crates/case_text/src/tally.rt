@@ -12,6 +12,7 @@ pub struct Tally {
 }
 
 impl Tally {
+    /// Makes a tally of no cases.
     pub fn new() -> Tally {
         Tally {
             judged: 0,

@@ -124,8 +124,8 @@ fn module_at<'c>(
     }
 }
 
-/// Returns the valid, linked module that a code encodes, if it encodes one. If the cache has the code, its module is borrowed from
-/// there.
+/// Returns the valid, linked module that a code encodes, if it encodes one. If the cache has the code, its module is borrowed
+/// from there.
 ///
 /// `hash` is where the cache is asked for the code. The result does not depend on it, nor on the cache.
 pub fn module_for<'c>(

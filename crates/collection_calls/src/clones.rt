@@ -19,7 +19,7 @@ fn push_values(made: &mut Vec<ScVal>, values: &[ScVal]) -> Result<(), ValueErr>
     Ok(())
 }
 
-/// Clones of values.
+/// Clones values into a list of their own.
 pub fn clones_of(alloc: Global, values: &[ScVal]) -> Result<Vec<ScVal>, ValueErr>
     ensures value { IfOk result (λ v. datums v.items ≡ datums values.now) }
     ensures memory { IfErr result (λ e. e ≡ errs.NoMemory) }

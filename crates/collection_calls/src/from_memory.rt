@@ -100,8 +100,8 @@ fn owned(values: &Values<'_>, word: u64) -> Result<ScVal, ValueErr>
     }
 }
 
-/// The values of the words in bytes, as clones. Their vec has to be within the bound of values: words that name one object ask for
-/// as many clones of it.
+/// The values of the words in bytes, as clones. Their vec has to be within the bound of values: words that name one object ask
+/// for as many clones of it.
 #[tactic(auto, using(crate::proofs::WordLaws::meant_start, crate::proofs::WordLaws::meant_end))]
 fn values_in(values: &Values<'_>, bytes: &[u8], count: usize) -> Result<Vec<ScVal>, ValueErr>
     requires len { length bytes.now ≡ 8 * count }
@@ -142,8 +142,8 @@ fn show_words(
     give(objects, shown, budget, Answer::vec(items))
 }
 
-/// `vec_new_from_linear_memory`: shows the vec of so many words, from an index of the memory on. A vec above the bound of values is
-/// never made, so this is the whole call, up to the word of its answer.
+/// `vec_new_from_linear_memory`: shows the vec of so many words, from an index of the memory on. A vec above the bound of values
+/// is never made, so this is the whole call, up to the word of its answer.
 pub fn vec_new_from_linear_memory(
     objects: &mut Objects,
     shown: &mut Shown,
@@ -154,7 +154,8 @@ pub fn vec_new_from_linear_memory(
 ) -> Result<u64, ValueErr>
     requires { AreIndices objects.old shown.old }
     ensures does { Says result (λ n. n) (call_of (kinds.U32 ∷ kinds.U32 ∷ []) vec_new_from_linear_memory (a ∷ b ∷ [])
-        (state (shown_of objects.old shown.old) memory.now budget.old)) (state (shown_of objects.new shown.new) memory.now budget.new) }
+        (state (shown_of objects.old shown.old) memory.now budget.old))
+        (state (shown_of objects.new shown.new) memory.now budget.new) }
     ensures indices { AreIndices objects.new shown.new }
 {
     let values = Values::new(objects, shown);

@@ -1,6 +1,7 @@
 //! Parts of maps, and maps made of them.
 
-ghost use Rattle.std.specs.Prelude.{◌≡◌, ◌<◌, ◌≤◌, length, take, drop, map as each, slice_get, is_some, Some, None, true, false, IfOk, IfErr, IfSome, MatchOption};
+ghost use Rattle.std.specs.Prelude.{◌≡◌, ◌<◌, ◌≤◌, length, take, drop, map as each, slice_get, is_some, Some, None, true, false};
+ghost use Rattle.std.specs.Prelude.{IfOk, IfErr, IfSome, MatchOption};
 ghost use Rattle.std.specs.Option.{option_map};
 ghost use Rattle.value_types.specs.Datum.{members_of, map, items_of, vec};
 ghost use Rattle.value_types.specs.Views.{datum, datums, datum_pairs};

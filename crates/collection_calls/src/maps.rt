@@ -2,7 +2,8 @@
 
 ghost use Rattle.std.specs.Prelude.{[], ◌∷◌};
 ghost use Rattle.host_interface.specs.declared.kinds.ArgKind.TheVariants as kinds;
-ghost use Rattle.host_spec.specs.MapRows.{map_new, map_put, map_get, map_del, map_len, map_has, map_key_by_pos, map_val_by_pos, map_keys, map_values};
+ghost use Rattle.host_spec.specs.MapRows.{map_new, map_put, map_get, map_del, map_len, map_has, map_key_by_pos, map_val_by_pos};
+ghost use Rattle.host_spec.specs.MapRows.{map_keys, map_values};
 ghost use Rattle.host_frame.specs.Answered.{Answers};
 
 use crate::map_parts::{

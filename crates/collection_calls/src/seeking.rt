@@ -42,7 +42,7 @@ pub fn last_index(value: &ScVal, items: &[ScVal]) -> Option<u32>
     None
 }
 
-/// An index, or void.
+/// Answers an index as a U32, and void for none.
 pub fn index_answer(index: Option<u32>) -> Answer
     ensures value { answer_of result ≡ index_answer index }
     ensures made { IsAnswerMade (answer_of result) }

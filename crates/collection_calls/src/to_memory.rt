@@ -78,7 +78,8 @@ pub fn vec_unpack_to_linear_memory(
 ) -> Result<Answer, ValueErr>
     requires { AreIndices objects.old shown.old }
     ensures answers { AnswersFrom result (kinds.Vec ∷ kinds.U32 ∷ kinds.U32 ∷ []) vec_unpack_to_linear_memory (a ∷ b ∷ c ∷ [])
-        (state (shown_of objects.old shown.old) memory.old budget.old) (state (shown_of objects.new shown.new) memory.new budget.new) }
+        (state (shown_of objects.old shown.old) memory.old budget.old)
+        (state (shown_of objects.new shown.new) memory.new budget.new) }
     ensures indices { AreIndices objects.new shown.new }
 {
     let values = Values::new(objects, shown);

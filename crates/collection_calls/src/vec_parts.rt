@@ -1,6 +1,8 @@
 //! Parts of vecs, and vecs made of them.
 
-ghost use Rattle.std.specs.Prelude.{◌≡◌, ◌+◌, ◌-◌, ◌<◌, ◌≤◌, ◌&&◌, ◌++◌, [], ◌∷◌, length, take, drop, nat_lt, nat_le, slice_get, slice_set, slice_range, Some, None, true, false, IfOk, IfErr, IfSome, MatchOption, MatchResult};
+ghost use Rattle.std.specs.Prelude.{◌≡◌, ◌+◌, ◌-◌, ◌<◌, ◌≤◌, ◌&&◌, ◌++◌, [], ◌∷◌, length, take, drop, nat_lt, nat_le, slice_get};
+ghost use Rattle.std.specs.Prelude.{slice_set, slice_range, Some, None, true, false, IfOk, IfErr, IfSome, MatchOption};
+ghost use Rattle.std.specs.Prelude.{MatchResult};
 ghost use Rattle.std.specs.List.{insert, remove};
 ghost use Rattle.value_types.specs.Datum.{items_of, vec};
 ghost use Rattle.value_types.specs.Views.{datum, datums};
@@ -75,7 +77,7 @@ pub fn item_at(items: &[ScVal], index: usize) -> Option<&ScVal>
     }
 }
 
-/// The last item.
+/// Returns the last item, or None if there is none.
 #[tactic(auto, using(crate::proofs::VecLaws::item_here, crate::proofs::VecLaws::hosted_item, host_frame::proofs::Making::datums_length))]
 pub fn last_item(items: &[ScVal]) -> Option<&ScVal>
     requires { IsHosted (vec (items_of (datums items.now))) }

@@ -2,7 +2,9 @@
 
 ghost use Rattle.std.specs.Prelude.{[], ◌∷◌};
 ghost use Rattle.host_interface.specs.declared.kinds.ArgKind.TheVariants as kinds;
-ghost use Rattle.host_spec.specs.VecRows.{vec_new, vec_put, vec_get, vec_del, vec_len, vec_push_front, vec_pop_front, vec_push_back, vec_pop_back, vec_front, vec_back, vec_insert, vec_append, vec_slice, vec_first_index_of, vec_last_index_of};
+ghost use Rattle.host_spec.specs.VecRows.{vec_new, vec_put, vec_get, vec_del, vec_len, vec_push_front, vec_pop_front};
+ghost use Rattle.host_spec.specs.VecRows.{vec_push_back, vec_pop_back, vec_front, vec_back, vec_insert, vec_append, vec_slice};
+ghost use Rattle.host_spec.specs.VecRows.{vec_first_index_of, vec_last_index_of};
 ghost use Rattle.host_frame.specs.Answered.{Answers};
 
 use crate::seeking::{first_index, index_answer, last_index};

@@ -34,6 +34,7 @@ pub struct Commands {
 }
 
 impl Commands {
+    /// Makes the files of no case. Commands begin with those in memory.
     pub fn new(alloc: Global) -> Commands {
         Commands {
             place: Place::Memory,

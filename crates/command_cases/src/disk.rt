@@ -23,6 +23,7 @@ const TOO_LONG: u64 = (1 << 30) + 1;
 const LONG: u64 = 1 << 20;
 
 impl Disk {
+    /// Makes the record of files on disk, of which no case has left one.
     pub fn new(alloc: Global) -> Disk {
         Disk {
             left: Vec::new(alloc),
@@ -38,6 +39,7 @@ impl Disk {
         self.left = Vec::new(alloc);
     }
 
+    /// Writes a file, which `clear` removes.
     pub fn put<R: Runtime>(
         &mut self,
         rt: &R,
@@ -63,6 +65,7 @@ impl Disk {
         Ok(())
     }
 
+    /// Removes a file, which has to be there.
     pub fn remove<R: Runtime>(&mut self, rt: &R, name: &str) -> Result<(), CaseErr> {
         fs::remove_file(rt, name)?;
         Ok(())

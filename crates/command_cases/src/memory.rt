@@ -22,6 +22,7 @@ pub struct Memory {
 }
 
 impl Memory {
+    /// Makes a memory without files, in which no call fails and no clusters meet.
     pub fn new(alloc: Global) -> Memory {
         Memory {
             files: BTreeMap::new(alloc),
@@ -38,6 +39,7 @@ impl Memory {
         Ok(())
     }
 
+    /// Removes a file, which has to be there.
     pub fn remove(&mut self, name: &str) -> Result<(), CaseErr> {
         match self.files.remove(name) {
             Some(_) => Ok(()),

@@ -4,6 +4,7 @@ use case_text::{CaseErr, Fragments};
 use edge_io::Word;
 use std::alloc::{AllocError, Global};
 
+/// Makes one word of a command from its text.
 pub fn word(alloc: Global, text: &str) -> Result<Word, AllocError> {
     Ok(Word::new(String::from_str(alloc, text)?))
 }

@@ -28,11 +28,23 @@ with_flag name a = with_rule a (flag_rule name)
 -- apply --set FILE --ledger FILE --verdicts FILE --close-time SECONDS --workers COUNT --report FILE --ledger-out FILE
 --   [--schedule FILE [--steps COUNT]] [--base64]
 unfoldable pub apply_app : App
-apply_app = with_flag (codes "base64") (with_optional (codes "steps") (with_optional (codes "schedule") (with_option (codes "ledger-out") (with_option (codes "report") (with_option (codes "workers") (with_option (codes "close-time") (with_option (codes "verdicts") (with_option (codes "ledger") (with_option (codes "set") (new_app (codes "apply")))))))))))
+apply_app =
+    with_flag (codes "base64")
+    (with_optional (codes "steps")
+    (with_optional (codes "schedule")
+    (with_option (codes "ledger-out")
+    (with_option (codes "report")
+    (with_option (codes "workers")
+    (with_option (codes "close-time")
+    (with_option (codes "verdicts") (with_option (codes "ledger") (with_option (codes "set") (new_app (codes "apply")))))))))))
 
 -- simulate --tx FILE --ledger FILE --verdicts FILE --close-time SECONDS --out FILE [--base64]
 unfoldable pub simulate_app : App
-simulate_app = with_flag (codes "base64") (with_option (codes "out") (with_option (codes "close-time") (with_option (codes "verdicts") (with_option (codes "ledger") (with_option (codes "tx") (new_app (codes "simulate")))))))
+simulate_app =
+    with_flag (codes "base64")
+    (with_option (codes "out")
+    (with_option (codes "close-time")
+    (with_option (codes "verdicts") (with_option (codes "ledger") (with_option (codes "tx") (new_app (codes "simulate")))))))
 
 -- show --kind KIND --file FILE [--base64]
 unfoldable pub show_app : App
@@ -48,12 +60,26 @@ migrate_app = with_option (codes "ledger-out") (with_option (codes "ledger") (ne
 
 -- gen --count COUNT --seed SEED --set FILE --ledger FILE --verdicts FILE
 unfoldable pub gen_app : App
-gen_app = with_option (codes "verdicts") (with_option (codes "ledger") (with_option (codes "set") (with_option (codes "seed") (with_option (codes "count") (new_app (codes "gen"))))))
+gen_app =
+    with_option (codes "verdicts")
+    (with_option (codes "ledger")
+    (with_option (codes "set") (with_option (codes "seed") (with_option (codes "count") (new_app (codes "gen"))))))
 
 -- the program before it has commands: without help, and without its own name among the words
 abbrev pub bare_app : App
-bare_app = on_top (λ s. record s { no_binary_name = true; disable_help_flag = true; disable_help_subcommand = true; subcommand_required = true }) (new_app (codes "soroban"))
+bare_app =
+    on_top (λ s. record s {
+      no_binary_name = true;
+      disable_help_flag = true;
+      disable_help_subcommand = true;
+      subcommand_required = true;
+    }) (new_app (codes "soroban"))
 
 -- the program with its commands
 unfoldable pub soroban_app : App
-soroban_app = with_subcommand (with_subcommand (with_subcommand (with_subcommand (with_subcommand (with_subcommand bare_app apply_app.top) simulate_app.top) show_app.top) vet_app.top) migrate_app.top) gen_app.top
+soroban_app =
+    with_subcommand
+    (with_subcommand
+    (with_subcommand
+    (with_subcommand (with_subcommand (with_subcommand bare_app apply_app.top) simulate_app.top) show_app.top) vet_app.top)
+    migrate_app.top) gen_app.top

@@ -4,7 +4,9 @@ ghost use Rattle.std.specs.Prelude.{◌≡◌, false, IfOk};
 ghost use Rattle.clap.specs.Simple.{app_of, new_app, with_rule, with_subcommand};
 ghost use Rattle.clap.specs.Walk.{rule_of};
 ghost use Rattle.clap.specs.declared.builder.command.Command.TheViews.{out-Command as fields_of};
-ghost use Rattle.command_words.specs.Commands.{apply_app, bare_app, flag_rule, gen_app, migrate_app, option_rule, optional_rule, show_app, simulate_app, soroban_app, vet_app, with_flag, with_option, with_optional};
+ghost use Rattle.command_words.specs.Commands.{apply_app, bare_app, flag_rule, gen_app, migrate_app, option_rule, optional_rule};
+ghost use Rattle.command_words.specs.Commands.{show_app, simulate_app, soroban_app, vet_app, with_flag, with_option};
+ghost use Rattle.command_words.specs.Commands.{with_optional};
 
 use clap::{Arg, ArgAction, Command};
 use std::alloc::{AllocError, Global};
@@ -115,7 +117,9 @@ fn with_options<'a>(
     second: &'a str,
     third: &'a str,
 ) -> Result<Command<'a>, AllocError>
-    ensures app { IfOk result (λ c. app_of c ≡ with_option third.entry.now (with_option second.entry.now (with_option first.entry.now (app_of command.entry)))) }
+    ensures app { IfOk result
+        (λ c. app_of c
+        ≡ with_option third.entry.now (with_option second.entry.now (with_option first.entry.now (app_of command.entry)))) }
     ensures local { IfOk result (λ c. (fields_of c).has_globals ≡ (fields_of command.entry).has_globals) }
 {
     let command = with_option(command, alloc, first)?;

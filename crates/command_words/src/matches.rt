@@ -6,7 +6,8 @@ ghost use Rattle.clap.specs.Simple.{subcommand_rows_of};
 ghost use Rattle.clap.specs.Walk.{first_of, rows_of};
 ghost use Rattle.command_words.specs.Answers.{ReadsWords};
 ghost use Rattle.command_words.specs.Values.{is_set, kind_in, number_in};
-ghost use Rattle.command_words.specs.Words.{IsInRange, apply_from, asked_from, gen_from, migrate_from, schedule_from, show_from, simulate_from, vet_from};
+ghost use Rattle.command_words.specs.Words.{IsInRange, apply_from, asked_from, gen_from, migrate_from, schedule_from, show_from};
+ghost use Rattle.command_words.specs.Words.{simulate_from, vet_from};
 
 use crate::values::{are_names, are_names_with, kind_in, number_in};
 use crate::{

@@ -71,7 +71,7 @@ fn hash_of_envelope(alloc: Global, network: &Hash, envelope: &[u8]) -> Result<Ha
     }
 }
 
-/// KEY: its hash.
+/// KEY: writes the hash of the ledger key that these bytes spell.
 pub fn hash_of_key(
     alloc: Global,
     fragments: &Fragments,

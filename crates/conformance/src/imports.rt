@@ -4,7 +4,7 @@ use case_text::{CaseErr, first_word};
 use host_interface::{HOST_ROWS, TableRow};
 use std::fmt::Write;
 
-/// The number of functions.
+/// Writes the number of functions of the host interface.
 pub fn interface(out: &mut String) -> Result<(), CaseErr> {
     let count = HOST_ROWS.len();
     writeln!(out, "{count} functions")?;

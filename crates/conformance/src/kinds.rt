@@ -18,6 +18,7 @@ pub struct Kinds {
 }
 
 impl Kinds {
+    /// Makes the kinds of cases, with nothing prepared.
     pub fn new(alloc: Global) -> Kinds {
         Kinds {
             prepared: Prepared::new(alloc),

@@ -89,6 +89,7 @@ pub fn written<T: Xdr>(alloc: Global, bytes: &[u8], value: &T) -> Result<Spellin
     }
 }
 
+/// Turns the reason why no value was read into the spelling of a refused one.
 pub fn refused(error: ReadXdr) -> Result<Spelling, CaseErr> {
     match error {
         ReadXdr::Bad(error) => Ok(Spelling::Refused(error)),

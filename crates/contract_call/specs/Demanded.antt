@@ -24,7 +24,8 @@ use Rattle.auth_parts.specs.Asked.{Asked, asks_first}
 
 -- a call of a contract's function, as an authorisation names it
 abbrev pub called : Hash → List ℕ → List Datum → Function
-called contract function args = ContractFn (record { contract = addresses.Contract contract; function = function; args = map scval args })
+called contract function args =
+    ContractFn (record { contract = addresses.Contract contract; function = function; args = map scval args })
 
 -- Void, if the address authorises the function in the running frame
 abbrev pub requires_here : Env → Opener → ScAddress → Function → Act Answer

@@ -20,8 +20,9 @@ abbrev pub UnlessMemory : {A : Type 0} → Result A HostErr → Type 0 → Type 
 UnlessMemory (Err ends.NoMemory) p = Unit {0}
 UnlessMemory r p = p
 
--- Compares the result of the Rust function with the end of the whole run over the map m. The storage agrees with m on the keys that may be read. After
--- a failure, entries, events and authorisations that were used are as before the call. After Spent and Archived only the budget is compared.
+-- Compares the result of the Rust function with the end of the whole run over the map m. The storage agrees with m on the keys
+-- that may be read. After a failure, entries, events and authorisations that were used are as before the call. After Spent and
+-- Archived only the budget is compared.
 abbrev pub IsEnd : {A B G : Type 0} → Judge → LedgerMap → Out B → Result A HostErr → (A → B) → Host G → Host G → Type 0
 IsEnd may m (Good b w) (Ok a) view old new =
     (b ≡ view a) × (new.ledger.budget ≡ w.meter) × (new.ledger.events ≡ w.events) × (new.marks.pairs ≡ w.pairs)
@@ -35,23 +36,28 @@ IsEnd may m out (Err ends.NoMemory) view old new = Unit {0}
 IsEnd may m _ _ view old new = ⊥
 
 -- The first undeclared access decides, with the sums at that access.
-abbrev pub EndsBy : {A B G : Type 0} → Judge → LedgerMap → Option Access → Out B → Result A HostErr → (A → B) → Host G → Host G → Type 0
+abbrev pub EndsBy : {A B G : Type 0} → Judge → LedgerMap → Option Access → Out B → Result A HostErr → (A → B) → Host G → Host G
+    → Type 0
 EndsBy may m (Some a) out (Err (ends.Undeclared key)) view old new = (key ≡ a.key) × (new.ledger.budget.used ≡ a.used)
 EndsBy may m (Some a) out (Err ends.NoMemory) view old new = Unit {0}
 EndsBy may m (Some a) out _ view old new = ⊥
 EndsBy may m None out r view old new = IsEnd may m out r view old new
 
--- Take any map that agrees with the storage on the declared keys. The Rust function ends as the whole run over that map, or at the first undeclared
--- access of that run. The whole run checks no footprint.
+-- Take any map that agrees with the storage on the declared keys. The Rust function ends as the whole run over that map, or at
+-- the first undeclared access of that run. The whole run checks no footprint.
 abbrev pub Ends : {A G : Type 0} → Work → Result A HostErr → (A → Datum) → Host G → Host G → Type 0
-Ends work r view old new = (footprint : Footprint) → IsSomeAnd old.ledger.storage.declared (IsFootprint footprint.read_only footprint.read_write)
+Ends work r view old new =
+    (footprint : Footprint) → IsSomeAnd old.ledger.storage.declared (IsFootprint footprint.read_only footprint.read_write)
     → (m : LedgerMap) → Agree (by_footprint footprint) m old.ledger.storage.map → (rest : World)
-    → (let out = done_under all_allowed old.ledger.header.now (authority_of old) work (record (world_around rest old []) { entries = m }) in
+    → (let out = done_under all_allowed old.ledger.header.now (authority_of old) work
+    (record (world_around rest old []) { entries = m }) in
     EndsBy (by_footprint footprint) m (first_rejected (by_footprint footprint) (world_of out).trace) out r view old new)
 
--- The same over a storage that records, and has recorded the keys of `trace` so far. The Rust function ends as the whole run. Unless memory ran out,
--- the storage then has the keys of the whole run's accesses, whatever its end.
+-- The same over a storage that records, and has recorded the keys of `trace` so far. The Rust function ends as the whole run.
+-- Unless memory ran out, the storage then has the keys of the whole run's accesses, whatever its end.
 abbrev pub EndsRecorded : {A G : Type 0} → Work → Result A HostErr → (A → Datum) → Host G → Host G → Type 0
-EndsRecorded work r view old new = old.ledger.storage.declared ≡ None → (rest : World) (trace : List Access) → old.ledger.storage.touched ≡ touches_of trace
+EndsRecorded work r view old new =
+    old.ledger.storage.declared ≡ None → (rest : World) (trace : List Access) → old.ledger.storage.touched ≡ touches_of trace
     → (let out = done_under all_allowed old.ledger.header.now (authority_of old) work (world_around rest old trace) in
-    IsEnd all_allowed old.ledger.storage.map out r view old new × UnlessMemory r (new.ledger.storage.touched ≡ touches_of (world_of out).trace))
+    IsEnd all_allowed old.ledger.storage.map out r view old new
+    × UnlessMemory r (new.ledger.storage.touched ≡ touches_of (world_of out).trace))

@@ -25,7 +25,8 @@ use Rattle.call_spec.specs.Keys.{instance_key}
 use Rattle.call_spec.specs.Demands.{demanded}
 use Rattle.call_spec.specs.Frames.{Opener, is_void}
 use Rattle.call_spec.specs.Found.{code_at, with_module}
-use Rattle.call_spec.specs.Creating.{Creation, preimage_of, id_of, function_of, paying_id, makes_instance, CONSTRUCTOR, constructs_if}
+use Rattle.call_spec.specs.Creating.{Creation, preimage_of, id_of, function_of, paying_id, makes_instance, CONSTRUCTOR}
+use Rattle.call_spec.specs.Creating.{constructs_if}
 use Rattle.contract_call.specs.declared.creating.SizedCode.{SizedCode}
 
 -- ---- the contract
@@ -52,7 +53,9 @@ code_of env hash = after (code_at env hash) (λ code. gives (length code, module
 
 -- the instance, then the module
 abbrev pub instantiating : Env → Hash → Hash → ℕ × Option Module → Act Module
-instantiating env id hash code = after (access env Write (instance_key id) (makes_instance env id hash)) (λ _. paying VmInstantiation code.0 (with_module code.1 (λ m. gives m)))
+instantiating env id hash code =
+    after (access env Write (instance_key id) (makes_instance env id hash))
+    (λ _. paying VmInstantiation code.0 (with_module code.1 (λ m. gives m)))
 
 -- the code, the instance, the module
 abbrev pub building : Env → Hash → Hash → Act Module
@@ -62,7 +65,9 @@ building env id hash = after (code_of env hash) (instantiating env id hash)
 
 -- the constructor of a contract that was made
 abbrev pub constructing : Opener → Option ScAddress → Hash → Creation → List ℕ → Module → Act Hash
-constructing opener creator id c path m = after (constructs_if (function_named CONSTRUCTOR m.exports) opener creator id c.code (unwrap_or c.args []) path m) (λ _. gives id)
+constructing opener creator id c path m =
+    after (constructs_if (function_named CONSTRUCTOR m.exports) opener creator id c.code (unwrap_or c.args []) path m)
+    (λ _. gives id)
 
 -- the contract with this id, and its constructor
 abbrev pub builds_with : Env → Opener → Option ScAddress → Creation → List ℕ → Hash → Act Hash
@@ -86,5 +91,6 @@ IsConstructed (Err e) id r = r ≡ Err e
 
 -- a value as an answer
 abbrev pub IsValued : {A : Type 0} → Result A HostErr → (A → Datum) → Result Answer' HostErr → Type 0
-IsValued (Ok a) view r = (answer : Answer') × (r ≡ Ok answer) × (answer_of answer ≡ value (view a)) × IsAnswerMade (answer_of answer)
+IsValued (Ok a) view r =
+    (answer : Answer') × (r ≡ Ok answer) × (answer_of answer ≡ value (view a)) × IsAnswerMade (answer_of answer)
 IsValued (Err e) view r = r ≡ Err e

@@ -41,8 +41,8 @@ pub record IsNewFrame (frame : Running) : Type 0 where
 abbrev pub Starts : Suspended → Entered → Type 0
 Starts i e = IsFresh i e.module_ e.index (length e.args) e.store
 
--- What a run in the frame leaves: writes, events and authorisations that were used were only added, calls and creates were only counted, and the frame
--- is still that of this contract.
+-- What a run in the frame leaves: writes, events and authorisations that were used were only added, calls and creates were only
+-- counted, and the frame is still that of this contract.
 pub record StaysIn {G : Type 0} (old new : Host G) : Type 0 where
   pub left : Left old.ledger new.ledger
   pub contracts : new.open.items ≡ old.open.items
@@ -53,10 +53,12 @@ pub record StaysIn {G : Type 0} (old new : Host G) : Type 0 where
 
 -- `RunsIn` for a frame that started with this instance
 abbrev pub DoesFrom : {A B G : Type 0} → Copied → Result A HostErr → (A → B) → (Env → Act B) → Host G → Host G → Type 0
-DoesFrom first r view act old new = (env : Env) → IsEnvOf env old → (rest : World) (trace : List Access) → rest.frame.first ≡ first
+DoesFrom first r view act old new =
+    (env : Env) → IsEnvOf env old → (rest : World) (trace : List Access) → rest.frame.first ≡ first
     → (let out = act env (world_in rest old trace) in Says r view out (leaving_by old new trace (world_in (ending rest out) new)))
 
 -- `DoesIn` for a frame whose linear memory is `before` at the start and `after` at the end
 abbrev pub DoesOver : {A B G : Type 0} → List ℕ → List ℕ → Result A HostErr → (A → B) → (Env → Act B) → Host G → Host G → Type 0
-DoesOver before after r view act old new = (env : Env) → IsEnvOf env old → (rest : World) (trace : List Access) → rest.frame.memory ≡ before
+DoesOver before after r view act old new =
+    (env : Env) → IsEnvOf env old → (rest : World) (trace : List Access) → rest.frame.memory ≡ before
     → Says r view (act env (world_in rest old trace)) (leaving_by old new trace (world_in (with_memory after rest) new))

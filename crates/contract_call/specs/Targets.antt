@@ -21,7 +21,13 @@ use Rattle.contract_call.specs.declared.targets.Target.{Target as Target'}
 
 -- the call as its definition has it
 abbrev pub call_of : ContractCall → Call
-call_of c = record { caller = option_map address_of c.caller; address = c.contract; function = c.function.now; args = datums c.args.items }
+call_of c =
+    record {
+      caller = option_map address_of c.caller;
+      address = c.contract;
+      function = c.function.now;
+      args = datums c.args.items;
+    }
 
 -- whether the caller may call a function of this name
 abbrev pub may_name : ContractCall → Bool
@@ -48,10 +54,13 @@ target t = record { contract = t.contract; instance = copied t.copy; module_ = t
 
 -- the module with a hash, after the charge for its code
 abbrev pub module_at : Env → Hash → Act Module
-module_at env hash = after (code_at env hash) (λ code. paying VmInstantiation (length code) (with_module (module_of code) (λ m. gives m)))
+module_at env hash =
+    after (code_at env hash) (λ code. paying VmInstantiation (length code) (with_module (module_of code) (λ m. gives m)))
 
 abbrev pub target_at : Env → Hash → Act Target
-target_at env contract = after (instance_at env contract) (λ copy. after (module_at env copy.code) (λ m. gives (record { contract = contract; instance = copy; module_ = m })))
+target_at env contract =
+    after (instance_at env contract)
+    (λ copy. after (module_at env copy.code) (λ m. gives (record { contract = contract; instance = copy; module_ = m })))
 
 -- the target of a call
 abbrev pub target_of : Bool → ScAddress → Env → Act Target

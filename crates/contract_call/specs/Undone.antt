@@ -26,7 +26,10 @@ pub record IsBack {G : Type 0} (mark : Mark) (old new : Host G) : Type 0 where
   pub storage : IsRestored mark.storage.writes old.ledger.storage new.ledger.storage
   pub events : new.ledger.events ≡ take mark.events old.ledger.events
   pub marks : new.marks ≡ restored mark.marks.pairs old.marks
-  pub rest : new ≡ record old { ledger = record old.ledger { storage = new.ledger.storage; events = new.ledger.events }; marks = new.marks }
+  pub rest : new ≡ record old {
+    ledger = record old.ledger { storage = new.ledger.storage; events = new.ledger.events };
+    marks = new.marks;
+  }
 
 -- A failure restores the mark. Any other end changes nothing.
 abbrev pub Undoes : {G : Type 0} → Mark → HostErr → Host G → Host G → Type 0

@@ -66,7 +66,8 @@ numbered h = record h { place = record h.place { begun = h.place.begun + 1 } }
 
 -- a frame was opened at this place; it has shown nothing
 abbrev pub IsOpened : {G : Type 0} → Running → Place → Host G → Host G → Type 0
-IsOpened frame place old new = new ≡ record old { ledger = record old.ledger { objects = []; frame = frame }; «open» = new.open; place = place }
+IsOpened frame place old new =
+    new ≡ record old { ledger = record old.ledger { objects = []; frame = frame }; «open» = new.open; place = place }
 
 -- the frame was closed, and one with these values goes on at this place
 abbrev pub IsClosed : {G : Type 0} → List Datum → Running → Place → Host G → Host G → Type 0
@@ -90,8 +91,8 @@ pub record IsEnvOf {G : Type 0} (env : Env) (h : Host G) : Type 0 where
 abbrev pub leaving_by : {G : Type 0} → Host G → Host G → List Access → (List Access → World) → Leaves
 leaving_by old new before world = leaving old.ledger.storage new.ledger.storage before world
 
--- The Rust function returns what the act returns, and leaves the host that the act leaves. This holds for every environment of the host, every
--- running frame and every earlier trace.
+-- The Rust function returns what the act returns, and leaves the host that the act leaves. This holds for every environment of
+-- the host, every running frame and every earlier trace.
 abbrev pub DoesAround : {A B G : Type 0} → Result A HostErr → (A → B) → (Env → Act B) → Host G → Host G → Type 0
 DoesAround r view act old new = (env : Env) → IsEnvOf env old → (rest : World) (trace : List Access)
     → Says r view (act env (world_around rest old trace)) (leaving_by old new trace (world_around rest new))
@@ -113,8 +114,8 @@ pub record MayRun {G : Type 0} (h : Host G) : Type 0 where
   pub ledger : IsReady h.ledger
   pub entries : All auth_entry_format.fits h.marks.entries
 
--- What a call leaves: writes, events and authorisations that were used were only added, calls and creates were only counted, and the running frame is
--- as before.
+-- What a call leaves: writes, events and authorisations that were used were only added, calls and creates were only counted, and
+-- the running frame is as before.
 pub record Stays {G : Type 0} (old new : Host G) : Type 0 where
   pub header : new.ledger.header.now ≡ old.ledger.header.now
   pub storage : IsLater old.ledger.storage new.ledger.storage

@@ -19,7 +19,8 @@ ghost use Rattle.host_ledger.specs.Worlds.{IsReady};
 ghost use Rattle.call_parts.specs.Steps.{Steps, Charges};
 ghost use Rattle.contract_call.specs.Worlds.{DoesAround, MayRun, Stays};
 ghost use Rattle.contract_call.specs.Creations.{creation_of, args_of, items_of, AreArgsHosted};
-ghost use Rattle.contract_call.specs.Made.{identifying, code_of, sized, instantiating, building, IsValued, IsConstructed, unless_given};
+ghost use Rattle.contract_call.specs.Made.{identifying, code_of, sized, instantiating, building, IsValued, IsConstructed};
+ghost use Rattle.contract_call.specs.Made.{unless_given};
 ghost use Rattle.contract_call.specs.Placed.{IsNewPlace};
 
 use crate::errors::{NO_FUNCTION, NOT_VOID};

@@ -35,7 +35,11 @@ pub(crate) fn argument_words(
     requires indices { AreIndices objects.old shown.old }
     ensures does { (w : World) → w.frame.shown ≡ shown_of objects.old shown.old → w.meter ≡ budget.old
         → Says result (λ words. words.items) (argument_words «module».now.memories (datums args.items) w)
-        (quiet w (λ trace. record w { frame = record w.frame { shown = shown_of objects.new shown.new }; trace = trace; meter = budget.new })) }
+        (quiet w (λ trace. record w {
+          frame = record w.frame { shown = shown_of objects.new shown.new };
+          trace = trace;
+          meter = budget.new;
+        })) }
     ensures count { IfOk result (λ words. length words.items ≡ length (datums args.items)) }
     ensures indices { AreIndices objects.new shown.new }
 {

@@ -64,8 +64,8 @@ fn outside(alloc: Global) -> Running
 
 impl<'a, G: Ground> Host<'a, G> {
     /// Makes a host without events and open frames. `header` is that of the ledger before the one that is made, with the close
-    /// time of the one that is made. `marks` has the operation's authorisation entries. A code that `codes` has is loaded there, once
-    /// for all hosts.
+    /// time of the one that is made. `marks` has the operation's authorisation entries. `codes` keeps each code that it loads
+    /// for later hosts; two threads may both load one.
     pub fn new(
         alloc: Global,
         storage: Storage<'a, G>,

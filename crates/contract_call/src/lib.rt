@@ -16,8 +16,8 @@
 //!    | `DoesFrom` | the state's frame, with the instance that it started with; its linear memory may change |
 //!    | `RunsIn` | the state's frame, whose linear memory may change |
 //!
-//! 3. `Stays` says what a call may not touch: the ledger's header, the frame and the values of its caller, and the open contracts.
-//!    Its writes, its events and the authorisations that it uses are added to those before.
+//! 3. `Stays` says what a call may not touch: the ledger's header, the frame and the values of its caller, and the open
+//!    contracts. Its writes, its events and the authorisations that it uses are added to those before.
 //! 4. A call that fails goes back to the state before it, without memory. No other end is caught.
 #![tactic(auto)]
 

@@ -57,7 +57,12 @@ fn value_in<G: Ground>(
         → Says result (λ word. word) (host_function env opener «import» words.now (world_at rest ledger.old trace))
         (leaving ledger.old.storage ledger.new.storage trace (world_at (with_memory memory.new rest) ledger.new)) }
     ensures indices { AreIndices ledger.new.objects ledger.new.frame.shown }
-    ensures kept { ledger.new ≡ record ledger.old { objects = ledger.new.objects; budget = ledger.new.budget; frame = record ledger.old.frame { shown = ledger.new.frame.shown } } }
+    ensures kept { ledger.new
+        ≡ record ledger.old {
+          objects = ledger.new.objects;
+          budget = ledger.new.budget;
+          frame = record ledger.old.frame { shown = ledger.new.frame.shown };
+        } }
 {
     match call_function(
         &mut ledger.objects,
@@ -114,7 +119,12 @@ fn show<G: Ground>(ledger: &mut HostLedger<'_, G>, answer: Answer) -> Result<u64
         → Says result (λ word. word) (lift (given (answer_of answer)) (world_at rest ledger.old trace))
         (quiet (world_at rest ledger.old trace) (world_at rest ledger.new)) }
     ensures indices { AreIndices ledger.new.objects ledger.new.frame.shown }
-    ensures kept { ledger.new ≡ record ledger.old { objects = ledger.new.objects; budget = ledger.new.budget; frame = record ledger.old.frame { shown = ledger.new.frame.shown } } }
+    ensures kept { ledger.new
+        ≡ record ledger.old {
+          objects = ledger.new.objects;
+          budget = ledger.new.budget;
+          frame = record ledger.old.frame { shown = ledger.new.frame.shown };
+        } }
 {
     let word = give(
         &mut ledger.objects,

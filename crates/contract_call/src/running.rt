@@ -57,10 +57,19 @@ fn begin_in<G: Ground>(
     requires ready { IsReady ledger.old }
     ensures does { (w : World) → w.frame.shown ≡ shown_of ledger.old.objects ledger.old.frame.shown → w.meter ≡ ledger.old.budget
         → Says result (λ words. words.items) (argument_words_in «module».now.memories (datums args.items) w)
-        (quiet w (λ trace. record w { frame = record w.frame { shown = shown_of ledger.new.objects ledger.new.frame.shown }; trace = trace; meter = ledger.new.budget })) }
+        (quiet w (λ trace. record w {
+          frame = record w.frame { shown = shown_of ledger.new.objects ledger.new.frame.shown };
+          trace = trace;
+          meter = ledger.new.budget;
+        })) }
     ensures count { IfOk result (λ words. length words.items ≡ length (datums args.items)) }
     ensures indices { AreIndices ledger.new.objects ledger.new.frame.shown }
-    ensures stays { ledger.new ≡ record ledger.old { objects = ledger.new.objects; frame = record ledger.old.frame { shown = ledger.new.frame.shown }; budget = ledger.new.budget } }
+    ensures stays { ledger.new
+        ≡ record ledger.old {
+          objects = ledger.new.objects;
+          frame = record ledger.old.frame { shown = ledger.new.frame.shown };
+          budget = ledger.new.budget;
+        } }
 {
     argument_words(
         &mut ledger.objects,

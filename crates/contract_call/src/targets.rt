@@ -13,7 +13,8 @@ ghost use Rattle.host_ledger.specs.Traced.{leaving};
 ghost use Rattle.call_parts.specs.Steps.{Steps};
 ghost use Rattle.host_ledger.specs.Worlds.{Serves, IsHeld, copied};
 ghost use Rattle.contract_call.specs.Worlds.{DoesAround, MayRun, Stays};
-ghost use Rattle.contract_call.specs.Targets.{may_name as may_name_in, tests, target, module_at, target_at as target_at_in, target_of as target_of_in};
+ghost use Rattle.contract_call.specs.Targets.{may_name as may_name_in, tests, target, module_at, target_at as target_at_in};
+ghost use Rattle.contract_call.specs.Targets.{target_of as target_of_in};
 
 use crate::errors::{OTHER_TYPE, REENTERED, RESERVED_NAME};
 use crate::host::Host;
@@ -68,7 +69,8 @@ fn is_running(open: &[Hash], contract: Hash) -> bool
     open.iter().rev().any(|other| contract == *other)
 }
 
-/// The contract at the address, if its function may be called now. `named` says whether the caller may call a function of its name.
+/// The contract at the address, if its function may be called now. `named` says whether the caller may call a function of its
+/// name.
 fn admitted(open: &[Hash], address: ScAddress, named: bool) -> Result<Hash, HostErr>
     ensures { (w : World) → w.contracts ≡ reverse open.now
         → Says result (λ c. c) (tests named address (λ c. gives c) w) (quiet w (λ trace. w)) }
@@ -96,7 +98,8 @@ fn with_module<'c, G: Ground>(
 ) -> Result<Target<'c>, HostErr>
     requires { IsHeld copy.storage }
     ensures does { Steps result target (λ env. after (module_at env copy.code)
-        (λ m. gives (record { contract = contract; instance = copied copy; module_ = m }))) storage.old storage.new budget.old budget.new }
+        (λ m. gives (record { contract = contract; instance = copied copy; module_ = m }))) storage.old storage.new budget.old
+        budget.new }
     ensures held { IfOk result (λ t. IsHeld t.copy.storage) }
     ensures read { IsRead storage.old storage.new }
 {

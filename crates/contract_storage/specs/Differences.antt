@@ -50,7 +50,8 @@ removal key (Some found) = Some (record { key = key; now = None })
 abbrev pub difference : LedgerMap → LedgerKey × Overlay → Option Change
 difference base (key, Same) = None
 difference base (key, Gone) = removal key (find base key)
-difference base (key, Now kept) = if is_kept (find base key) kept.value then None else Some (record { key = key; now = Some kept.value })
+difference base (key, Now kept) =
+    if is_kept (find base key) kept.value then None else Some (record { key = key; now = Some kept.value })
 
 -- the changes of all keys with overlays
 abbrev pub differences : LedgerMap → List (LedgerKey × Overlay) → List Change

@@ -35,7 +35,8 @@ allows declared access key = permits access (lookup (is_at (key_cmp key)) declar
 -- the declared keys of a storage allow what the two lists declare
 abbrev pub IsFootprint : List LedgerKey → List LedgerKey → List (LedgerKey × Bool) → Type 0
 IsFootprint read_only read_write declared =
-    (access : Access) (key : LedgerKey) → key_format.fits key → allows declared access key ≡ declares read_only read_write access key
+    (access : Access) (key : LedgerKey) → key_format.fits key
+    → allows declared access key ≡ declares read_only read_write access key
 
 -- the declared keys with those of a list
 abbrev pub with_keys : List (LedgerKey × Bool) → List LedgerKey → Bool → List (LedgerKey × Bool)

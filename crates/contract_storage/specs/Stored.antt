@@ -23,9 +23,19 @@ pub record Stored : Type 0 where
 abbrev pub stored_code : Coded LedgerMap → Coded Settings → Coded LedgerKey → Coded Touch → Coded Stored
 stored_code c l k t =
     code_by (LedgerMap × (LedgerMap × (List LedgerMap × (Option (List (LedgerKey × Bool)) × (List Touch × (ℕ × Settings))))))
-    (coded× c (coded× c (coded× (coded_list c) (coded× (coded_option (coded_list (coded× k coded_bool))) (coded× (coded_list t) (coded× coded_ℕ l))))))
+    (coded× c (coded× c
+    (coded× (coded_list c)
+    (coded× (coded_option (coded_list (coded× k coded_bool))) (coded× (coded_list t) (coded× coded_ℕ l))))))
     (λ s. (s.base, (s.map, (s.past, (s.declared, (s.touched, (s.n, s.lives)))))))
-    (λ p. record { base = p.0; map = p.1.0; past = p.1.1.0; declared = p.1.1.1.0; touched = p.1.1.1.1.0; n = p.1.1.1.1.1.0; lives = p.1.1.1.1.1.1 }) (λ _. refl)
+    (λ p. record {
+      base = p.0;
+      map = p.1.0;
+      past = p.1.1.0;
+      declared = p.1.1.1.0;
+      touched = p.1.1.1.1.0;
+      n = p.1.1.1.1.1.0;
+      lives = p.1.1.1.1.1.1;
+    }) (λ _. refl)
 
 -- the settings are valid, and the ledger's number is not too high
 pub record HasBounds (n : ℕ) (lives : Settings) : Type 0 where
@@ -54,7 +64,8 @@ with_touched s touched = record s { touched = touched }
 
 -- a storage without writes and touched keys
 abbrev pub starting : LedgerMap → ℕ → Settings → Option (List (LedgerKey × Bool)) → Stored
-starting base n lives declared = record { base = base; map = base; past = []; declared = declared; touched = []; n = n; lives = lives }
+starting base n lives declared =
+    record { base = base; map = base; past = []; declared = declared; touched = []; n = n; lives = lives }
 
 -- a later state: writes were added, the touched keys may be others, and nothing else changed
 pub record IsLater (old new : Stored) : Type 0 where

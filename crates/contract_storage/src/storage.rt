@@ -1,6 +1,7 @@
 //! The storage: the accesses that it allows, its snapshots, and what it changed and recorded. Its calls are in `calls`.
 
-ghost use Rattle.std.specs.Prelude.{◌≡◌, ◌≤◌, ◌<◌, ◌-◌, ◌^◌, ◌&&◌, All, Some, None, length, nat_lt, nat_le, IfOk, IfErr, IfSome, IsSomeAnd, true, false, OnOk, OnErr};
+ghost use Rattle.std.specs.Prelude.{◌≡◌, ◌≤◌, ◌<◌, ◌-◌, ◌^◌, ◌&&◌, All, Some, None, length, nat_lt, nat_le, IfOk, IfErr, IfSome};
+ghost use Rattle.std.specs.Prelude.{IsSomeAnd, true, false, OnOk, OnErr};
 ghost use Rattle.std.specs.Option.{option_map};
 ghost use Rattle.ledger_types.specs.Key.{key_format};
 ghost use Rattle.ledger_types.specs.Entry.{entry_format, key_of as key_of_entry};

@@ -23,8 +23,8 @@ pub trait Files {
         requires { file < 8 }
         ensures { result ≡ faults self.now file };
 
-    /// Copies bytes of a file from an offset into the start of the buffer, and returns their number. The number is 0 only at or past
-    /// the file's end, or for an empty buffer. Returns Failed if no file has this name.
+    /// Copies bytes of a file from an offset into the start of the buffer, and returns their number. The number is 0 only at or
+    /// past the file's end, or for an empty buffer. Returns Failed if no file has this name.
     fn piece(&mut self, file: u8, name: &Word, at: u64, buf: &mut [u8]) -> Result<usize, Failed>
         requires { file < 8 }
 
@@ -37,8 +37,8 @@ pub trait Files {
         ensures steady { steady self.old → IsThere (contents self.old) name.now →
             IsOk result × steady self.new × (faults self.new file ≡ faults self.old file) };
 
-    /// Replaces the bytes of a name. At Failed the name holds a prefix of the new bytes or what it held; at NoMemory it holds what it
-    /// held.
+    /// Replaces the bytes of a name. At Failed the name holds a prefix of the new bytes or what it held; at NoMemory it holds
+    /// what it held.
     fn store(&mut self, file: u8, name: &Word, bytes: &[u8]) -> Result<(), EdgeErr>
         requires { file < 8 }
 

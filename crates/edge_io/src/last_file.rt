@@ -1,6 +1,7 @@
 //! The file that was read last, which stays open, so that a file is opened once for all of its pieces.
 
-ghost use Rattle.std.specs.Prelude.{◌≡◌, ◌≢◌, ◌+◌, ◌-◌, ◌^◌, ◌≤◌, min, length, vec_capacity, None, Some, IfOk, IfSome, IsSome, OnOk};
+ghost use Rattle.std.specs.Prelude.{◌≡◌, ◌≢◌, ◌+◌, ◌-◌, ◌^◌, ◌≤◌, min, length, vec_capacity, None, Some, IfOk, IfSome, IsSome};
+ghost use Rattle.std.specs.Prelude.{OnOk};
 
 use crate::Word;
 use std::alloc::{AllocError, Global};

@@ -1,6 +1,7 @@
 //! Files in memory.
 
-ghost use Rattle.std.specs.Prelude.{◌≡◌, ℕ, ◌+◌, ◌-◌, ◌<◌, ◌≤◌, ◌^◌, ◌↔◌, [], ◌++◌, Some, None, refl, List, length, take, option_map, IfSome, IfOk, IsOk, IsErr, IsErrOf, OnOk, OnErr, ◌⊎◌};
+ghost use Rattle.std.specs.Prelude.{◌≡◌, ℕ, ◌+◌, ◌-◌, ◌<◌, ◌≤◌, ◌^◌, ◌↔◌, [], ◌++◌, Some, None, refl, List, length, take};
+ghost use Rattle.std.specs.Prelude.{option_map, IfSome, IfOk, IsOk, IsErr, IsErrOf, OnOk, OnErr, ◌⊎◌};
 ghost use Rattle.std.specs.FinMap as map;
 ghost use Rattle.edge_io.specs.Contents.{IsPiece, IsThere, Reads, Stores, put};
 ghost use Rattle.edge_io.specs.Counts.{ChangesOnlyCount, OnFailed, RaisesOnly, Rose, UnlessFailed};

@@ -1,6 +1,7 @@
 //! The operating system's files and standard output. No contract says what they hold.
 
-ghost use Rattle.std.specs.Prelude.{◌≡◌, ◌<◌, ℕ, ◌≤◌, length, slice_index, vec_capacity, None, Ok, IfOk, IsOk, IsSome, OnOk, OnErr};
+ghost use Rattle.std.specs.Prelude.{◌≡◌, ◌<◌, ℕ, ◌≤◌, length, slice_index, vec_capacity, None, Ok, IfOk, IsOk, IsSome, OnOk};
+ghost use Rattle.std.specs.Prelude.{OnErr};
 ghost use Rattle.std.specs.Io.KnownBytes.{Appends};
 ghost use Rattle.edge_io.specs.Contents.{IsThere, Reads, Stores};
 ghost use Rattle.edge_io.specs.Counts.{ChangesOnlyCount, OnFailed, RaisesOnly, Rose, raised};
@@ -32,8 +33,8 @@ impl<R: rt::Files + Drop> RealFiles<R> {
     ghost use Rattle.edge_io.specs.LastFile.{kept_of, IsBehind};
 
     /// Files without failed calls and without an open file. `longest` is the length of the longest file name in bytes. This call
-    /// takes the room for it, and no later call takes memory: a lack of memory is never a failed call. A file with a longer name is
-    /// not kept open, so each of its pieces opens it again.
+    /// takes the room for it, and no later call takes memory: a lack of memory is never a failed call. A file with a longer name
+    /// is not kept open, so each of its pieces opens it again.
     pub fn new(rt: R, alloc: Global, longest: usize) -> Result<RealFiles<R>, AllocError>
         ensures { IfOk result (λ files. (file : ℕ) → ⟦<RealFiles<R> as Files>⟧.faults files file ≡ 0) }
     {
@@ -144,17 +145,23 @@ impl<R: rt::Files + Drop> Files for RealFiles<R> {
         ensures read { Reads None name.now at buf.new result }
         ensures same { ⟦<RealFiles<R> as Files>⟧.contents self.new ≡ ⟦<RealFiles<R> as Files>⟧.contents self.old }
 
-        ensures counts { ChangesOnlyCount file (⟦<RealFiles<R> as Files>⟧.faults self.old) (⟦<RealFiles<R> as Files>⟧.faults self.new) }
-        ensures cause { OnErr result (Rose (⟦<RealFiles<R> as Files>⟧.faults self.old file) (⟦<RealFiles<R> as Files>⟧.faults self.new file)) }
-        ensures steady { ⊥ → IsThere None name.now → IsOk result × ⊥ × (⟦<RealFiles<R> as Files>⟧.faults self.new file ≡ ⟦<RealFiles<R> as Files>⟧.faults self.old file) }
+        ensures counts { ChangesOnlyCount file (⟦<RealFiles<R> as Files>⟧.faults self.old)
+            (⟦<RealFiles<R> as Files>⟧.faults self.new) }
+        ensures cause { OnErr result
+            (Rose (⟦<RealFiles<R> as Files>⟧.faults self.old file) (⟦<RealFiles<R> as Files>⟧.faults self.new file)) }
+        ensures steady { ⊥ → IsThere None name.now → IsOk result × ⊥
+            × (⟦<RealFiles<R> as Files>⟧.faults self.new file ≡ ⟦<RealFiles<R> as Files>⟧.faults self.old file) }
 
-        // The file stays open if there is room for its name. Then it is that of the name, and its next read begins behind the piece.
+        // The file stays open if there is room for its name. Then it is that of the name, and its next read begins behind the
+        // piece.
         ensures behind { IfOk result (λ n. IsBehind (kept_of self.new.last) name.now at n) }
         ensures stays { OnOk result (length name.now ≤ vec_capacity self.old.last.name → IsSome (kept_of self.new.last)) }
 
         // The count rises by one exactly if the call fails.
-        ensures raised { OnErr result (RaisesOnly file (⟦<RealFiles<R> as Files>⟧.faults self.old) (⟦<RealFiles<R> as Files>⟧.faults self.new)) }
-        ensures kept { OnOk result ((k : ℕ) → ⟦<RealFiles<R> as Files>⟧.faults self.new k ≡ ⟦<RealFiles<R> as Files>⟧.faults self.old k) }
+        ensures raised { OnErr result
+            (RaisesOnly file (⟦<RealFiles<R> as Files>⟧.faults self.old) (⟦<RealFiles<R> as Files>⟧.faults self.new)) }
+        ensures kept { OnOk result ((k : ℕ)
+            → ⟦<RealFiles<R> as Files>⟧.faults self.new k ≡ ⟦<RealFiles<R> as Files>⟧.faults self.old k) }
     {
         let outcome = self.read_at(name, at, buf);
         counted(&mut self.counts, file, outcome)
@@ -165,16 +172,21 @@ impl<R: rt::Files + Drop> Files for RealFiles<R> {
 
         ensures stored { Stores result name.now bytes.now None None }
 
-        ensures counts { ChangesOnlyCount file (⟦<RealFiles<R> as Files>⟧.faults self.old) (⟦<RealFiles<R> as Files>⟧.faults self.new) }
-        ensures cause { OnFailed result (Rose (⟦<RealFiles<R> as Files>⟧.faults self.old file) (⟦<RealFiles<R> as Files>⟧.faults self.new file)) }
-        ensures steady { ⊥ → OnFailed result ⊥ × ⊥ × (⟦<RealFiles<R> as Files>⟧.faults self.new file ≡ ⟦<RealFiles<R> as Files>⟧.faults self.old file) }
+        ensures counts { ChangesOnlyCount file (⟦<RealFiles<R> as Files>⟧.faults self.old)
+            (⟦<RealFiles<R> as Files>⟧.faults self.new) }
+        ensures cause { OnFailed result
+            (Rose (⟦<RealFiles<R> as Files>⟧.faults self.old file) (⟦<RealFiles<R> as Files>⟧.faults self.new file)) }
+        ensures steady { ⊥ → OnFailed result ⊥ × ⊥
+            × (⟦<RealFiles<R> as Files>⟧.faults self.new file ≡ ⟦<RealFiles<R> as Files>⟧.faults self.old file) }
 
         // No file stays open.
         ensures none { kept_of self.new.last ≡ None }
 
         // The count rises by one exactly if the call fails.
-        ensures raised { OnErr result (RaisesOnly file (⟦<RealFiles<R> as Files>⟧.faults self.old) (⟦<RealFiles<R> as Files>⟧.faults self.new)) }
-        ensures kept { OnOk result ((k : ℕ) → ⟦<RealFiles<R> as Files>⟧.faults self.new k ≡ ⟦<RealFiles<R> as Files>⟧.faults self.old k) }
+        ensures raised { OnErr result
+            (RaisesOnly file (⟦<RealFiles<R> as Files>⟧.faults self.old) (⟦<RealFiles<R> as Files>⟧.faults self.new)) }
+        ensures kept { OnOk result ((k : ℕ)
+            → ⟦<RealFiles<R> as Files>⟧.faults self.new k ≡ ⟦<RealFiles<R> as Files>⟧.faults self.old k) }
     {
         let outcome = self.write_file(name, bytes);
         counted(&mut self.counts, file, outcome)?;
@@ -202,7 +214,8 @@ impl<R: Print + Drop> Say for StdSay<R> {
 
         ensures counts { ⟦<StdSay<R> as Say>⟧.faults self.old ≤ ⟦<StdSay<R> as Say>⟧.faults self.new }
         ensures cause { OnFailed result (Rose (⟦<StdSay<R> as Say>⟧.faults self.old) (⟦<StdSay<R> as Say>⟧.faults self.new)) }
-        ensures steady { ⊥ → OnFailed result ⊥ × ⊥ × (⟦<StdSay<R> as Say>⟧.faults self.new ≡ ⟦<StdSay<R> as Say>⟧.faults self.old) }
+        ensures steady { ⊥ → OnFailed result ⊥ × ⊥
+            × (⟦<StdSay<R> as Say>⟧.faults self.new ≡ ⟦<StdSay<R> as Say>⟧.faults self.old) }
 
         // The count rises by one exactly if the call fails.
         ensures raised { OnErr result (⟦<StdSay<R> as Say>⟧.faults self.new ≡ raised (⟦<StdSay<R> as Say>⟧.faults self.old)) }

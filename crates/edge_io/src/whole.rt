@@ -1,6 +1,7 @@
 //! Reads a whole file of at most 2^30 bytes.
 
-ghost use Rattle.std.specs.Prelude.{◌≡◌, ◌+◌, ◌<◌, ◌≤◌, ◌^◌, ◌++◌, ◌↔◌, List, ℕ, length, take, drop, IsTrue, IfOk, IfSome, IsSomeAnd, OnErr, IsOk, IsErrOf};
+ghost use Rattle.std.specs.Prelude.{◌≡◌, ◌+◌, ◌<◌, ◌≤◌, ◌^◌, ◌++◌, ◌↔◌, List, ℕ, length, take, drop, IsTrue, IfOk, IfSome};
+ghost use Rattle.std.specs.Prelude.{IsSomeAnd, OnErr, IsOk, IsErrOf};
 ghost use Rattle.std.specs.FinMap as map;
 ghost use Rattle.edge_io.specs.Contents.{IsThere, OnContent};
 ghost use Rattle.edge_io.specs.Counts.{ChangesOnlyCount, Rose};
@@ -70,7 +71,8 @@ fn read_to_limit<F: Files>(
 ) -> Result<Vec<u8>, ReadErr>
     requires { file < 8 }
 
-    ensures whole { IfOk result (λ v. OnContent (F.contents files.old) name.now (λ whole. length whole ≤ 2 ^ 30 → v.items ≡ whole)) }
+    ensures whole { IfOk result
+        (λ v. OnContent (F.contents files.old) name.now (λ whole. length whole ≤ 2 ^ 30 → v.items ≡ whole)) }
     ensures small { IfOk result (λ v. length v.items ≤ 2 ^ 30) }
     ensures not_long { IsErrOf result ReadErr.TooLong → ⊥ }
     ensures same { F.contents files.new ≡ F.contents files.old }

@@ -22,12 +22,14 @@ IsMadeIfOk (Ok a) = IsAnswerMade (answer_of a)
 IsMadeIfOk (Err e) = Unit {0}
 
 -- A body returns what the row's rule says for these words, from one state to the other.
-pub record AnswersFrom (r : Result Answer' ValueErr) (ks : List ArgKind) (rule : Rule ks) (words : List ℕ) (w u : State) : Type 0 where
+pub record AnswersFrom (r : Result Answer' ValueErr) (ks : List ArgKind) (rule : Rule ks) (words : List ℕ)
+    (w u : State) : Type 0 where
   pub does : Says r answer_of (answered ks rule words w) u
   pub made : IsMadeIfOk r
 
 -- a body that only reads the memory
-abbrev pub AnswersOver : Result Answer' ValueErr → (ks : List ArgKind) → Rule ks → List ℕ → List Datum → List ℕ → Meter → Meter → Type 0
+abbrev pub AnswersOver : Result Answer' ValueErr → (ks : List ArgKind) → Rule ks → List ℕ → List Datum → List ℕ → Meter → Meter
+    → Type 0
 AnswersOver r ks rule words shown memory old new = AnswersFrom r ks rule words (state shown memory old) (state shown memory new)
 
 -- a body that does not use the memory
@@ -35,5 +37,7 @@ abbrev pub Answers : Result Answer' ValueErr → (ks : List ArgKind) → Rule ks
 Answers r ks rule words shown old new = (memory : List ℕ) → AnswersOver r ks rule words shown memory old new
 
 -- a body that writes to the memory
-abbrev pub AnswersInto : Result Answer' ValueErr → (ks : List ArgKind) → Rule ks → List ℕ → List Datum → List ℕ → List ℕ → Meter → Meter → Type 0
-AnswersInto r ks rule words shown memory after old new = AnswersFrom r ks rule words (state shown memory old) (state shown after new)
+abbrev pub AnswersInto : Result Answer' ValueErr → (ks : List ArgKind) → Rule ks → List ℕ → List Datum → List ℕ → List ℕ → Meter
+    → Meter → Type 0
+AnswersInto r ks rule words shown memory after old new =
+    AnswersFrom r ks rule words (state shown memory old) (state shown after new)

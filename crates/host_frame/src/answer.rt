@@ -2,7 +2,8 @@
 
 ghost use Rattle.std.specs.Prelude.{◌≡◌, ◌<◌, ◌≤◌, ◌^◌, ℕ, List, [], true, length, IfOk, OnOk};
 ghost use Rattle.value_types.specs.Views.{datum, datums};
-ghost use Rattle.value_types.specs.Datum.{items_of, members_of, boolean, void, u32 as u32_datum, bytes as bytes_datum, string as string_datum, symbol as symbol_datum, vec as vec_datum, map as map_datum};
+ghost use Rattle.value_types.specs.Datum.{items_of, members_of, boolean, void, u32 as u32_datum, bytes as bytes_datum};
+ghost use Rattle.value_types.specs.Datum.{string as string_datum, symbol as symbol_datum, vec as vec_datum, map as map_datum};
 ghost use Rattle.host_spec.specs.Acts.{state, Says};
 ghost use Rattle.host_spec.specs.Answers.{given, shown_as_object, value as value_answer, object as object_answer};
 ghost use Rattle.host_spec.specs.Hosted.{IsMade, is_symbol, members_are_well_formed};

@@ -2,7 +2,8 @@
 
 ghost use Rattle.std.specs.Prelude.{◌≡◌, ◌<◌, ◌^◌, true, length};
 ghost use Rattle.value_types.specs.Views.{datum, datums, datum_pairs};
-ghost use Rattle.value_types.specs.Datum.{items_of, members_of, boolean, void, u32 as u32_datum, bytes as bytes_datum, string as string_datum, symbol as symbol_datum, vec as vec_datum, map as map_datum};
+ghost use Rattle.value_types.specs.Datum.{items_of, members_of, boolean, void, u32 as u32_datum, bytes as bytes_datum};
+ghost use Rattle.value_types.specs.Datum.{string as string_datum, symbol as symbol_datum, vec as vec_datum, map as map_datum};
 ghost use Rattle.host_spec.specs.Answers.{value as given_value, object as given_object};
 ghost use Rattle.host_spec.specs.Hosted.{IsMade, is_symbol};
 ghost use Rattle.host_spec.specs.Words.{object_tag};
@@ -23,7 +24,7 @@ fn hold_bytes(slice: &[u8])
 }
 
 impl Answer {
-    /// Void.
+    /// Answers void.
     #[tactic(auto, using(crate::proofs::Making::scalar_made))]
     pub fn void() -> Answer
         ensures value { answer_of result ≡ given_value void }
@@ -32,7 +33,7 @@ impl Answer {
         Answer::Value(ScVal::Void)
     }
 
-    /// A boolean.
+    /// Answers a boolean.
     #[tactic(auto, using(crate::proofs::Making::scalar_made), unfolding(xdr_spec::specs::Format::boolean))]
     pub fn boolean(flag: bool) -> Answer
         ensures value { answer_of result ≡ given_value (boolean flag) }
@@ -41,7 +42,7 @@ impl Answer {
         Answer::Value(ScVal::Bool(flag))
     }
 
-    /// A U32.
+    /// Answers a U32.
     #[tactic(auto, using(crate::proofs::Making::scalar_made), unfolding(xdr_spec::specs::Format::number32))]
     pub fn number32(number: u32) -> Answer
         ensures value { answer_of result ≡ given_value (u32_datum number) }
@@ -50,7 +51,7 @@ impl Answer {
         Answer::Value(ScVal::U32(number))
     }
 
-    /// A number as an object.
+    /// Answers a number as an object, also where its word could hold it.
     #[tactic(auto, using(crate::proofs::Making::scalar_object))]
     pub fn object(number: ScVal) -> Answer
         requires bounded { IsBounded (datum number) }
@@ -62,7 +63,7 @@ impl Answer {
         Answer::Object(number)
     }
 
-    /// Bytes.
+    /// Answers these bytes as a Bytes.
     pub fn bytes(content: Vec<u8>) -> Answer
         requires { length content.items < 2 ^ 32 }
         ensures value { answer_of result ≡ given_value (bytes_datum content.items) }
@@ -72,7 +73,7 @@ impl Answer {
         Answer::Value(ScVal::Bytes(Blob::from_vec(content)))
     }
 
-    /// A string.
+    /// Answers these bytes as a String.
     pub fn string(content: Vec<u8>) -> Answer
         requires { length content.items < 2 ^ 32 }
         ensures value { answer_of result ≡ given_value (string_datum content.items) }
@@ -82,7 +83,7 @@ impl Answer {
         Answer::Value(ScVal::String(Blob::from_vec(content)))
     }
 
-    /// A symbol.
+    /// Answers this text as a Symbol.
     #[tactic(auto, using(crate::proofs::Making::symbol_made))]
     pub fn symbol(text: Vec<u8>) -> Answer
         requires { is_symbol text.items ≡ true }
@@ -92,7 +93,7 @@ impl Answer {
         Answer::Value(ScVal::Symbol(Blob::from_vec(text)))
     }
 
-    /// A vec.
+    /// Answers the vec of these items.
     pub fn vec(items: Vec<ScVal>) -> Answer
         requires few { length items.items < 2 ^ 32 }
         requires made { AreMade (datums items.items) }
@@ -102,7 +103,7 @@ impl Answer {
         Answer::Value(ScVal::Vec(Some(ScVals::from_vec(items))))
     }
 
-    /// A map.
+    /// Answers the map of these entries, whose keys have to be in order.
     pub fn map(entries: Vec<Entry>) -> Answer
         requires { IsMade (map_datum (members_of (datum_pairs entries.items))) }
         ensures value { answer_of result ≡ given_value (map_datum (members_of (datum_pairs entries.items))) }
@@ -111,7 +112,7 @@ impl Answer {
         Answer::Value(ScVal::Map(Some(Entries::from_vec(entries))))
     }
 
-    /// A value.
+    /// Answers a value that contracts may hold.
     pub fn value(value: ScVal) -> Answer
         requires { IsMade (datum value) }
         ensures value { answer_of result ≡ given_value (datum value) }

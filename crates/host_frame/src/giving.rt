@@ -46,7 +46,8 @@ pub fn give_each(
     requires made { AreMade (datums items.items) }
     requires indices { AreIndices objects.old shown.old }
     ensures does { (memory : List ℕ) → Says result (λ words. words.items)
-        (all_given (datums items.items) (state (shown_of objects.old shown.old) memory budget.old)) (state (shown_of objects.new shown.new) memory budget.new) }
+        (all_given (datums items.items) (state (shown_of objects.old shown.old) memory budget.old))
+        (state (shown_of objects.new shown.new) memory budget.new) }
     ensures indices { AreIndices objects.new shown.new }
 {
     let mut words = Vec::with_capacity(objects.allocator(), items.len())?;

@@ -7,7 +7,8 @@ ghost use Rattle.value_types.specs.Datum.{items_of, members_of};
 ghost use Rattle.value_types.specs.Views.{datum, datums, datum_pairs};
 ghost use Rattle.value_xdr.specs.Bytes.{IsBounded};
 ghost use Rattle.host_spec.specs.Addresses.{is_host_address};
-ghost use Rattle.host_spec.specs.Hosted.{entry, has_host_types, items_have_host_types, members_have_host_types, is_symbol, is_below, is_well_formed, items_are_well_formed, members_are_well_formed, IsMade};
+ghost use Rattle.host_spec.specs.Hosted.{entry, has_host_types, items_have_host_types, members_have_host_types, is_symbol};
+ghost use Rattle.host_spec.specs.Hosted.{is_below, is_well_formed, items_are_well_formed, members_are_well_formed, IsMade};
 ghost use Rattle.host_frame.specs.Resolved.{Resolves};
 
 use crate::errors::{INVALID_VALUE, OTHER_TYPE, TOO_LARGE};

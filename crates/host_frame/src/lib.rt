@@ -22,8 +22,8 @@
 //! 1. The clause names the kinds of the arguments, as the table of host_interface has them, and the rule, which host_spec
 //!    defines. `Answers` is for a row that does not use the memory, `AnswersOver` for one that reads it (`memory.now` before the
 //!    budgets), `AnswersInto` for one that writes to it (`memory.old memory.new`).
-//! 2. The arguments are resolved from left to right, each by the call of `Values` for its kind, with `?`. A number of 64 bits that
-//!    is a word itself (`Unsigned`, `Signed`) is taken as it is, or by `cast_signed`.
+//! 2. The arguments are resolved from left to right, each by the call of `Values` for its kind, with `?`. A number of 64 bits
+//!    that is a word itself (`Unsigned`, `Signed`) is taken as it is, or by `cast_signed`.
 //! 3. `enter` charges the call. Its words are the tagged ones: all but the numbers of 64 bits.
 //! 4. The tests and charges of the rule follow, in its order: `charge`, `size_of`, `range`, the errors of this crate.
 //! 5. The answer is made by a constructor of `Answer`, whose `requires` says that the value is of the host's types and in good

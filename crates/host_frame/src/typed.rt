@@ -3,7 +3,8 @@
 ghost use Rattle.std.specs.Prelude.{◌≡◌, IfOk};
 ghost use Rattle.value_types.specs.Views.{datum, datums, datum_pairs};
 ghost use Rattle.value_types.specs.Datum.{items_of, members_of, bytes, string, symbol, vec, map, address as address_datum};
-ghost use Rattle.host_spec.specs.Arguments.{typed, as_error, as_u32, as_u64, as_i64, as_u128, as_i128, as_timepoint, as_duration, as_bytes, as_string, as_symbol, as_vec, as_map, as_address, as_muxed_address};
+ghost use Rattle.host_spec.specs.Arguments.{typed, as_error, as_u32, as_u64, as_i64, as_u128, as_i128, as_timepoint, as_duration};
+ghost use Rattle.host_spec.specs.Arguments.{as_bytes, as_string, as_symbol, as_vec, as_map, as_address, as_muxed_address};
 ghost use Rattle.host_spec.specs.Addresses.{as_plain, as_muxed};
 ghost use Rattle.host_spec.specs.Hosted.{IsHosted, IsMade};
 ghost use Rattle.value_types.specs.Address.{address_format};
@@ -15,6 +16,7 @@ use crate::held::{Held, HeldText};
 use host_spec::ValueErr;
 use value_types::{AccountId, Entry, Int128Parts, ScAddress, ScError, ScVal, UInt128Parts};
 
+/// Returns the error that a value is. Fails if it has another type.
 pub fn error_of(value: &ScVal) -> Result<ScError, ValueErr>
     ensures { Resolves result (λ e. e) (typed (as_error (datum value.now))) }
 {
@@ -24,6 +26,7 @@ pub fn error_of(value: &ScVal) -> Result<ScError, ValueErr>
     }
 }
 
+/// Returns the number of a U32. Fails for another type.
 pub fn number32_of(value: &ScVal) -> Result<u32, ValueErr>
     ensures { Resolves result (λ n. n) (typed (as_u32 (datum value.now))) }
 {
@@ -33,6 +36,7 @@ pub fn number32_of(value: &ScVal) -> Result<u32, ValueErr>
     }
 }
 
+/// Returns the number of a U64. Fails for another type.
 pub fn number64_of(value: &ScVal) -> Result<u64, ValueErr>
     ensures { Resolves result (λ n. n) (typed (as_u64 (datum value.now))) }
 {
@@ -42,6 +46,7 @@ pub fn number64_of(value: &ScVal) -> Result<u64, ValueErr>
     }
 }
 
+/// Returns the number of an I64. Fails for another type.
 pub fn signed64_of(value: &ScVal) -> Result<i64, ValueErr>
     ensures { Resolves result (λ n. n) (typed (as_i64 (datum value.now))) }
 {
@@ -51,6 +56,7 @@ pub fn signed64_of(value: &ScVal) -> Result<i64, ValueErr>
     }
 }
 
+/// Returns the words of a U128. Fails for another type.
 pub fn number128_of(value: &ScVal) -> Result<UInt128Parts, ValueErr>
     ensures { Resolves result (λ n. n) (typed (as_u128 (datum value.now))) }
 {
@@ -60,6 +66,7 @@ pub fn number128_of(value: &ScVal) -> Result<UInt128Parts, ValueErr>
     }
 }
 
+/// Returns the words of an I128. Fails for another type.
 pub fn signed128_of(value: &ScVal) -> Result<Int128Parts, ValueErr>
     ensures { Resolves result (λ n. n) (typed (as_i128 (datum value.now))) }
 {
@@ -69,6 +76,7 @@ pub fn signed128_of(value: &ScVal) -> Result<Int128Parts, ValueErr>
     }
 }
 
+/// Returns the seconds of a timepoint. Fails for another type.
 pub fn timepoint_of(value: &ScVal) -> Result<u64, ValueErr>
     ensures { Resolves result (λ n. n) (typed (as_timepoint (datum value.now))) }
 {
@@ -78,6 +86,7 @@ pub fn timepoint_of(value: &ScVal) -> Result<u64, ValueErr>
     }
 }
 
+/// Returns the seconds of a duration. Fails for another type.
 pub fn duration_of(value: &ScVal) -> Result<u64, ValueErr>
     ensures { Resolves result (λ n. n) (typed (as_duration (datum value.now))) }
 {
@@ -87,6 +96,7 @@ pub fn duration_of(value: &ScVal) -> Result<u64, ValueErr>
     }
 }
 
+/// Lends the bytes of a Bytes. Fails for another type.
 pub fn bytes_of(value: &ScVal) -> Result<&[u8], ValueErr>
     ensures means { Resolves result (λ b. b.now) (typed (as_bytes (datum value.now))) }
     ensures same { IfOk result (λ b. bytes b.now ≡ datum value.now) }
@@ -97,6 +107,7 @@ pub fn bytes_of(value: &ScVal) -> Result<&[u8], ValueErr>
     }
 }
 
+/// Lends the bytes of a String. Fails for another type.
 pub fn string_of(value: &ScVal) -> Result<&[u8], ValueErr>
     ensures means { Resolves result (λ b. b.now) (typed (as_string (datum value.now))) }
     ensures same { IfOk result (λ b. string b.now ≡ datum value.now) }
@@ -119,6 +130,7 @@ pub fn text_of<'a>(value: Held<'a>) -> Result<HeldText<'a>, ValueErr>
     }
 }
 
+/// Lends the items of a vec. Fails for another type.
 #[tactic(auto, using(crate::proofs::Resolving::vec_typed))]
 pub fn items_of(value: &ScVal) -> Result<&[ScVal], ValueErr>
     ensures means { Resolves result (λ m. datums m.now) (typed (as_vec (datum value.now))) }
@@ -130,6 +142,7 @@ pub fn items_of(value: &ScVal) -> Result<&[ScVal], ValueErr>
     }
 }
 
+/// Lends the entries of a map. Fails for another type.
 #[tactic(auto, using(crate::proofs::Resolving::map_typed))]
 pub fn entries_of(value: &ScVal) -> Result<&[Entry], ValueErr>
     ensures means { Resolves result (λ m. datum_pairs m.now) (typed (as_map (datum value.now))) }
@@ -176,6 +189,7 @@ fn plain_of(address: ScAddress) -> Result<ScAddress, ValueErr>
     }
 }
 
+/// Returns the address of an account or a contract. Fails for another address or type.
 pub fn address_of(value: &ScVal) -> Result<ScAddress, ValueErr>
     ensures { Resolves result (λ a. a) (typed (as_address (datum value.now))) }
 {

@@ -2,7 +2,8 @@
 
 ghost use Rattle.std.specs.Prelude.{◌≡◌, ◌≤◌, length, IfOk};
 ghost use Rattle.value_types.specs.Views.{datum, datums, datum_pairs};
-ghost use Rattle.value_types.specs.Datum.{items_of, members_of, bytes as bytes_datum, string as string_datum, symbol as symbol_datum, vec as vec_datum, map as map_datum, address as address_datum};
+ghost use Rattle.value_types.specs.Datum.{items_of, members_of, bytes as bytes_datum, string as string_datum};
+ghost use Rattle.value_types.specs.Datum.{symbol as symbol_datum, vec as vec_datum, map as map_datum, address as address_datum};
 ghost use Rattle.host_spec.specs.Arguments.{argument};
 ghost use Rattle.host_spec.specs.Hosted.{IsHosted, IsMade};
 ghost use Rattle.object_store.specs.Shown.{shown_of, AreIndices};

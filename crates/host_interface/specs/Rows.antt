@@ -12,14 +12,22 @@ Row = HostRow (List ℕ) (List ArgKind)
 
 -- the rows of a table in the code
 abbrev pub row_of : HostRow (Bor (List ℕ)) (Bor (List ArgKind)) → Row
-row_of r = record { «import» = r.import; letter = r.letter.now; name = r.name.now; arguments = r.arguments.now; result = r.result }
+row_of r =
+    record { «import» = r.import; letter = r.letter.now; name = r.name.now; arguments = r.arguments.now; result = r.result }
 
 abbrev pub rows_of : List (HostRow (Bor (List ℕ)) (Bor (List ArgKind))) → List Row
 rows_of = map row_of
 
 -- the host interface
 abbrev pub host_rows : List Row
-host_rows = map (λ r. record { «import» = r.import; letter = r.letter.now; name = r.name.now; arguments = r.arguments.now; result = r.result }) HOST_ROWS
+host_rows =
+    map (λ r. record {
+      «import» = r.import;
+      letter = r.letter.now;
+      name = r.name.now;
+      arguments = r.arguments.now;
+      result = r.result;
+    }) HOST_ROWS
 
 -- the module and the name of an import
 abbrev pub full_name : Row → List ℕ

@@ -51,12 +51,16 @@ opens key entry = effected key (costs ValDeser (entry_size entry) (value_in entr
 abbrev pub Pays : Result Answer' HostErr → (Env → Act Answer) → Stored → Stored → Meter → Meter → Type 0
 Pays r act old new before after =
     (env : Env) → Serves env old → (w : World) → w.entries ≡ old.map → w.meter ≡ before
-    → Says r answer_of (act env w) (leaving old new w.trace (λ trace. record w { entries = new.map; trace = trace; meter = after }))
+    → Says r answer_of (act env w)
+    (leaving old new w.trace (λ trace. record w { entries = new.map; trace = trace; meter = after }))
 
--- The body returns what the row's rule returns for these words. This holds for every environment of the storage, and every world with these entries,
--- shown values, budget, contract and copy of its instance.
-abbrev pub Runs : Result Answer' HostErr → (ks : List ArgKind) → (Env → Rule ks) → List ℕ → List Datum → Hash → Stored → Stored → Meter → Meter → Copied → Copied → Type 0
+-- The body returns what the row's rule returns for these words. This holds for every environment of the storage, and every world
+-- with these entries, shown values, budget, contract and copy of its instance.
+abbrev pub Runs : Result Answer' HostErr → (ks : List ArgKind) → (Env → Rule ks) → List ℕ → List Datum → Hash → Stored → Stored
+    → Meter → Meter → Copied → Copied → Type 0
 Runs r ks rule words shown contract old new before after copy changed =
-    (env : Env) → Serves env old → (w : World) → w.entries ≡ old.map → w.meter ≡ before → w.frame.shown ≡ shown → w.frame.contract ≡ contract → w.frame.copy ≡ copy
+    (env : Env) → Serves env old → (w : World) → w.entries ≡ old.map → w.meter ≡ before → w.frame.shown ≡ shown
+    → w.frame.contract ≡ contract → w.frame.copy ≡ copy
     → Says r answer_of (answered ks (rule env) words w)
-    (leaving old new w.trace (λ trace. record w { entries = new.map; trace = trace; meter = after; frame = record w.frame { copy = changed } }))
+    (leaving old new w.trace
+    (λ trace. record w { entries = new.map; trace = trace; meter = after; frame = record w.frame { copy = changed } }))

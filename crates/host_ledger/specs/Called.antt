@@ -13,7 +13,8 @@ use Rattle.host_ledger.specs.Worlds.{world_at, IsEnv, IsReady}
 use Rattle.host_ledger.specs.Traced.{leaving}
 use Rattle.host_ledger.specs.declared.state.HostLedger.{HostLedger}
 
--- The functions of the modules x and l that act on the ledger or the running frame alone: all that neither upload, create nor call.
+-- The functions of the modules x and l that act on the ledger or the running frame alone: all that neither upload, create nor
+-- call.
 abbrev pub is_over_ledger : HostImport → Bool
 is_over_ledger imports.ContractEvent = true
 is_over_ledger imports.GetLedgerVersion = true
@@ -52,10 +53,12 @@ pub record Left {G : Type 0} (old new : HostLedger G) : Type 0 where
   pub caller : new.frame.caller ≡ old.frame.caller
   pub code : new.frame.code ≡ old.frame.code
 
--- A call does what the function does with these words, in each environment and world of the state, whatever its accesses were so far.
+-- A call does what the function does with these words, in each environment and world of the state, whatever its accesses were so
+-- far.
 pub record Calls {G : Type 0} (r : Result ℕ HostErr) (i : HostImport) (words : List ℕ) (old new : HostLedger G) : Type 0 where
   pub does : (env : Env) → IsEnv env old → (opener : Opener) (rest : World) (trace : List Access)
-      → Says r (λ n. n) (host_function env opener i words (world_at rest old trace)) (leaving old.storage new.storage trace (world_at rest new))
+      → Says r (λ n. n) (host_function env opener i words (world_at rest old trace))
+      (leaving old.storage new.storage trace (world_at rest new))
   pub ready : IsReady new
   pub left : Left old new
 

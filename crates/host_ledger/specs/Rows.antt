@@ -22,15 +22,18 @@ abbrev pub SaysBy : Result Answer HostErr → (ks : List ArgKind) → Option (Ru
 SaysBy r ks None words w left = ⊥
 SaysBy r ks (Some rule) words w left = Says r answer_of (answered ks rule words w) left
 
--- A body returns what the rule of a function says for these words, in each environment and world of the state, whatever its accesses were so far.
-pub record AnswersRow {G : Type 0} (r : Result Answer HostErr) (i : HostImport) (words : List ℕ) (old new : HostLedger G) : Type 0 where
+-- A body returns what the rule of a function says for these words, in each environment and world of the state, whatever its
+-- accesses were so far.
+pub record AnswersRow {G : Type 0} (r : Result Answer HostErr) (i : HostImport) (words : List ℕ)
+    (old new : HostLedger G) : Type 0 where
   pub does : (env : Env) → IsEnv env old → (opener : Opener) (rest : World) (trace : List Access)
-      → SaysBy r (arguments_of i) (world_rule env opener i) words (world_at rest old trace) (leaving old.storage new.storage trace (world_at rest new))
+      → SaysBy r (arguments_of i) (world_rule env opener i) words (world_at rest old trace)
+      (leaving old.storage new.storage trace (world_at rest new))
   pub made : IsMadeIfOk r
   pub stays : Stays old new
 
--- The group of a function in the code: functions of as many words, which one `match` calls. The number is one more than that of the words. Another
--- function has the number 0.
+-- The group of a function in the code: functions of as many words, which one `match` calls. The number is one more than that of
+-- the words. Another function has the number 0.
 abbrev pub group_of : HostImport → ℕ
 group_of imports.GetLedgerVersion = 1
 group_of imports.GetLedgerSequence = 1

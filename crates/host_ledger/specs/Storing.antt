@@ -27,4 +27,6 @@ Puts (Err why.NoMemory) code key val old = Unit {0}
 -- A call puts a value at a key of the frame's copy, from one copy to the other.
 abbrev pub PutsInCopy : Result Answer HostErr → Datum → Datum → Copied → Copied → Type 0
 PutsInCopy r key val old new =
-    (w : World) → w.frame.copy ≡ old → Says r answer_of (put_in_copy key val w) (quiet w (λ trace. record w { trace = trace; frame = record w.frame { copy = new } }))
+    (w : World) → w.frame.copy ≡ old
+    → Says r answer_of (put_in_copy key val w)
+    (quiet w (λ trace. record w { trace = trace; frame = record w.frame { copy = new } }))

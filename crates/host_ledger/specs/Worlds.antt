@@ -26,13 +26,20 @@ copied c = record { code = c.code; storage = c.storage }
 abbrev pub address_of : Hash → ScAddress
 address_of contract = Contract contract
 
--- The world with these accesses that the program's state shows. What the state does not hold is that of the given world: the rest of the
--- frame, the open contracts and the authorisations that were used.
+-- The world with these accesses that the program's state shows. What the state does not hold is that of the given world: the rest
+-- of the frame, the open contracts and the authorisations that were used.
 abbrev pub world_at : {G : Type 0} → World → HostLedger G → List Access → World
 world_at rest h trace = record rest {
   entries = h.storage.map;
   events = h.events;
-  frame = record rest.frame { contract = h.frame.contract; caller = option_map address_of h.frame.caller; code = h.frame.code; copy = copied h.frame.copy; shown = shown_of h.objects h.frame.shown };
+  frame =
+      record rest.frame {
+        contract = h.frame.contract;
+        caller = option_map address_of h.frame.caller;
+        code = h.frame.code;
+        copy = copied h.frame.copy;
+        shown = shown_of h.objects h.frame.shown;
+      };
   trace = trace;
   meter = h.budget;
 }
@@ -43,7 +50,8 @@ world_at rest h trace = record rest {
 pub record Serves (env : Env) (s : Stored) : Type 0 where
   pub number : s.n ≡ made_seq env
   pub lives : s.lives ≡ env.header.settings
-  pub judge : (kind : AccessKind) (key : LedgerKey) → key_format.fits key → admits s.declared (kind_of kind) key ≡ env.judge kind (key_bytes key)
+  pub judge : (kind : AccessKind) (key : LedgerKey) → key_format.fits key
+      → admits s.declared (kind_of kind) key ≡ env.judge kind (key_bytes key)
 
 -- an environment of the program's state
 pub record IsEnv {G : Type 0} (env : Env) (h : HostLedger G) : Type 0 where
@@ -57,8 +65,8 @@ abbrev pub IsHeld : Option (List Member) → Type 0
 IsHeld None = Unit {0}
 IsHeld (Some members) = IsHosted (map (members_of members))
 
--- The storage was made with the number of the ledger that is made and with the header's settings, words index what was shown, and instance storage
--- is held. A row needs this state, and leaves such a state.
+-- The storage was made with the number of the ledger that is made and with the header's settings, words index what was shown, and
+-- instance storage is held. A row needs this state, and leaves such a state.
 pub record IsReady {G : Type 0} (h : HostLedger G) : Type 0 where
   pub bounds : HasBounds (next_seq h.header.now) h.header.now.settings
   pub number : h.storage.n ≡ next_seq h.header.now
@@ -66,7 +74,8 @@ pub record IsReady {G : Type 0} (h : HostLedger G) : Type 0 where
   pub indices : AreIndices h.objects h.frame.shown
   pub copy : IsHeld h.frame.copy.storage
 
--- What every row leaves: writes and events were only added, and nothing else has changed but the budget and the frame's copy of the instance.
+-- What every row leaves: writes and events were only added, and nothing else has changed but the budget and the frame's copy of
+-- the instance.
 pub record Stays {G : Type 0} (old new : HostLedger G) : Type 0 where
   pub header : new.header.now ≡ old.header.now
   pub storage : IsLater old.storage new.storage

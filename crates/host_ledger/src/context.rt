@@ -10,7 +10,8 @@ ghost use Rattle.host_spec.specs.declared.error.ValueErr.TheVariants as errs;
 ghost use Rattle.host_frame.specs.Answered.{answer_of};
 ghost use Rattle.host_frame.specs.Made.{IsAnswerMade};
 ghost use Rattle.call_spec.specs.World.{next_seq};
-ghost use Rattle.call_spec.specs.Events.{get_ledger_version, get_ledger_sequence, get_ledger_timestamp, get_ledger_network_id, get_current_contract_address, get_max_live_until_ledger, fail_with_error};
+ghost use Rattle.call_spec.specs.Events.{get_ledger_version, get_ledger_sequence, get_ledger_timestamp, get_ledger_network_id};
+ghost use Rattle.call_spec.specs.Events.{get_current_contract_address, get_max_live_until_ledger, fail_with_error};
 ghost use Rattle.host_ledger.specs.Worlds.{IsReady};
 ghost use Rattle.host_ledger.specs.Answered.{Answers};
 

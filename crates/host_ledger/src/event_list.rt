@@ -37,7 +37,7 @@ impl Model for Events {
 }
 
 impl Events {
-    /// No events.
+    /// Makes a list of no events.
     #[tactic(auto, using(crate::proofs::EventLists::spelled_none))]
     pub fn new(alloc: Global) -> Events
         ensures { result ≡ [] }

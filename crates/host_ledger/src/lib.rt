@@ -7,8 +7,8 @@
 //! that were used, the open contracts, and the frame's other fields (its function and arguments, path and linear memory). `IsEnv`
 //! says which environments fit the state: those with its header, whose judge allows what the storage allows. So a row holds over
 //! each ground, for each footprint, and if the storage records. A clause says what an act leaves: `leaving` (specs/Traced) if the
-//! act may access the ledger, else `quiet` of call_spec. By `leaving`, a storage that has recorded the accesses before the act has
-//! recorded those after it. `proofs/Tracing` leads from one act to the next.
+//! act may access the ledger, else `quiet` of call_spec. By `leaving`, a storage that has recorded the accesses before the act
+//! has recorded those after it. `proofs/Tracing` leads from one act to the next.
 //!
 //! How a row is written
 //!
@@ -17,8 +17,8 @@
 //!    be shown, and what stays (`Stays`). `IsReady` is what each row needs. Later calls find it again by `Stays`.
 //! 2. A row that borrows nothing from the state is one function (`context`).
 //! 3. Any other row lends parts of the state to a body, as its last act. The body takes `Values`, so its `?`s and the drops of
-//!    its values do not touch the state. Its clause is `Runs`: the same over every world with these parts. The row's answer is the
-//!    lemma `proofs/Rows/row`.
+//!    its values do not touch the state. Its clause is `Runs`: the same over every world with these parts. The row's answer is
+//!    the lemma `proofs/Rows/row`.
 //! 4. A body resolves the arguments from left to right, enters, and branches as the rule does (`place_of`). Each branch ends in a
 //!    call whose clause has the branch's act of call_spec, word for word (`extend_entry`). Then the body proves itself, or by a
 //!    lemma of `proofs/Stepping`.
@@ -31,8 +31,8 @@
 //! Instance storage
 //!
 //! The entries of the frame's copy rise strictly by their keys, so `index_of` of host_frame finds a key by halving. A put changes
-//! the entries in place, then tests the whole instance against the limits of values, and undoes the change if the instance exceeds
-//! them (`puts`). So a put is linear in the size of the instance.
+//! the entries in place, then tests the whole instance against the limits of values, and undoes the change if the instance
+//! exceeds them (`puts`). So a put is linear in the size of the instance.
 //!
 //! Calls
 //!

@@ -30,7 +30,8 @@ pub struct Running {
     pub shown: Shown,
 }
 
-/// The state in which contracts run: the ledger's entries, events and budget of one transaction, and the running frame with its values.
+/// The state in which contracts run: the ledger's entries, events and budget of one transaction, and the running frame with its
+/// values.
 #[derive(Drop)]
 pub struct HostLedger<'a, G: Ground> {
     /// The header of the ledger before the one that is made, with the close time of the one that is made.

@@ -22,7 +22,8 @@ appended d w = Good (object_word d (length w.shown)) (record w { shown = w.shown
 -- A value is shown as an object: the bound of values, its charge, the bound of the frame.
 unfoldable pub shown_as_object : Datum → Act ℕ
 shown_as_object d w =
-    only_where (is_within_limits d) TOO_LARGE (paying MemAlloc (size_of d) (λ u. only_where (nat_lt (length u.shown) 1000000) FULL_FRAME (appended d) u)) w
+    only_where (is_within_limits d) TOO_LARGE
+    (paying MemAlloc (size_of d) (λ u. only_where (nat_lt (length u.shown) 1000000) FULL_FRAME (appended d) u)) w
 
 abbrev pub shown_unless : Option ℕ → Datum → Act ℕ
 shown_unless (Some word) d w = Good word w

@@ -4,7 +4,8 @@ use Rattle.std.specs.Int.{w64, cast_signed}
 use Rattle.budget_meter.specs.declared.kind.Kind.TheVariants.{DispatchHostFunction, VisitObject}
 use Rattle.host_interface.specs.declared.kinds.ArgKind.{ArgKind}
 use Rattle.host_interface.specs.declared.kinds.ArgKind.TheVariants as kinds
-use Rattle.value_types.specs.Datum.{Datum, error, u32, u64, i64, u128, i128, timepoint, duration, bytes, string, symbol, vec, map, address, list_of_items, list_of_members}
+use Rattle.value_types.specs.Datum.{Datum, error, u32, u64, i64, u128, i128, timepoint, duration, bytes, string, symbol, vec, map}
+use Rattle.value_types.specs.Datum.{address, list_of_items, list_of_members}
 use Rattle.value_types.specs.declared.numbers.UInt128Parts.{UInt128Parts}
 use Rattle.value_types.specs.declared.numbers.Int128Parts.{Int128Parts}
 use Rattle.value_types.specs.declared.address.ScAddress.{ScAddress}

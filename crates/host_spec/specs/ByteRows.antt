@@ -1,5 +1,6 @@
 -- Module b: bytes, strings and symbols (own, after CAP-0046-03). Indices count from 0.
-use Rattle.std.specs.Prelude.{ℕ, ◌+◌, ◌-◌, ◌&&◌, List, [], ◌∷◌, ◌++◌, length, take, Option, Some, None, nat_le, nat_lt, slice_get, slice_set, slice_range, Result, Ok, Err}
+use Rattle.std.specs.Prelude.{ℕ, ◌+◌, ◌-◌, ◌&&◌, List, [], ◌∷◌, ◌++◌, length, take, Option, Some, None, nat_le, nat_lt, slice_get}
+use Rattle.std.specs.Prelude.{slice_set, slice_range, Result, Ok, Err}
 use Rattle.std.specs.List.{insert, remove, list_all}
 use Rattle.budget_meter.specs.declared.kind.Kind.TheVariants.{MemCpy, ValSer, ValDeser}
 use Rattle.xdr_spec.specs.Decoded.{decoded}
@@ -85,7 +86,8 @@ abbrev pub bytes_append : List ℕ → List ℕ → Act Answer
 bytes_append bs cs = gives (bytes_answer (bs ++ cs))
 
 abbrev pub bytes_slice : List ℕ → ℕ → ℕ → Act Answer
-bytes_slice bs from to = only_where (nat_le from to && nat_le to (length bs)) OUTSIDE_OBJECT (gives (bytes_answer (slice_range bs from to)))
+bytes_slice bs from to =
+    only_where (nat_le from to && nat_le to (length bs)) OUTSIDE_OBJECT (gives (bytes_answer (slice_range bs from to)))
 
 -- ---- between an object and the linear memory
 

@@ -1,5 +1,5 @@
--- The one shape of all functions over values: the arguments from left to right, the charges of the call, the function's own rule, its
--- result (own).
+-- The one shape of all functions over values: the arguments from left to right, the charges of the call, the function's own rule,
+-- its result (own).
 use Rattle.std.specs.Prelude.{ℕ, List, [], ◌∷◌, Result, Ok, Err}
 use Rattle.host_interface.specs.declared.kinds.ArgKind.{ArgKind}
 use Rattle.value_types.specs.Datum.{Datum}
@@ -18,7 +18,8 @@ abbrev pub with_argument : {A B : Type 0} → Result A ScError → (A → Result
 with_argument (Ok a) next = next a
 with_argument (Err e) next = Err e
 
--- the rule with the arguments that the words mean, or the error of the first word that means none; a call has a word for each argument
+-- the rule with the arguments that the words mean, or the error of the first word that means none; a call has a word for each
+-- argument
 abbrev pub applied : (ks : List ArgKind) → Rule ks → List ℕ → List Datum → Result (Act Answer) ScError
 applied [] rule words shown = Ok rule
 applied (k ∷ ks) rule [] shown = Err INVALID_VALUE

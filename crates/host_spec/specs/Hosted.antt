@@ -2,7 +2,9 @@
 use Rattle.std.specs.Prelude.{◌≡◌, ◌≤◌, ℕ, Bool, true, false, ◌&&◌, nat_le, List, length, Result, Ok, Err, if◌then◌else◌}
 use Rattle.std.specs.List.{list_all, AllByRecursion}
 use Rattle.std.specs.Ordering.{is_lt}
-use Rattle.value_types.specs.Datum.{Datum, u256, i256, symbol, no_vec, vec, no_map, map, address, bare_instance, instance, ledger_key_contract_instance, ledger_key_nonce, Items, no_items, item, Members, no_members, member}
+use Rattle.value_types.specs.Datum.{Datum, u256, i256, symbol, no_vec, vec, no_map, map, address, bare_instance, instance}
+use Rattle.value_types.specs.Datum.{ledger_key_contract_instance, ledger_key_nonce, Items, no_items, item, Members, no_members}
+use Rattle.value_types.specs.Datum.{member}
 use Rattle.value_types.specs.Depth.{depth_of}
 use Rattle.value_types.specs.Order.{datum_cmp}
 use Rattle.value_types.specs.declared.error.ScError.{ScError}
@@ -62,7 +64,8 @@ abbrev mutual
 
   pub members_are_well_formed : Members → Bool
   members_are_well_formed no_members = true
-  members_are_well_formed (member k v ms) = is_below k ms && (is_well_formed k && (is_well_formed v && members_are_well_formed ms))
+  members_are_well_formed (member k v ms) =
+      is_below k ms && (is_well_formed k && (is_well_formed v && members_are_well_formed ms))
 
 -- ---- entry
 

@@ -37,7 +37,11 @@ number tags.AddressObject = 77
 number tags.MuxedAddressObject = 78
 
 abbrev pub all : List Tag
-all = tags.False ∷ tags.True ∷ tags.Void ∷ tags.Error ∷ tags.U32 ∷ tags.I32 ∷ tags.U64Small ∷ tags.I64Small ∷ tags.TimepointSmall ∷ tags.DurationSmall ∷ tags.U128Small ∷ tags.I128Small ∷ tags.U256Small ∷ tags.I256Small ∷ tags.SymbolSmall ∷ tags.U64Object ∷ tags.I64Object ∷ tags.TimepointObject ∷ tags.DurationObject ∷ tags.U128Object ∷ tags.I128Object ∷ tags.U256Object ∷ tags.I256Object ∷ tags.BytesObject ∷ tags.StringObject ∷ tags.SymbolObject ∷ tags.VecObject ∷ tags.MapObject ∷ tags.AddressObject ∷ tags.MuxedAddressObject ∷ []
+all = tags.False ∷ tags.True ∷ tags.Void ∷ tags.Error ∷ tags.U32 ∷ tags.I32 ∷ tags.U64Small ∷ tags.I64Small ∷ tags.TimepointSmall
+    ∷ tags.DurationSmall ∷ tags.U128Small ∷ tags.I128Small ∷ tags.U256Small ∷ tags.I256Small ∷ tags.SymbolSmall ∷ tags.U64Object
+    ∷ tags.I64Object ∷ tags.TimepointObject ∷ tags.DurationObject ∷ tags.U128Object ∷ tags.I128Object ∷ tags.U256Object
+    ∷ tags.I256Object ∷ tags.BytesObject ∷ tags.StringObject ∷ tags.SymbolObject ∷ tags.VecObject ∷ tags.MapObject
+    ∷ tags.AddressObject ∷ tags.MuxedAddressObject ∷ []
 
 -- the tag of this number
 abbrev pub tag_of : ℕ → Option Tag

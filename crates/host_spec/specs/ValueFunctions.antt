@@ -7,10 +7,21 @@ use Rattle.host_spec.specs.Indices.{arguments_of}
 use Rattle.host_spec.specs.Acts.{Act}
 use Rattle.host_spec.specs.Calls.{Rule, call_of}
 use Rattle.host_spec.specs.ContextRows.{obj_cmp}
-use Rattle.host_spec.specs.IntegerRows.{obj_from_u64, obj_to_u64, obj_from_i64, obj_to_i64, obj_from_u128_pieces, obj_to_u128_hi64, obj_to_u128_lo64, obj_from_i128_pieces, obj_to_i128_hi64, obj_to_i128_lo64, timepoint_obj_from_u64, timepoint_obj_to_u64, duration_obj_from_u64, duration_obj_to_u64}
-use Rattle.host_spec.specs.MapRows.{map_new, map_put, map_get, map_del, map_len, map_has, map_key_by_pos, map_val_by_pos, map_keys, map_values}
-use Rattle.host_spec.specs.VecRows.{vec_new, vec_put, vec_get, vec_del, vec_len, vec_push_front, vec_pop_front, vec_push_back, vec_pop_back, vec_front, vec_back, vec_insert, vec_append, vec_slice, vec_first_index_of, vec_last_index_of, vec_new_from_linear_memory, vec_unpack_to_linear_memory}
-use Rattle.host_spec.specs.ByteRows.{serialize_to_bytes, deserialize_from_bytes, bytes_new, bytes_put, bytes_get, bytes_del, bytes_len, bytes_push, bytes_pop, bytes_front, bytes_back, bytes_insert, bytes_append, bytes_slice, bytes_copy_to_linear_memory, string_copy_to_linear_memory, symbol_copy_to_linear_memory, bytes_copy_from_linear_memory, bytes_new_from_linear_memory, string_new_from_linear_memory, symbol_new_from_linear_memory, string_len, symbol_len, string_to_bytes, bytes_to_string}
+use Rattle.host_spec.specs.IntegerRows.{obj_from_u64, obj_to_u64, obj_from_i64, obj_to_i64, obj_from_u128_pieces}
+use Rattle.host_spec.specs.IntegerRows.{obj_to_u128_hi64, obj_to_u128_lo64, obj_from_i128_pieces, obj_to_i128_hi64}
+use Rattle.host_spec.specs.IntegerRows.{obj_to_i128_lo64, timepoint_obj_from_u64, timepoint_obj_to_u64, duration_obj_from_u64}
+use Rattle.host_spec.specs.IntegerRows.{duration_obj_to_u64}
+use Rattle.host_spec.specs.MapRows.{map_new, map_put, map_get, map_del, map_len, map_has, map_key_by_pos, map_val_by_pos}
+use Rattle.host_spec.specs.MapRows.{map_keys, map_values}
+use Rattle.host_spec.specs.VecRows.{vec_new, vec_put, vec_get, vec_del, vec_len, vec_push_front, vec_pop_front, vec_push_back}
+use Rattle.host_spec.specs.VecRows.{vec_pop_back, vec_front, vec_back, vec_insert, vec_append, vec_slice, vec_first_index_of}
+use Rattle.host_spec.specs.VecRows.{vec_last_index_of, vec_new_from_linear_memory, vec_unpack_to_linear_memory}
+use Rattle.host_spec.specs.ByteRows.{serialize_to_bytes, deserialize_from_bytes, bytes_new, bytes_put, bytes_get, bytes_del}
+use Rattle.host_spec.specs.ByteRows.{bytes_len, bytes_push, bytes_pop, bytes_front, bytes_back, bytes_insert, bytes_append}
+use Rattle.host_spec.specs.ByteRows.{bytes_slice, bytes_copy_to_linear_memory, string_copy_to_linear_memory}
+use Rattle.host_spec.specs.ByteRows.{symbol_copy_to_linear_memory, bytes_copy_from_linear_memory, bytes_new_from_linear_memory}
+use Rattle.host_spec.specs.ByteRows.{string_new_from_linear_memory, symbol_new_from_linear_memory, string_len, symbol_len}
+use Rattle.host_spec.specs.ByteRows.{string_to_bytes, bytes_to_string}
 use Rattle.host_spec.specs.HashRows.{compute_hash_sha256}
 use Rattle.host_spec.specs.AddressRows.{get_address_from_muxed_address, get_id_from_muxed_address}
 

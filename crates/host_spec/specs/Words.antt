@@ -1,6 +1,7 @@
--- What a contract's word means: a small form by its bits, an object's word by the list of the values shown in the frame (CAP-0046-01;
--- that handles count the showings in a frame is own).
-use Rattle.std.specs.Prelude.{ℕ, zero, suc, ◌+◌, ◌*◌, ◌-◌, ◌/◌, ◌%◌, ◌^◌, ℤ, pos, negsuc, List, [], ◌∷◌, ◌++◌, length, Option, Some, None, Bool, true, false, ◌==◌, ◌&&◌, nat_le, nat_lt, slice_get, if◌then◌else◌, int_lt, int_le}
+-- What a contract's word means: a small form by its bits, an object's word by the list of the values shown in the frame
+-- (CAP-0046-01; that handles count the showings in a frame is own).
+use Rattle.std.specs.Prelude.{ℕ, zero, suc, ◌+◌, ◌*◌, ◌-◌, ◌/◌, ◌%◌, ◌^◌, ℤ, pos, negsuc, List, [], ◌∷◌, ◌++◌, length, Option}
+use Rattle.std.specs.Prelude.{Some, None, Bool, true, false, ◌==◌, ◌&&◌, nat_le, nat_lt, slice_get, if◌then◌else◌, int_lt, int_le}
 use Rattle.std.specs.Option.{option_and_then, option_map}
 use Rattle.std.specs.List.{list_all}
 use Rattle.std.specs.Int.{w32, w64, cast_signed, cast_unsigned}
@@ -9,7 +10,8 @@ use Rattle.value_types.specs.declared.error.ScErrorType.{ScErrorType}
 use Rattle.value_types.specs.declared.error.ScErrorType.TheVariants as types
 use Rattle.value_types.specs.declared.error.ScError.{ScError}
 use Rattle.value_types.specs.declared.error.ScError.TheVariants as errors
-use Rattle.value_types.specs.Datum.{Datum, boolean, void, error, u32, i32, u64, i64, timepoint, duration, u128, i128, bytes, string, symbol, vec, map, address}
+use Rattle.value_types.specs.Datum.{Datum, boolean, void, error, u32, i32, u64, i64, timepoint, duration, u128, i128, bytes}
+use Rattle.value_types.specs.Datum.{string, symbol, vec, map, address}
 use Rattle.host_spec.specs.declared.tag.Tag.{Tag}
 use Rattle.host_spec.specs.declared.tag.Tag.TheVariants as tags
 use Rattle.host_spec.specs.Tags.{tag_of}

@@ -1,4 +1,5 @@
-//! The host's meaning: what the words of a contract stand for, and what each function over values does, as functions of plain values.
+//! The host's meaning: what the words of a contract stand for, and what each function over values does, as functions of plain
+//! values.
 #![tactic(auto)]
 
 mod error;

@@ -2,7 +2,10 @@
 
 ghost use Rattle.std.specs.Prelude.{[], ◌∷◌};
 ghost use Rattle.host_interface.specs.declared.kinds.ArgKind.TheVariants as kinds;
-ghost use Rattle.host_spec.specs.IntegerRows.{obj_from_u64, obj_to_u64, obj_from_i64, obj_to_i64, obj_from_u128_pieces, obj_to_u128_hi64, obj_to_u128_lo64, obj_from_i128_pieces, obj_to_i128_hi64, obj_to_i128_lo64, timepoint_obj_from_u64, timepoint_obj_to_u64, duration_obj_from_u64, duration_obj_to_u64};
+ghost use Rattle.host_spec.specs.IntegerRows.{obj_from_u64, obj_to_u64, obj_from_i64, obj_to_i64, obj_from_u128_pieces};
+ghost use Rattle.host_spec.specs.IntegerRows.{obj_to_u128_hi64, obj_to_u128_lo64, obj_from_i128_pieces, obj_to_i128_hi64};
+ghost use Rattle.host_spec.specs.IntegerRows.{obj_to_i128_lo64, timepoint_obj_from_u64, timepoint_obj_to_u64};
+ghost use Rattle.host_spec.specs.IntegerRows.{duration_obj_from_u64, duration_obj_to_u64};
 ghost use Rattle.host_frame.specs.Answered.{Answers};
 
 use budget_meter::Budget;

@@ -1,5 +1,5 @@
--- What a contract is called with, and what it is made of (XDR file Stellar-transaction, `InvokeContractArgs`, `CreateContractArgs` and
--- `CreateContractArgsV2`).
+-- What a contract is called with, and what it is made of (XDR file Stellar-transaction, `InvokeContractArgs`,
+-- `CreateContractArgs` and `CreateContractArgsV2`).
 use Rattle.std.specs.Prelude.{List, ℕ, refl}
 use Rattle.xdr_spec.specs.Format.{Format, via, pair, list, opaque}
 use Rattle.xdr_spec.specs.Laws.{IsFormat}
@@ -42,7 +42,9 @@ invoke_format = via invoke_of invoke_fields (pair address_format (pair (opaque 3
 
 pub invoke_lawful : IsFormat invoke_format
 unfolding invoke_format
-invoke_lawful = via_lawful invoke_of invoke_fields _ (λ f. refl) (λ a. refl) (pair_lawful _ _ address_lawful (pair_lawful _ _ (opaque_lawful 32) values_lawful))
+invoke_lawful =
+    via_lawful invoke_of invoke_fields _ (λ f. refl) (λ a. refl)
+    (pair_lawful _ _ address_lawful (pair_lawful _ _ (opaque_lawful 32) values_lawful))
 
 -- ---- making: what the id is made of, and what the contract runs
 
@@ -75,4 +77,6 @@ create_v2_format = via create_v2_of create_v2_fields (pair preimage_format (pair
 
 pub create_v2_lawful : IsFormat create_v2_format
 unfolding create_v2_format
-create_v2_lawful = via_lawful create_v2_of create_v2_fields _ (λ f. refl) (λ a. refl) (pair_lawful _ _ preimage_lawful (pair_lawful _ _ executable_lawful values_lawful))
+create_v2_lawful =
+    via_lawful create_v2_of create_v2_fields _ (λ f. refl) (λ a. refl)
+    (pair_lawful _ _ preimage_lawful (pair_lawful _ _ executable_lawful values_lawful))

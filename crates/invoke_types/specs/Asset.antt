@@ -63,14 +63,20 @@ back_alphanum12 _ x e = absurd cc
 
 arms_lawful : (k : AssetType) → is_asset k ≡ true → IsFormat (arms k)
 arms_lawful types.Native e = nothing_lawful assets.Native
-arms_lawful types.CreditAlphanum4 e = arm_lawful alphanum4_of as_alphanum4 _ (λ x. refl) back_alphanum4 (pair_lawful _ _ code4_lawful account_id_lawful)
-arms_lawful types.CreditAlphanum12 e = arm_lawful alphanum12_of as_alphanum12 _ (λ x. refl) back_alphanum12 (pair_lawful _ _ code12_lawful account_id_lawful)
+arms_lawful types.CreditAlphanum4 e =
+    arm_lawful alphanum4_of as_alphanum4 _ (λ x. refl) back_alphanum4 (pair_lawful _ _ code4_lawful account_id_lawful)
+arms_lawful types.CreditAlphanum12 e =
+    arm_lawful alphanum12_of as_alphanum12 _ (λ x. refl) back_alphanum12 (pair_lawful _ _ code12_lawful account_id_lawful)
 arms_lawful types.PoolShare e = absurd cc
 
 coherent : (k : AssetType) (v : Asset) → is_asset k ≡ true → (arms k).fits v → kind v ≡ k
 coherent types.Native v e h = ap kind h
-coherent types.CreditAlphanum4 v e h = arm_kind kind types.CreditAlphanum4 alphanum4_of as_alphanum4 (pair code4_format account_id_format) (λ x. refl) back_alphanum4 v h
-coherent types.CreditAlphanum12 v e h = arm_kind kind types.CreditAlphanum12 alphanum12_of as_alphanum12 (pair code12_format account_id_format) (λ x. refl) back_alphanum12 v h
+coherent types.CreditAlphanum4 v e h =
+    arm_kind kind types.CreditAlphanum4 alphanum4_of as_alphanum4 (pair code4_format account_id_format)
+    (λ x. refl) back_alphanum4 v h
+coherent types.CreditAlphanum12 v e h =
+    arm_kind kind types.CreditAlphanum12 alphanum12_of as_alphanum12 (pair code12_format account_id_format)
+    (λ x. refl) back_alphanum12 v h
 coherent types.PoolShare v e h = absurd cc
 
 pub asset_lawful : IsFormat asset_format

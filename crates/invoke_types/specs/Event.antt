@@ -66,8 +66,11 @@ unfoldable pub event_format : Format ContractEvent
 event_format = headed 0 (via event_of event_fields fields_format)
 
 fields_lawful : IsFormat fields_format
-fields_lawful = pair_lawful _ _ (optional_lawful _ hash_lawful) (pair_lawful _ _ type_lawful (headed_lawful 0 _ (omega arith) (pair_lawful _ _ values_lawful scval_lawful)))
+fields_lawful =
+    pair_lawful _ _ (optional_lawful _ hash_lawful)
+    (pair_lawful _ _ type_lawful (headed_lawful 0 _ (omega arith) (pair_lawful _ _ values_lawful scval_lawful)))
 
 pub event_lawful : IsFormat event_format
 unfolding event_format
-event_lawful = headed_lawful 0 _ (omega arith) (via_lawful event_of event_fields fields_format (λ f. refl) (λ e. refl) fields_lawful)
+event_lawful =
+    headed_lawful 0 _ (omega arith) (via_lawful event_of event_fields fields_format (λ f. refl) (λ e. refl) fields_lawful)

@@ -6,7 +6,8 @@ use Rattle.xdr_spec.specs.Format.{Format, arm, union, enumeration, find_kind}
 use Rattle.xdr_spec.specs.Laws.{IsFormat}
 use Rattle.xdr_spec.proofs.Remade.{arm_lawful, arm_kind}
 use Rattle.xdr_spec.proofs.Derived.{union_lawful, enumeration_lawful, find_kind-back}
-use Rattle.invoke_types.specs.Arguments.{invoke_format, invoke_lawful, create_format, create_lawful, create_v2_format, create_v2_lawful}
+use Rattle.invoke_types.specs.Arguments.{invoke_format, invoke_lawful, create_format, create_lawful, create_v2_format}
+use Rattle.invoke_types.specs.Arguments.{create_v2_lawful}
 use Rattle.invoke_types.specs.declared.arguments.InvokeContractArgs.{InvokeContractArgs}
 use Rattle.invoke_types.specs.declared.arguments.CreateContractArgs.{CreateContractArgs}
 use Rattle.invoke_types.specs.declared.arguments.CreateContractArgsV2.{CreateContractArgsV2}
@@ -89,19 +90,26 @@ back_create_contract : (v : Function) (x : CreateContractArgs) → as_create_con
 back_create_contract (functions.CreateContract args) x e = cc
 back_create_contract _ x e = absurd cc
 
-back_create_contract_v2 : (v : Function) (x : CreateContractArgsV2) → as_create_contract_v2 v ≡ Some x → create_contract_v2_of x ≡ v
+back_create_contract_v2 : (v : Function) (x : CreateContractArgsV2) → as_create_contract_v2 v ≡ Some x
+    → create_contract_v2_of x ≡ v
 back_create_contract_v2 (functions.CreateContractV2 args) x e = cc
 back_create_contract_v2 _ x e = absurd cc
 
 arms_lawful : (k : FunctionType) → IsFormat (arms k)
 arms_lawful types.ContractFn = arm_lawful contract_fn_of as_contract_fn _ (λ x. refl) back_contract_fn invoke_lawful
-arms_lawful types.CreateContract = arm_lawful create_contract_of as_create_contract _ (λ x. refl) back_create_contract create_lawful
-arms_lawful types.CreateContractV2 = arm_lawful create_contract_v2_of as_create_contract_v2 _ (λ x. refl) back_create_contract_v2 create_v2_lawful
+arms_lawful types.CreateContract =
+    arm_lawful create_contract_of as_create_contract _ (λ x. refl) back_create_contract create_lawful
+arms_lawful types.CreateContractV2 =
+    arm_lawful create_contract_v2_of as_create_contract_v2 _ (λ x. refl) back_create_contract_v2 create_v2_lawful
 
 coherent : (k : FunctionType) (v : Function) → (arms k).fits v → kind v ≡ k
-coherent types.ContractFn v h = arm_kind kind types.ContractFn contract_fn_of as_contract_fn invoke_format (λ x. refl) back_contract_fn v h
-coherent types.CreateContract v h = arm_kind kind types.CreateContract create_contract_of as_create_contract create_format (λ x. refl) back_create_contract v h
-coherent types.CreateContractV2 v h = arm_kind kind types.CreateContractV2 create_contract_v2_of as_create_contract_v2 create_v2_format (λ x. refl) back_create_contract_v2 v h
+coherent types.ContractFn v h =
+    arm_kind kind types.ContractFn contract_fn_of as_contract_fn invoke_format (λ x. refl) back_contract_fn v h
+coherent types.CreateContract v h =
+    arm_kind kind types.CreateContract create_contract_of as_create_contract create_format (λ x. refl) back_create_contract v h
+coherent types.CreateContractV2 v h =
+    arm_kind kind types.CreateContractV2 create_contract_v2_of as_create_contract_v2 create_v2_format
+    (λ x. refl) back_create_contract_v2 v h
 
 pub function_lawful : IsFormat function_format
 unfolding function_format

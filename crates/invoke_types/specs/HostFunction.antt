@@ -6,7 +6,8 @@ use Rattle.xdr_spec.specs.Format.{Format, arm, union, enumeration, find_kind, op
 use Rattle.xdr_spec.specs.Laws.{IsFormat}
 use Rattle.xdr_spec.proofs.Remade.{arm_lawful, arm_kind}
 use Rattle.xdr_spec.proofs.Derived.{union_lawful, enumeration_lawful, find_kind-back, opaque_lawful}
-use Rattle.invoke_types.specs.Arguments.{invoke_format, invoke_lawful, create_format, create_lawful, create_v2_format, create_v2_lawful}
+use Rattle.invoke_types.specs.Arguments.{invoke_format, invoke_lawful, create_format, create_lawful, create_v2_format}
+use Rattle.invoke_types.specs.Arguments.{create_v2_lawful}
 use Rattle.invoke_types.specs.declared.arguments.InvokeContractArgs.{InvokeContractArgs}
 use Rattle.invoke_types.specs.declared.arguments.CreateContractArgs.{CreateContractArgs}
 use Rattle.invoke_types.specs.declared.arguments.CreateContractArgsV2.{CreateContractArgsV2}
@@ -105,21 +106,30 @@ back_upload : (v : HostFunction) (x : List ℕ) → as_upload v ≡ Some x → u
 back_upload (functions.UploadContractWasm code) x e = cc
 back_upload _ x e = absurd cc
 
-back_create_contract_v2 : (v : HostFunction) (x : CreateContractArgsV2) → as_create_contract_v2 v ≡ Some x → create_contract_v2_of x ≡ v
+back_create_contract_v2 : (v : HostFunction) (x : CreateContractArgsV2) → as_create_contract_v2 v ≡ Some x
+    → create_contract_v2_of x ≡ v
 back_create_contract_v2 (functions.CreateContractV2 args) x e = cc
 back_create_contract_v2 _ x e = absurd cc
 
 arms_lawful : (k : HostFunctionType) → IsFormat (arms k)
-arms_lawful types.InvokeContract = arm_lawful invoke_contract_of as_invoke_contract _ (λ x. refl) back_invoke_contract invoke_lawful
-arms_lawful types.CreateContract = arm_lawful create_contract_of as_create_contract _ (λ x. refl) back_create_contract create_lawful
+arms_lawful types.InvokeContract =
+    arm_lawful invoke_contract_of as_invoke_contract _ (λ x. refl) back_invoke_contract invoke_lawful
+arms_lawful types.CreateContract =
+    arm_lawful create_contract_of as_create_contract _ (λ x. refl) back_create_contract create_lawful
 arms_lawful types.UploadContractWasm = arm_lawful upload_of as_upload _ (λ x. refl) back_upload (opaque_lawful 4294967295)
-arms_lawful types.CreateContractV2 = arm_lawful create_contract_v2_of as_create_contract_v2 _ (λ x. refl) back_create_contract_v2 create_v2_lawful
+arms_lawful types.CreateContractV2 =
+    arm_lawful create_contract_v2_of as_create_contract_v2 _ (λ x. refl) back_create_contract_v2 create_v2_lawful
 
 coherent : (k : HostFunctionType) (v : HostFunction) → (arms k).fits v → kind v ≡ k
-coherent types.InvokeContract v h = arm_kind kind types.InvokeContract invoke_contract_of as_invoke_contract invoke_format (λ x. refl) back_invoke_contract v h
-coherent types.CreateContract v h = arm_kind kind types.CreateContract create_contract_of as_create_contract create_format (λ x. refl) back_create_contract v h
-coherent types.UploadContractWasm v h = arm_kind kind types.UploadContractWasm upload_of as_upload (opaque 4294967295) (λ x. refl) back_upload v h
-coherent types.CreateContractV2 v h = arm_kind kind types.CreateContractV2 create_contract_v2_of as_create_contract_v2 create_v2_format (λ x. refl) back_create_contract_v2 v h
+coherent types.InvokeContract v h =
+    arm_kind kind types.InvokeContract invoke_contract_of as_invoke_contract invoke_format (λ x. refl) back_invoke_contract v h
+coherent types.CreateContract v h =
+    arm_kind kind types.CreateContract create_contract_of as_create_contract create_format (λ x. refl) back_create_contract v h
+coherent types.UploadContractWasm v h =
+    arm_kind kind types.UploadContractWasm upload_of as_upload (opaque 4294967295) (λ x. refl) back_upload v h
+coherent types.CreateContractV2 v h =
+    arm_kind kind types.CreateContractV2 create_contract_v2_of as_create_contract_v2 create_v2_format
+    (λ x. refl) back_create_contract_v2 v h
 
 pub host_function_lawful : IsFormat host_function_format
 unfolding host_function_format

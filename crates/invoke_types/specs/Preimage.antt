@@ -81,12 +81,16 @@ back_from_asset (preimages.FromAsset asset) x e = cc
 back_from_asset _ x e = absurd cc
 
 arms_lawful : (k : PreimageType) → IsFormat (arms k)
-arms_lawful types.FromAddress = arm_lawful from_address_of as_from_address _ (λ x. refl) back_from_address (pair_lawful _ _ address_lawful hash_lawful)
+arms_lawful types.FromAddress =
+    arm_lawful from_address_of as_from_address _ (λ x. refl) back_from_address (pair_lawful _ _ address_lawful hash_lawful)
 arms_lawful types.FromAsset = arm_lawful from_asset_of as_from_asset _ (λ x. refl) back_from_asset asset_lawful
 
 coherent : (k : PreimageType) (v : Preimage) → (arms k).fits v → kind v ≡ k
-coherent types.FromAddress v h = arm_kind kind types.FromAddress from_address_of as_from_address (pair address_format hash_format) (λ x. refl) back_from_address v h
-coherent types.FromAsset v h = arm_kind kind types.FromAsset from_asset_of as_from_asset asset_format (λ x. refl) back_from_asset v h
+coherent types.FromAddress v h =
+    arm_kind kind types.FromAddress from_address_of as_from_address (pair address_format hash_format)
+    (λ x. refl) back_from_address v h
+coherent types.FromAsset v h =
+    arm_kind kind types.FromAsset from_asset_of as_from_asset asset_format (λ x. refl) back_from_asset v h
 
 pub preimage_lawful : IsFormat preimage_format
 unfolding preimage_format

@@ -24,4 +24,6 @@ success_format = via success_of success_fields (pair scval_format (list 42949672
 
 pub success_lawful : IsFormat success_format
 unfolding success_format
-success_lawful = via_lawful success_of success_fields _ (λ f. refl) (λ s. refl) (pair_lawful _ _ scval_lawful (list_lawful 4294967295 event_format event_lawful))
+success_lawful =
+    via_lawful success_of success_fields _ (λ f. refl) (λ s. refl)
+    (pair_lawful _ _ scval_lawful (list_lawful 4294967295 event_format event_lawful))

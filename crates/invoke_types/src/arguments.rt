@@ -1,7 +1,8 @@
 //! The arguments of calls and creates.
 
 ghost use Rattle.std.specs.Prelude.{◌≡◌, ⊤};
-ghost use Rattle.invoke_types.specs.Arguments.{invoke_format, invoke_lawful, create_format, create_lawful, create_v2_format, create_v2_lawful};
+ghost use Rattle.invoke_types.specs.Arguments.{invoke_format, invoke_lawful, create_format, create_lawful, create_v2_format};
+ghost use Rattle.invoke_types.specs.Arguments.{create_v2_lawful};
 
 use crate::preimage::Preimage;
 use crate::values::clone_values;

@@ -4,7 +4,8 @@ ghost use Rattle.std.specs.Prelude.{◌≡◌};
 ghost use Rattle.std.specs.Bool.{Decides};
 ghost use Rattle.std.specs.Cmp.{partial_equiv_from_equiv};
 ghost use Rattle.value_types.specs.Equality.{is_same, is_same_equiv};
-ghost use Rattle.invoke_types.specs.Equality.{coded_asset, coded_preimage, coded_invoke, coded_create, coded_create_v2, coded_function};
+ghost use Rattle.invoke_types.specs.Equality.{coded_asset, coded_preimage, coded_invoke, coded_create, coded_create_v2};
+ghost use Rattle.invoke_types.specs.Equality.{coded_function};
 
 use crate::arguments::{CreateContractArgs, CreateContractArgsV2, InvokeContractArgs};
 use crate::asset::Asset;

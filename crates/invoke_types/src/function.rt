@@ -2,7 +2,8 @@
 
 ghost use Rattle.std.specs.Prelude.{◌≡◌};
 ghost use Rattle.xdr_core.specs.Reads.{Reads};
-ghost use Rattle.invoke_types.specs.Function.{number, kind_of, kind, type_format, type_lawful, arms, function_format, function_lawful};
+ghost use Rattle.invoke_types.specs.Function.{number, kind_of, kind, type_format, type_lawful, arms, function_format};
+ghost use Rattle.invoke_types.specs.Function.{function_lawful};
 
 use crate::arguments::{CreateContractArgs, CreateContractArgsV2, InvokeContractArgs};
 use std::alloc::{AllocError, Global};

@@ -2,7 +2,8 @@
 
 ghost use Rattle.std.specs.Prelude.{◌≡◌};
 ghost use Rattle.xdr_core.specs.Reads.{Reads};
-ghost use Rattle.invoke_types.specs.HostFunction.{number, kind_of, kind, type_format, type_lawful, arms, host_function_format, host_function_lawful};
+ghost use Rattle.invoke_types.specs.HostFunction.{number, kind_of, kind, type_format, type_lawful, arms, host_function_format};
+ghost use Rattle.invoke_types.specs.HostFunction.{host_function_lawful};
 
 use crate::arguments::{CreateContractArgs, CreateContractArgsV2, InvokeContractArgs};
 use std::alloc::{AllocError, Global};

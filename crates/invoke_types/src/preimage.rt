@@ -2,7 +2,8 @@
 
 ghost use Rattle.std.specs.Prelude.{◌≡◌, ⊤};
 ghost use Rattle.xdr_core.specs.Reads.{Reads};
-ghost use Rattle.invoke_types.specs.Preimage.{number, kind_of, kind, type_format, type_lawful, arms, preimage_format, preimage_lawful};
+ghost use Rattle.invoke_types.specs.Preimage.{number, kind_of, kind, type_format, type_lawful, arms, preimage_format};
+ghost use Rattle.invoke_types.specs.Preimage.{preimage_lawful};
 
 use crate::asset::Asset;
 use std::alloc::{AllocError, Global};

@@ -2,7 +2,8 @@
 
 ghost use Rattle.std.specs.Prelude.{◌≡◌, ℕ, List, Option};
 ghost use Rattle.sha2.specs.Sha256.{sha256};
-ghost use Rattle.ledger_spec.specs.LedgerFile.{are_settings, can_run, fault_of, has_code_hash, record_key, is_above as is_above_key};
+ghost use Rattle.ledger_spec.specs.LedgerFile.{are_settings, can_run, fault_of, has_code_hash, record_key};
+ghost use Rattle.ledger_spec.specs.LedgerFile.{is_above as is_above_key};
 ghost use Rattle.ledger_file.specs.Rules.{header_refusal};
 
 use ledger_spec::{LedgerRefusal, LedgerWhy};

@@ -33,12 +33,16 @@ OthersStay changed before after = (key : LedgerKey) → key_bytes key ≢ key_by
 -- The put succeeded. In ledger n the entry is live in the new map until this ledger, with n as its last modified ledger.
 abbrev pub IsPut : ℕ → LedgerEntry → ℕ → Option LedgerMap → Type 0
 IsPut n entry live_until after =
-    IsSomeAnd after (λ map. seen n map (key_of entry) ≡ live (record { entry = record entry { last_modified_ledger_seq = n }; live_until = live_until }))
+    IsSomeAnd after
+    (λ map. seen n map (key_of entry)
+    ≡ live (record { entry = record entry { last_modified_ledger_seq = n }; live_until = live_until }))
 
 -- The make succeeded. The new map has the entry, with n as its last modified ledger and with this live-until ledger.
 abbrev pub IsMade : ℕ → LedgerEntry → ℕ → Option (Bool × LedgerMap) → Type 0
 IsMade n entry live_until made =
-    IsSomeAnd made (λ m. (m.0 ≡ true) × (find m.1 (key_of entry) ≡ Some (record { entry = record entry { last_modified_ledger_seq = n }; live_until = live_until })))
+    IsSomeAnd made (λ m. (m.0 ≡ true)
+    × (find m.1 (key_of entry)
+    ≡ Some (record { entry = record entry { last_modified_ledger_seq = n }; live_until = live_until })))
 
 -- A ledger's map can get this entry in ledger n: the entry is within its XDR format and a code's hash is right, and the map
 -- has room for one entry more.

@@ -1,5 +1,6 @@
 -- Changes of a ledger's map in ledger n (own, after CAP-0046-12: state archival).
-use Rattle.std.specs.Prelude.{ℕ, ◌+◌, ◌-◌, Bool, true, false, ◌&&◌, Option, Some, None, Result, Ok, Err, max, nat_lt, nat_le, if◌then◌else◌}
+use Rattle.std.specs.Prelude.{ℕ, ◌+◌, ◌-◌, Bool, true, false, ◌&&◌, Option, Some, None, Result, Ok, Err, max, nat_lt, nat_le}
+use Rattle.std.specs.Prelude.{if◌then◌else◌}
 use Rattle.std.specs.FinMap.{insert, remove}
 use Rattle.ledger_types.specs.Entry.{key_of}
 use Rattle.ledger_types.specs.declared.key.LedgerKey.{LedgerKey}
@@ -64,7 +65,8 @@ make n map entry live_until = make_seen (seen n map (key_of entry)) n map entry 
 pub data Unextended : Type 0 where
   backward : Unextended  -- the threshold is above extend_to: (STORAGE, INVALID_INPUT)
   missing : Unextended  -- there is no live entry: (STORAGE, MISSING_VALUE)
-  too_far : Unextended  -- a temporary entry would live beyond the furthest, whatever the threshold says: (STORAGE, INVALID_ACTION)
+  -- a temporary entry would live beyond the furthest, whatever the threshold says: (STORAGE, INVALID_ACTION)
+  too_far : Unextended
   in_archive : Unextended  -- the entry is archived: that access ends the run
 
 -- the live-until ledger that an extension asks for: persistent data and code are capped at the furthest

@@ -1,5 +1,6 @@
 -- The file of a ledger (own): a version, a header and one record for each entry, sorted by the keys' XDR bytes.
-use Rattle.std.specs.Prelude.{ℕ, ◌+◌, Bool, true, ◌&&◌, not, List, [], ◌∷◌, map, Option, Some, None, Result, Ok, Err, nat_lt, nat_le, if◌then◌else◌}
+use Rattle.std.specs.Prelude.{ℕ, ◌+◌, Bool, true, ◌&&◌, not, List, [], ◌∷◌, map, Option, Some, None, Result, Ok, Err, nat_lt}
+use Rattle.std.specs.Prelude.{nat_le, if◌then◌else◌}
 use Rattle.std.specs.Ordering.{is_lt, nat_cmp}
 use Rattle.std.specs.FinMap.{from_sorted, values}
 use Rattle.std.specs.Cmp.Lexicographic.{slice_cmp}
@@ -118,8 +119,8 @@ abbrev pub as_map : LedgerFile → Option LedgerRefusal → Result (Header × Le
 as_map file None = Ok (file.header, map_of file.records)
 as_map file (Some found) = Err found
 
--- The protocol and the settings are tested first. If `follows` asks that another ledger may follow, the ledger's number comes next. Then
--- the records are tested one by one.
+-- The protocol and the settings are tested first. If `follows` asks that another ledger may follow, the ledger's number comes
+-- next. Then the records are tested one by one.
 abbrev pub judged : Bool → LedgerFile → Result (Header × LedgerMap) LedgerRefusal
 judged follows file =
     if not (can_run file.header) then Err (refusal why.Settings 0)

@@ -1,6 +1,7 @@
 //! Laws of what an access finds in a ledger's map, before and after a change.
 
-ghost use Rattle.std.specs.Prelude.{◌≡◌, ◌↔◌, ◌<◌, ◌≤◌, ◌^◌, ℕ, Bool, false, ◌+◌, min, max, Some, None, Ok, Err, IsSomeAnd, IsTrue};
+ghost use Rattle.std.specs.Prelude.{◌≡◌, ◌↔◌, ◌<◌, ◌≤◌, ◌^◌, ℕ, Bool, false, ◌+◌, min, max, Some, None, Ok, Err, IsSomeAnd};
+ghost use Rattle.std.specs.Prelude.{IsTrue};
 ghost use Rattle.std.specs.Option.{option_map};
 ghost use Rattle.std.specs.FinMap.{insert, remove};
 ghost use Rattle.ledger_types.specs.Entry.{key_of};

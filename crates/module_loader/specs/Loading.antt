@@ -1,5 +1,6 @@
 -- Loading of modules from bytes (core sections 3 and 5; linking and the order of flaws are own).
-use Rattle.std.specs.Prelude.{◌≡◌, ◌↔◌, ◌+◌, ◌&&◌, ℕ, suc, Bool, false, List, [], ◌∷◌, length, map, Option, Some, None, Result, Ok, Err, slice_get, option_map, is_some, nat_le, if◌then◌else◌, ⊤}
+use Rattle.std.specs.Prelude.{◌≡◌, ◌↔◌, ◌+◌, ◌&&◌, ℕ, suc, Bool, false, List, [], ◌∷◌, length, map, Option, Some, None, Result}
+use Rattle.std.specs.Prelude.{Ok, Err, slice_get, option_map, is_some, nat_le, if◌then◌else◌, ⊤}
 use Rattle.wasm_spec.specs.Binary.{ModuleBytes, locals_count}
 use Rattle.wasm_spec.specs.Typing.{◌>>=◌, Typed, IsIll, MOST_LOCALS, body_context, result_of}
 use Rattle.wasm_spec.specs.declared.module.Module.{Module}

@@ -5,7 +5,8 @@ ghost use Rattle.wasm_spec.specs.Binary.{ModuleBytes};
 ghost use Rattle.wasm_spec.specs.Typing.{Typed};
 ghost use Rattle.host_interface.specs.Rows.{host_rows, rows_of};
 ghost use Rattle.wasm_check.specs.Linking.{Linked};
-ghost use Rattle.module_loader.specs.Loading.{HasRows, IsLoadedUnlessMemory, IsModuleOf, ReportsFlaw, ReportsIll, ReportsUnlinked, Gives, loaded, module_of};
+ghost use Rattle.module_loader.specs.Loading.{HasRows, IsLoadedUnlessMemory, IsModuleOf, ReportsFlaw, ReportsIll};
+ghost use Rattle.module_loader.specs.Loading.{ReportsUnlinked, Gives, loaded, module_of};
 
 use crate::error::{Flaw, LoadErr};
 use crate::linked::LinkedModule;

@@ -63,7 +63,7 @@ pub enum ShowErr {
 }
 
 impl Shown {
-    /// No values.
+    /// Makes a list of no values.
     pub fn new(alloc: Global) -> Shown
         ensures { result ≡ [] }
     {
@@ -94,7 +94,7 @@ impl Shown {
 }
 
 impl Objects {
-    /// No values.
+    /// Makes a list of no values.
     pub fn new(alloc: Global) -> Objects
         ensures { result ≡ [] }
     {

@@ -11,6 +11,8 @@ use Rattle.schedule_runs.specs.Plans.{first_incomplete, run_stopped, stages_in, 
 
 -- If a set has no conflict, each complete schedule does what the set does, once all its steps run.
 abbrev pub WholeLaw : Type 0
-WholeLaw = (header : Header) (verdicts : Verdicts) (entries : LedgerMap) (set : TxSet) (close_time : ℕ) (orders : List (List ℕ)) (steps : ℕ)
+WholeLaw =
+    (header : Header) (verdicts : Verdicts) (entries : LedgerMap) (set : TxSet) (close_time : ℕ) (orders : List (List ℕ))
+    (steps : ℕ)
     → AllByRecursion HasNoConflict (stages_in set) → first_incomplete (stages_in set) orders ≡ None → steps_of orders ≤ steps
     → run_stopped header verdicts entries set close_time orders steps ≡ run_set header verdicts entries set close_time

@@ -10,8 +10,8 @@ use Rattle.schedule_runs.specs.Plans.{first_incomplete}
 use Rattle.schedule_runs.specs.declared.error.SchedErr.{SchedErr}
 use Rattle.schedule_runs.specs.declared.error.SchedErr.TheVariants.{Conflict, Incomplete, NoMemory}
 
--- This is the least conflict of the set, or the set has none and this is the least index at which the schedule is not complete. The
--- ledger is as before. Memory may run out in place of both.
+-- This is the least conflict of the set, or the set has none and this is the least index at which the schedule is not complete.
+-- The ledger is as before. Memory may run out in place of both.
 abbrev pub IsRefused : List Stage → List (List ℕ) → Ledger → SchedErr → Type 0
 IsRefused stages orders before (Conflict stage found ledger) =
     IsFirstConflict stages stage found.a found.b (key_bytes found.key.now) × (ledger ≡ before) × key_format.fits found.key.now

@@ -17,4 +17,6 @@ schedule_format = via schedule_of orders_of (list 4294967295 (list 4294967295 nu
 
 pub schedule_lawful : IsFormat schedule_format
 unfolding schedule_format
-schedule_lawful = via_lawful schedule_of orders_of _ (λ stages. refl) (λ schedule. refl) (list_lawful 4294967295 _ (list_lawful 4294967295 _ number32_lawful))
+schedule_lawful =
+    via_lawful schedule_of orders_of _ (λ stages. refl) (λ schedule. refl)
+    (list_lawful 4294967295 _ (list_lawful 4294967295 _ number32_lawful))

@@ -14,8 +14,8 @@ use xdr_core::{Cursor, NoMemory, Out, ReadXdr};
 /// The numbers of clusters in the order in which their next transactions run.
 pub type Order = Items<u32, 4294967295>;
 
-/// The order in which the transactions of a set run (own): for each stage a list of numbers of clusters, counted from 0. Each number
-/// stands for the next transaction of its cluster.
+/// The order in which the transactions of a set run (own): for each stage a list of numbers of clusters, counted from 0. Each
+/// number stands for the next transaction of its cluster.
 #[derive(Drop)]
 pub struct Schedule {
     pub stages: Items<Order, 4294967295>,

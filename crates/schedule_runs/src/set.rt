@@ -16,7 +16,8 @@ ghost use Rattle.apply_spec.specs.Outputs.{results_of, preimages_of};
 ghost use Rattle.apply_spec.specs.Runs.{new_header};
 ghost use Rattle.ledger_apply.specs.State.{between};
 ghost use Rattle.ledger_apply.specs.Stages.{clusters_of, IsSpelled};
-ghost use Rattle.schedule_runs.specs.Plans.{first_incomplete as first_incomplete_in, planned_of, run_stopped, run_stopped_over, stages_in};
+ghost use Rattle.schedule_runs.specs.Plans.{first_incomplete as first_incomplete_in, planned_of, run_stopped, run_stopped_over};
+ghost use Rattle.schedule_runs.specs.Plans.{stages_in};
 ghost use Rattle.schedule_runs.specs.Refused.{IsRefused};
 ghost use Rattle.schedule_runs.specs.Stopped.{IsAt};
 
@@ -178,8 +179,8 @@ fn run_stages<'a>(
 /// Runs the first transactions of a set in the order of a schedule, counted over all stages. A stage whose transactions all ran
 /// ends, also if it has none. Results stand in the order of the set.
 ///
-/// `close_time` is that of the new ledger, in seconds since 1970. Conflicts are looked for before the schedule is tested, and both
-/// before anything runs. The test of the schedule takes time in proportion to the schedule and the set.
+/// `close_time` is that of the new ledger, in seconds since 1970. Conflicts are looked for before the schedule is tested, and
+/// both before anything runs. The test of the schedule takes time in proportion to the schedule and the set.
 pub fn run_schedule<'a>(
     alloc: Global,
     ledger: Ledger,
@@ -193,7 +194,8 @@ pub fn run_schedule<'a>(
     requires settings { IsTrue (are_settings ledger.header.settings) }
     requires next { IsTrue (has_next ledger.header) }
 
-    // A set is refused for its least conflict, else for the first stage whose list is missing or not complete, and only for these.
+    // A set is refused for its least conflict, else for the first stage whose list is missing or not complete, and only for
+    // these.
     ensures refused { IfErr result (IsRefused (stages_in set.now) schedule.now.stages ledger) }
     ensures free { IfOk result (λ _. AllByRecursion HasNoConflict (stages_in set.now)) }
     ensures complete { IfOk result (λ _. first_incomplete_in (stages_in set.now) schedule.now.stages ≡ None) }
@@ -201,9 +203,11 @@ pub fn run_schedule<'a>(
     ensures header { IfOk result (λ a. a.ledger.header ≡ new_header ledger.header close_time) }
     ensures entries { IfOk result (λ a. a.ledger.entries ≡ (run_stopped ledger.header verdicts.now ledger.entries set.now
         close_time schedule.now.stages steps).entries) }
-    ensures results { IfOk result (λ a. a.results.pairs ≡ results_of (run_stopped ledger.header verdicts.now ledger.entries set.now
+    ensures results { IfOk result
+        (λ a. a.results.pairs ≡ results_of (run_stopped ledger.header verdicts.now ledger.entries set.now
         close_time schedule.now.stages steps)) }
-    ensures successes { IfOk result (λ a. a.successes ≡ preimages_of (run_stopped ledger.header verdicts.now ledger.entries set.now
+    ensures successes { IfOk result
+        (λ a. a.successes ≡ preimages_of (run_stopped ledger.header verdicts.now ledger.entries set.now
         close_time schedule.now.stages steps)) }
 
     // The results and the success preimages can be written.

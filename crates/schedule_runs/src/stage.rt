@@ -31,7 +31,8 @@ fn run_in_order(
     requires settings { IsTrue (are_settings header.now.settings) }
     requires next { IsTrue (has_next header.now) }
     ensures run { IfOk result (λ done. left_by ledger.new.entries done.items ≡ collected
-        (interleaved (enforced header.now verdicts.now) ledger.old.entries (clusters_of_stage (stage_of stage.entry)) order.now)) }
+        (interleaved (enforced header.now verdicts.now) ledger.old.entries
+        (clusters_of_stage (stage_of stage.entry)) order.now)) }
     ensures keyed { IfOk result (λ done. All IsKeyed done.items) }
 {
     let mut lanes = lanes_of(alloc, stage)?;

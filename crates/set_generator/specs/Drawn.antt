@@ -13,7 +13,10 @@ drawn_envelope drawn k = envelope_for (get_or drawn k 0) k
 -- the transactions of a stage whose contract's number modulo 8 is the cluster's index
 abbrev pub drawn_cluster : List ℕ → ℕ → ℕ → Cluster
 drawn_cluster drawn stage cluster =
-    record { envelopes = map (drawn_envelope drawn) (filter (λ k. get_or drawn k 0 % 8 == cluster) (numbers_in (length drawn) stage)) }
+    record {
+      envelopes = map (drawn_envelope drawn)
+          (filter (λ k. get_or drawn k 0 % 8 == cluster) (numbers_in (length drawn) stage));
+    }
 
 -- the stage with this index
 abbrev pub drawn_stage : List ℕ → ℕ → Stage

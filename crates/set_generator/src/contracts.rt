@@ -1,7 +1,8 @@
 //! The contracts of a generated ledger.
 
 ghost use Rattle.std.specs.Prelude.{◌≡◌, IfOk, codes};
-ghost use Rattle.set_generator.specs.GeneratedContracts.{address as address_in, bump_hash as bump_hash_in, counter as counter_in, counter_key as counter_key_in, instance_key as instance_key_in};
+ghost use Rattle.set_generator.specs.GeneratedContracts.{address as address_in, bump_hash as bump_hash_in, counter as counter_in};
+ghost use Rattle.set_generator.specs.GeneratedContracts.{counter_key as counter_key_in, instance_key as instance_key_in};
 
 use ledger_types::{Durability, LedgerKey};
 use sha2::{Digest, Sha256};
@@ -39,7 +40,7 @@ pub fn address(number: u8) -> ScAddress
     ScAddress::Contract(Hash(id))
 }
 
-/// Returns a text.
+/// Copies bytes into a text of a value.
 pub fn text(alloc: Global, bytes: &[u8]) -> Result<Blob, NoMemory>
     ensures { IfOk result (λ text. text ≡ bytes.now) }
 {

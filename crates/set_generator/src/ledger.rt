@@ -5,7 +5,9 @@ ghost use Rattle.budget_meter.specs.declared.terms.KindTerms.{KindTerms as KindT
 ghost use Rattle.ledger_types.specs.Entry.{entry_format};
 ghost use Rattle.ledger_spec.specs.LedgerMap.{HasCodeHash};
 ghost use Rattle.set_generator.specs.GeneratedContracts.{bump_hash as bump_hash_in};
-ghost use Rattle.set_generator.specs.GeneratedLedger.{terms_for, settings as settings_in, generated_header, kept, instance_of, counter_of, code_entry as code_entry_in, with_entry, generated_entries as generated_entries_in};
+ghost use Rattle.set_generator.specs.GeneratedLedger.{terms_for, settings as settings_in, generated_header, kept, instance_of};
+ghost use Rattle.set_generator.specs.GeneratedLedger.{counter_of, code_entry as code_entry_in, with_entry};
+ghost use Rattle.set_generator.specs.GeneratedLedger.{generated_entries as generated_entries_in};
 
 use crate::contracts::{BUMP, address, bump_hash, counter, text};
 use crate::draws::CONTRACTS;

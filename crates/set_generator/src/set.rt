@@ -3,7 +3,8 @@
 ghost use Rattle.std.specs.Prelude.{◌≡◌, ◌<◌, ◌≤◌, IfOk, length};
 ghost use Rattle.tx_xdr.specs.Set.{set_format};
 ghost use Rattle.set_generator.specs.GeneratedContracts.{bump_hash as bump_hash_in};
-ghost use Rattle.set_generator.specs.GeneratedSet.{bump_call, bump_data, envelope_for, stage_count as stage_count_in, generated_set as generated_set_in};
+ghost use Rattle.set_generator.specs.GeneratedSet.{bump_call, bump_data, envelope_for, stage_count as stage_count_in};
+ghost use Rattle.set_generator.specs.GeneratedSet.{generated_set as generated_set_in};
 ghost use Rattle.set_generator.specs.Drawn.{drawn_cluster, drawn_stage, drawn_stages};
 
 use crate::contracts::{address, bump_hash, counter_key, instance_key, text};

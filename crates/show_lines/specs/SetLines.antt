@@ -20,7 +20,8 @@ operation_name (operation ∷ others) = decimal (number (kind operation.body))
 abbrev pub envelope_line_at : ℕ → ℕ → ℕ → Envelope → List ℕ
 envelope_line_at stage cluster index envelope =
     decimal stage ++ codes " " ++ decimal cluster ++ codes " " ++ decimal index ++ codes " "
-    ++ operation_name (transaction_in envelope).operations ++ codes " " ++ signed_decimal (transaction_in envelope).seq_num ++ codes "\n"
+    ++ operation_name (transaction_in envelope).operations ++ codes " " ++ signed_decimal (transaction_in envelope).seq_num
+    ++ codes "\n"
 
 -- the lines of the items of a list, numbered from `from`
 abbrev pub numbered : {A : Type 0} → (ℕ → A → List ℕ) → ℕ → List A → List ℕ

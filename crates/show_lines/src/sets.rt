@@ -2,7 +2,8 @@
 
 ghost use Rattle.std.specs.Prelude.{◌≡◌, ◌++◌, map, codes, OnOk, IfOk};
 ghost use Rattle.tx_xdr.specs.Stages.{component_stage, stages_in, stages_of};
-ghost use Rattle.show_lines.specs.SetLines.{cluster_lines, envelope_line, envelope_line_at, numbered, operation_name, set_lines, stage_lines};
+ghost use Rattle.show_lines.specs.SetLines.{cluster_lines, envelope_line, envelope_line_at, numbered, operation_name, set_lines};
+ghost use Rattle.show_lines.specs.SetLines.{stage_lines};
 ghost use Rattle.show_lines.specs.Parts.{part_of};
 
 use std::alloc::{AllocError, Global};
@@ -16,9 +17,9 @@ enum Part<'a> {
     Stage(&'a Stage),
 }
 
-/// The lines of a set, one for each transaction in order: the number of its stage in the whole set, of its cluster in the stage, its
-/// index in the cluster, each from 0; the number of its first operation, or `none`; and its sequence number. Of a fee bump the last
-/// two are its inner transaction's.
+/// The lines of a set, one for each transaction in order: the number of its stage in the whole set, of its cluster in the stage,
+/// its index in the cluster, each from 0; the number of its first operation, or `none`; and its sequence number. Of a fee bump
+/// the last two are its inner transaction's.
 pub fn set_lines(alloc: Global, set: &TxSet) -> Result<Vec<u8>, AllocError>
     ensures { IfOk result (λ v. v.items ≡ set_lines set.now) }
 {

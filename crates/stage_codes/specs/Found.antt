@@ -25,14 +25,16 @@ code_of (ContractCode entry) = Some entry.code
 
 -- The map has an entry at the code's hash, with this code.
 abbrev pub HasCode : LedgerMap → Hash → List ℕ → Type 0
-HasCode entries hash code = option_map (λ kept. code_of kept.entry.data) (find entries (keys.ContractCode hash)) ≡ Some (Some code)
+HasCode entries hash code =
+    option_map (λ kept. code_of kept.entry.data) (find entries (keys.ContractCode hash)) ≡ Some (Some code)
 
 abbrev pub IsCodeIn : LedgerMap → Code → Type 0
 IsCodeIn entries code = HasCode entries code.hash code.code.now
 
 -- If the key is that of a code which the map has, then the list has the code's hash.
 abbrev pub IsShared : LedgerMap → List Code → LedgerKey → Type 0
-IsShared entries codes key = (hash : Hash) (code : List ℕ) → key ≡ keys.ContractCode hash → HasCode entries hash code → (slot : ℕ) × IsAt codes hash slot
+IsShared entries codes key =
+    (hash : Hash) (code : List ℕ) → key ≡ keys.ContractCode hash → HasCode entries hash code → (slot : ℕ) × IsAt codes hash slot
 
 -- the keys that the transactions of clusters declare read-only
 abbrev pub stage_keys : List Cluster → List LedgerKey
@@ -63,7 +65,8 @@ AreFound entries pairs = AllByRecursion (λ p. HasCode entries (hash_of p.0) p.1
 
 -- if the key is that of a code which the map has, the code's hash is there
 abbrev pub IsThere : LedgerMap → Codes → LedgerKey → Type 0
-IsThere entries codes key = (hash : Hash) (code : List ℕ) → key ≡ keys.ContractCode hash → HasCode entries hash code → has_hash codes hash.0 ≡ true
+IsThere entries codes key =
+    (hash : Hash) (code : List ℕ) → key ≡ keys.ContractCode hash → HasCode entries hash code → has_hash codes hash.0 ≡ true
 
 -- no hash is lost
 abbrev pub KeepsHashes : Codes → Codes → Type 0

@@ -46,12 +46,12 @@ fn add_clusters<'a, G: Ground>(
     Ok(())
 }
 
-/// Returns the codes that the transactions of a stage declare read-only and that the ground has, sorted by their hashes. They make a
-/// `Cache` that the clusters of the stage share. It takes O(n log n) comparisons of hashes and keys, where n is how many keys the
-/// stage declares.
+/// Returns the codes that the transactions of a stage declare read-only and that the ground has, sorted by their hashes. They
+/// make a `Cache` that the clusters of the stage share. It takes O(n log n) comparisons of hashes and keys, where n is how many
+/// keys the stage declares.
 ///
-/// The ground is what all clusters may read. If the entries at the keys that some transaction of the stage declares read-write are
-/// not in it, then it has no code that the stage may change.
+/// The ground is what all clusters may read. If the entries at the keys that some transaction of the stage declares read-write
+/// are not in it, then it has no code that the stage may change.
 pub fn stage_codes<'a, G: Ground>(
     alloc: Global,
     ground: &'a G,

@@ -1,5 +1,6 @@
 -- The conflicts at each key of a stage, found cluster by cluster (own).
-use Rattle.std.specs.Prelude.{◌≡◌, ◌<◌, ◌==◌, ◌&&◌, ◌||◌, ℕ, Bool, true, false, not, List, Option, Some, None, is_some, nat_lt, slice_get, if◌then◌else◌}
+use Rattle.std.specs.Prelude.{◌≡◌, ◌<◌, ◌==◌, ◌&&◌, ◌||◌, ℕ, Bool, true, false, not, List, Option, Some, None, is_some, nat_lt}
+use Rattle.std.specs.Prelude.{slice_get, if◌then◌else◌}
 use Rattle.std.specs.List.{fold}
 use Rattle.std.specs.FinMap.{get, insert}
 use Rattle.stage_runs.specs.Maps.{Bytes, LedgerKey, key_bytes}

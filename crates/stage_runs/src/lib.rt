@@ -2,7 +2,9 @@
 //! transaction is a parameter of these definitions.
 #![tactic(auto)]
 
-ghost use Rattle.stage_runs.specs.Laws.{FrameLaw, ElsewhereLaw, PartsLaw, OwnPartsLaw, MovedLaw, OrdersLaw, CompleteLaw, ClusterPendingLaw, StagePendingLaw, AnyPendingLaw, SetByPartsLaw, StoppedLaw, EnforcedLaw, ConflictLaw, ShownLaw, OwnsLaw};
+ghost use Rattle.stage_runs.specs.Laws.{FrameLaw, ElsewhereLaw, PartsLaw, OwnPartsLaw, MovedLaw, OrdersLaw, CompleteLaw};
+ghost use Rattle.stage_runs.specs.Laws.{ClusterPendingLaw, StagePendingLaw, AnyPendingLaw, SetByPartsLaw, StoppedLaw};
+ghost use Rattle.stage_runs.specs.Laws.{EnforcedLaw, ConflictLaw, ShownLaw, OwnsLaw};
 
 use ledger_spec::Kept;
 use ledger_types::LedgerKey;

@@ -2,7 +2,8 @@
 
 ghost use Rattle.std.specs.Prelude.{◌≡◌, ⊤};
 ghost use Rattle.xdr_core.specs.Reads.{Reads};
-ghost use Rattle.tx_parts.specs.MuxedAccount.{number, kind_of, kind, type_format, type_lawful, arms, account_format, account_lawful};
+ghost use Rattle.tx_parts.specs.MuxedAccount.{number, kind_of, kind, type_format, type_lawful, arms, account_format};
+ghost use Rattle.tx_parts.specs.MuxedAccount.{account_lawful};
 
 use std::alloc::{AllocError, Global};
 use value_types::Hash;

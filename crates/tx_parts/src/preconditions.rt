@@ -2,7 +2,8 @@
 
 ghost use Rattle.std.specs.Prelude.{◌≡◌, IfOk};
 ghost use Rattle.xdr_core.specs.Reads.{Reads};
-ghost use Rattle.tx_parts.specs.Preconditions.{v2_format, v2_lawful, number, kind_of, kind, type_format, type_lawful, arms, preconditions_format, preconditions_lawful};
+ghost use Rattle.tx_parts.specs.Preconditions.{v2_format, v2_lawful, number, kind_of, kind, type_format, type_lawful, arms};
+ghost use Rattle.tx_parts.specs.Preconditions.{preconditions_format, preconditions_lawful};
 
 use crate::bounds::{LedgerBounds, TimeBounds};
 use crate::signer_key::SignerKey;

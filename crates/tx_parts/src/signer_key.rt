@@ -2,7 +2,8 @@
 
 ghost use Rattle.std.specs.Prelude.{◌≡◌};
 ghost use Rattle.xdr_core.specs.Reads.{Reads};
-ghost use Rattle.tx_parts.specs.SignerKey.{number, kind_of, kind, type_format, type_lawful, arms, signer_key_format, signer_key_lawful};
+ghost use Rattle.tx_parts.specs.SignerKey.{number, kind_of, kind, type_format, type_lawful, arms, signer_key_format};
+ghost use Rattle.tx_parts.specs.SignerKey.{signer_key_lawful};
 
 use std::alloc::{AllocError, Global};
 use value_types::{Bytes, Hash};

@@ -37,7 +37,8 @@ invoke_number invoke_codes.ResourceLimitExceeded = minus 3
 invoke_number invoke_codes.EntryArchived = minus 4
 
 abbrev pub invoke_codes_all : List InvokeResultCode
-invoke_codes_all = invoke_codes.Success ∷ invoke_codes.Malformed ∷ invoke_codes.Trapped ∷ invoke_codes.ResourceLimitExceeded ∷ invoke_codes.EntryArchived ∷ []
+invoke_codes_all = invoke_codes.Success ∷ invoke_codes.Malformed ∷ invoke_codes.Trapped ∷ invoke_codes.ResourceLimitExceeded
+    ∷ invoke_codes.EntryArchived ∷ []
 
 abbrev pub invoke_of_number : ℕ → Option InvokeResultCode
 invoke_of_number = find_kind invoke_number invoke_codes_all
@@ -61,7 +62,9 @@ invoke_there invoke_codes.EntryArchived = refl
 
 pub invoke_code_lawful : IsFormat invoke_code_format
 unfolding invoke_code_format
-invoke_code_lawful = enumeration_lawful invoke_number invoke_of_number invoke_codes.Success invoke_small invoke_there (find_kind-back invoke_number invoke_codes_all)
+invoke_code_lawful =
+    enumeration_lawful invoke_number invoke_of_number invoke_codes.Success invoke_small invoke_there
+    (find_kind-back invoke_number invoke_codes_all)
 
 -- ---- the result of INVOKE_HOST_FUNCTION: its code, and at SUCCESS the SHA-256 of the success preimage
 
@@ -94,14 +97,17 @@ back_invoke_success (invokes.Success preimage) x e = cc
 back_invoke_success _ x e = absurd cc
 
 invoke_arms_lawful : (k : InvokeResultCode) → IsFormat (invoke_arms k)
-invoke_arms_lawful invoke_codes.Success = arm_lawful invoke_success_of as_invoke_success _ (λ x. refl) back_invoke_success hash_lawful
+invoke_arms_lawful invoke_codes.Success =
+    arm_lawful invoke_success_of as_invoke_success _ (λ x. refl) back_invoke_success hash_lawful
 invoke_arms_lawful invoke_codes.Malformed = nothing_lawful invokes.Malformed
 invoke_arms_lawful invoke_codes.Trapped = nothing_lawful invokes.Trapped
 invoke_arms_lawful invoke_codes.ResourceLimitExceeded = nothing_lawful invokes.ResourceLimitExceeded
 invoke_arms_lawful invoke_codes.EntryArchived = nothing_lawful invokes.EntryArchived
 
 invoke_coherent : (k : InvokeResultCode) (v : InvokeResult) → (invoke_arms k).fits v → invoke_code_of v ≡ k
-invoke_coherent invoke_codes.Success v h = arm_kind invoke_code_of invoke_codes.Success invoke_success_of as_invoke_success hash_format (λ x. refl) back_invoke_success v h
+invoke_coherent invoke_codes.Success v h =
+    arm_kind invoke_code_of invoke_codes.Success invoke_success_of as_invoke_success hash_format
+    (λ x. refl) back_invoke_success v h
 invoke_coherent invoke_codes.Malformed v h = ap invoke_code_of h
 invoke_coherent invoke_codes.Trapped v h = ap invoke_code_of h
 invoke_coherent invoke_codes.ResourceLimitExceeded v h = ap invoke_code_of h
@@ -143,7 +149,9 @@ extend_there extends.Malformed = refl
 
 pub extend_lawful : IsFormat extend_format
 unfolding extend_format
-extend_lawful = enumeration_lawful extend_number extend_of_number extends.Success extend_small extend_there (find_kind-back extend_number extends_all)
+extend_lawful =
+    enumeration_lawful extend_number extend_of_number extends.Success extend_small extend_there
+    (find_kind-back extend_number extends_all)
 
 -- ---- the number of a body, and the result that the body has of its own
 
@@ -170,7 +178,9 @@ inner_there inner_kinds.Extend = refl
 
 pub inner_kind_lawful : IsFormat inner_kind_format
 unfolding inner_kind_format
-inner_kind_lawful = enumeration_lawful inner_number inner_of_number inner_kinds.Invoke inner_small inner_there (find_kind-back inner_number inner_kinds_all)
+inner_kind_lawful =
+    enumeration_lawful inner_number inner_of_number inner_kinds.Invoke inner_small inner_there
+    (find_kind-back inner_number inner_kinds_all)
 
 abbrev pub inner_kind_of : InnerResult → InnerKind
 inner_kind_of (inners.Invoke result) = inner_kinds.Invoke
@@ -210,8 +220,10 @@ inner_arms_lawful inner_kinds.Invoke = arm_lawful invoke_of as_invoke _ (λ x. r
 inner_arms_lawful inner_kinds.Extend = arm_lawful extend_of as_extend _ (λ x. refl) back_extend extend_lawful
 
 inner_coherent : (k : InnerKind) (v : InnerResult) → (inner_arms k).fits v → inner_kind_of v ≡ k
-inner_coherent inner_kinds.Invoke v h = arm_kind inner_kind_of inner_kinds.Invoke invoke_of as_invoke invoke_format (λ x. refl) back_invoke v h
-inner_coherent inner_kinds.Extend v h = arm_kind inner_kind_of inner_kinds.Extend extend_of as_extend extend_format (λ x. refl) back_extend v h
+inner_coherent inner_kinds.Invoke v h =
+    arm_kind inner_kind_of inner_kinds.Invoke invoke_of as_invoke invoke_format (λ x. refl) back_invoke v h
+inner_coherent inner_kinds.Extend v h =
+    arm_kind inner_kind_of inner_kinds.Extend extend_of as_extend extend_format (λ x. refl) back_extend v h
 
 pub inner_lawful : IsFormat inner_format
 unfolding inner_format
@@ -249,7 +261,9 @@ operation_there operation_codes.NotSupported = refl
 
 pub operation_code_lawful : IsFormat operation_code_format
 unfolding operation_code_format
-operation_code_lawful = enumeration_lawful operation_number operation_of_number operation_codes.Inner operation_small operation_there (find_kind-back operation_number operation_codes_all)
+operation_code_lawful =
+    enumeration_lawful operation_number operation_of_number operation_codes.Inner operation_small operation_there
+    (find_kind-back operation_number operation_codes_all)
 
 abbrev pub operation_code_of : OperationResult → OperationResultCode
 operation_code_of (operations.Inner result) = operation_codes.Inner
@@ -278,7 +292,8 @@ operation_arms_lawful operation_codes.Inner = arm_lawful inner_of as_inner _ (λ
 operation_arms_lawful operation_codes.NotSupported = nothing_lawful operations.NotSupported
 
 operation_coherent : (k : OperationResultCode) (v : OperationResult) → (operation_arms k).fits v → operation_code_of v ≡ k
-operation_coherent operation_codes.Inner v h = arm_kind operation_code_of operation_codes.Inner inner_of as_inner inner_format (λ x. refl) back_inner v h
+operation_coherent operation_codes.Inner v h =
+    arm_kind operation_code_of operation_codes.Inner inner_of as_inner inner_format (λ x. refl) back_inner v h
 operation_coherent operation_codes.NotSupported v h = ap operation_code_of h
 
 pub operation_lawful : IsFormat operation_format

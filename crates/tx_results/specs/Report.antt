@@ -21,7 +21,8 @@ use Rattle.tx_results.specs.declared.results.ResultSet.{ResultSet}
 abbrev pub report_bytes : ResultSet → List (Option SuccessPreimage) → List ℕ
 report_bytes results successes = result_set_format.spell results ++ flat_map (optional success_format).spell successes
 
--- ---- where a preimage stands: exactly where an INVOKE_HOST_FUNCTION ended in SUCCESS, of a fee bump that of the inner transaction
+-- ---- where a preimage stands: exactly where an INVOKE_HOST_FUNCTION ended in SUCCESS, of a fee bump that of the inner
+-- transaction
 
 abbrev pub is_good_call : InvokeResult → Bool
 is_good_call (invokes.Success preimage) = true

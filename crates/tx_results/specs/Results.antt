@@ -1,5 +1,5 @@
--- What becomes of transactions and fee bumps (XDR files Stellar-transaction and Stellar-ledger, `TransactionResultSet` and what it
--- holds).
+-- What becomes of transactions and fee bumps (XDR files Stellar-transaction and Stellar-ledger, `TransactionResultSet` and what
+-- it holds).
 use Rattle.std.specs.Prelude.{◌≡◌, ◌<◌, ◌^◌, ℕ, ℤ, List, [], ◌∷◌, Option, Some, None, map}
 use Rattle.std.proofs.Common.{refl, ap, arith}
 use Rattle.xdr_spec.specs.Format.{Format, via, pair, list, arm, nothing, union, enumeration, find_kind, signed64}
@@ -39,7 +39,8 @@ code_number codes.SorobanInvalid = minus 17
 
 abbrev pub codes_all : List TransactionResultCode
 codes_all =
-    codes.Success ∷ codes.Failed ∷ codes.TooEarly ∷ codes.TooLate ∷ codes.MissingOperation ∷ codes.Malformed ∷ codes.SorobanInvalid ∷ []
+    codes.Success ∷ codes.Failed ∷ codes.TooEarly ∷ codes.TooLate ∷ codes.MissingOperation ∷ codes.Malformed
+    ∷ codes.SorobanInvalid ∷ []
 
 abbrev pub code_of_number : ℕ → Option TransactionResultCode
 code_of_number = find_kind code_number codes_all
@@ -67,7 +68,8 @@ code_there codes.SorobanInvalid = refl
 
 pub code_lawful : IsFormat code_format
 unfolding code_format
-code_lawful = enumeration_lawful code_number code_of_number codes.Success code_small code_there (find_kind-back code_number codes_all)
+code_lawful =
+    enumeration_lawful code_number code_of_number codes.Success code_small code_there (find_kind-back code_number codes_all)
 
 -- ---- what became of a transaction: its code, and the results of its operations where they ran
 
@@ -124,8 +126,10 @@ arms_lawful codes.Malformed = nothing_lawful outcomes.Malformed
 arms_lawful codes.SorobanInvalid = nothing_lawful outcomes.SorobanInvalid
 
 coherent : (k : TransactionResultCode) (v : TransactionOutcome) → (outcome_arms k).fits v → code_of v ≡ k
-coherent codes.Success v h = arm_kind code_of codes.Success success_of as_success (list 4294967295 operation_format) (λ x. refl) back_success v h
-coherent codes.Failed v h = arm_kind code_of codes.Failed failed_of as_failed (list 4294967295 operation_format) (λ x. refl) back_failed v h
+coherent codes.Success v h =
+    arm_kind code_of codes.Success success_of as_success (list 4294967295 operation_format) (λ x. refl) back_success v h
+coherent codes.Failed v h =
+    arm_kind code_of codes.Failed failed_of as_failed (list 4294967295 operation_format) (λ x. refl) back_failed v h
 coherent codes.TooEarly v h = ap code_of h
 coherent codes.TooLate v h = ap code_of h
 coherent codes.MissingOperation v h = ap code_of h
@@ -172,7 +176,8 @@ inner_pair_format = via inner_pair_of inner_pair_fields (pair hash_format inner_
 
 pub inner_pair_lawful : IsFormat inner_pair_format
 unfolding inner_pair_format
-inner_pair_lawful = via_lawful inner_pair_of inner_pair_fields _ (λ f. refl) (λ p. refl) (pair_lawful _ _ hash_lawful inner_result_lawful)
+inner_pair_lawful =
+    via_lawful inner_pair_of inner_pair_fields _ (λ f. refl) (λ p. refl) (pair_lawful _ _ hash_lawful inner_result_lawful)
 
 -- ---- the codes of envelopes: those of transactions alone, and two of fee bumps
 
@@ -211,9 +216,12 @@ envelope_code_there (envelope_codes.Transaction codes.SorobanInvalid) = refl
 
 pub envelope_code_lawful : IsFormat envelope_code_format
 unfolding envelope_code_format
-envelope_code_lawful = enumeration_lawful envelope_code_number envelope_code_of_number envelope_codes.FeeBumpInnerFailed envelope_code_small envelope_code_there (find_kind-back envelope_code_number envelope_codes_all)
+envelope_code_lawful =
+    enumeration_lawful envelope_code_number envelope_code_of_number envelope_codes.FeeBumpInnerFailed envelope_code_small
+    envelope_code_there (find_kind-back envelope_code_number envelope_codes_all)
 
--- ---- what became of an envelope: of a transaction alone its outcome; of a fee bump the inner transaction's hash and result, where
+-- ---- what became of an envelope: of a transaction alone its outcome; of a fee bump the inner transaction's hash and result,
+-- where
 -- code 1 says that the inner transaction succeeded, and -13 that it failed
 
 abbrev pub envelope_code_of : EnvelopeOutcome → EnvelopeResultCode
@@ -269,16 +277,22 @@ back_inner_failed (envelopes.FeeBumpInnerFailed inner) x e = cc
 back_inner_failed _ x e = absurd cc
 
 envelope_arms_lawful : (k : EnvelopeResultCode) → IsFormat (envelope_arms k)
-envelope_arms_lawful envelope_codes.FeeBumpInnerSuccess = arm_lawful of_inner_success as_inner_success _ (λ x. refl) back_inner_success inner_pair_lawful
-envelope_arms_lawful envelope_codes.FeeBumpInnerFailed = arm_lawful of_inner_failed as_inner_failed _ (λ x. refl) back_inner_failed inner_pair_lawful
-envelope_arms_lawful (envelope_codes.Transaction code) = arm_lawful of_outcome as_outcome _ (λ x. refl) back_outcome (arms_lawful code)
+envelope_arms_lawful envelope_codes.FeeBumpInnerSuccess =
+    arm_lawful of_inner_success as_inner_success _ (λ x. refl) back_inner_success inner_pair_lawful
+envelope_arms_lawful envelope_codes.FeeBumpInnerFailed =
+    arm_lawful of_inner_failed as_inner_failed _ (λ x. refl) back_inner_failed inner_pair_lawful
+envelope_arms_lawful (envelope_codes.Transaction code) =
+    arm_lawful of_outcome as_outcome _ (λ x. refl) back_outcome (arms_lawful code)
 
 envelope_coherent : (k : EnvelopeResultCode) (v : EnvelopeOutcome) → (envelope_arms k).fits v → envelope_code_of v ≡ k
 envelope_coherent envelope_codes.FeeBumpInnerSuccess v h =
-    arm_kind envelope_code_of envelope_codes.FeeBumpInnerSuccess of_inner_success as_inner_success inner_pair_format (λ x. refl) back_inner_success v h
+    arm_kind envelope_code_of envelope_codes.FeeBumpInnerSuccess of_inner_success as_inner_success inner_pair_format
+    (λ x. refl) back_inner_success v h
 envelope_coherent envelope_codes.FeeBumpInnerFailed v h =
-    arm_kind envelope_code_of envelope_codes.FeeBumpInnerFailed of_inner_failed as_inner_failed inner_pair_format (λ x. refl) back_inner_failed v h
-envelope_coherent (envelope_codes.Transaction code) (envelopes.Transaction outcome) h = ap transaction_code (coherent code outcome h)
+    arm_kind envelope_code_of envelope_codes.FeeBumpInnerFailed of_inner_failed as_inner_failed inner_pair_format
+    (λ x. refl) back_inner_failed v h
+envelope_coherent (envelope_codes.Transaction code) (envelopes.Transaction outcome) h =
+    ap transaction_code (coherent code outcome h)
 envelope_coherent (envelope_codes.Transaction code) (envelopes.FeeBumpInnerSuccess inner) h = absurd h
 envelope_coherent (envelope_codes.Transaction code) (envelopes.FeeBumpInnerFailed inner) h = absurd h
 
@@ -306,7 +320,10 @@ result_format = via result_of result_fields (pair signed64 (pair envelope_outcom
 
 pub result_lawful : IsFormat result_format
 unfolding result_format
-result_lawful = via_lawful result_of result_fields _ (λ f. refl) (λ result. refl) (pair_lawful _ _ signed64_lawful (pair_lawful _ _ envelope_outcome_lawful (headed_lawful 0 _ (omega arith) (nothing_lawful tt))))
+result_lawful =
+    via_lawful result_of result_fields _ (λ f. refl) (λ result. refl)
+    (pair_lawful _ _ signed64_lawful
+    (pair_lawful _ _ envelope_outcome_lawful (headed_lawful 0 _ (omega arith) (nothing_lawful tt))))
 
 -- ---- the result set: for each envelope its hash and its result
 

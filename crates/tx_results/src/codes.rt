@@ -1,7 +1,8 @@
 //! The codes of results. Codes below 0 are in two's complement.
 
 ghost use Rattle.std.specs.Prelude.{◌≡◌};
-ghost use Rattle.tx_results.specs.Operations.{invoke_number, invoke_of_number, extend_number, extend_of_number, inner_number, inner_of_number, operation_number, operation_of_number};
+ghost use Rattle.tx_results.specs.Operations.{invoke_number, invoke_of_number, extend_number, extend_of_number, inner_number};
+ghost use Rattle.tx_results.specs.Operations.{inner_of_number, operation_number, operation_of_number};
 ghost use Rattle.tx_results.specs.Results.{code_number, code_of_number, envelope_code_number, envelope_code_of_number};
 
 /// The result codes of INVOKE_HOST_FUNCTION that this host uses (`InvokeHostFunctionResultCode`).

@@ -1,7 +1,10 @@
 //! The spelling of operations' results.
 
 ghost use Rattle.xdr_core.specs.Reads.{Reads};
-ghost use Rattle.tx_results.specs.Operations.{invoke_code_format, invoke_code_lawful, invoke_arms, invoke_format, invoke_lawful, extend_format, extend_lawful, inner_kind_format, inner_kind_lawful, inner_arms, inner_format, inner_lawful, operation_code_format, operation_code_lawful, operation_arms, operation_format, operation_lawful};
+ghost use Rattle.tx_results.specs.Operations.{invoke_code_format, invoke_code_lawful, invoke_arms, invoke_format, invoke_lawful};
+ghost use Rattle.tx_results.specs.Operations.{extend_format, extend_lawful, inner_kind_format, inner_kind_lawful, inner_arms};
+ghost use Rattle.tx_results.specs.Operations.{inner_format, inner_lawful, operation_code_format, operation_code_lawful};
+ghost use Rattle.tx_results.specs.Operations.{operation_arms, operation_format, operation_lawful};
 
 use crate::codes::{ExtendResult, InnerKind, InvokeResultCode, OperationResultCode};
 use crate::operation::{InnerResult, InvokeResult, OperationResult};

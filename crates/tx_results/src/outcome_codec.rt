@@ -1,7 +1,10 @@
 //! The spelling of the outcomes of transactions and envelopes.
 
 ghost use Rattle.xdr_core.specs.Reads.{Reads};
-ghost use Rattle.tx_results.specs.Results.{code_format, code_lawful, outcome_format, outcome_lawful, outcome_arms, inner_result_format, inner_result_lawful, inner_pair_format, inner_pair_lawful, envelope_code_format, envelope_code_lawful, envelope_outcome_format, envelope_outcome_lawful, envelope_arms};
+ghost use Rattle.tx_results.specs.Results.{code_format, code_lawful, outcome_format, outcome_lawful, outcome_arms};
+ghost use Rattle.tx_results.specs.Results.{inner_result_format, inner_result_lawful, inner_pair_format, inner_pair_lawful};
+ghost use Rattle.tx_results.specs.Results.{envelope_code_format, envelope_code_lawful, envelope_outcome_format};
+ghost use Rattle.tx_results.specs.Results.{envelope_outcome_lawful, envelope_arms};
 
 use crate::codes::{EnvelopeResultCode, TransactionResultCode};
 use crate::numbers::NO_EXT;

@@ -1,6 +1,7 @@
 //! The spelling of results and their sets.
 
-ghost use Rattle.tx_results.specs.Results.{result_format, result_lawful, pair_format, pair_format_lawful, result_set_format, result_set_lawful};
+ghost use Rattle.tx_results.specs.Results.{result_format, result_lawful, pair_format, pair_format_lawful, result_set_format};
+ghost use Rattle.tx_results.specs.Results.{result_set_lawful};
 
 use crate::numbers::NO_EXT;
 use crate::results::{EnvelopeOutcome, ResultSet, TransactionResult, TransactionResultPair};

@@ -147,8 +147,10 @@ arms_lawful types.Transaction = arm_lawful of_transaction as_transaction _ (λ x
 arms_lawful types.FeeBump = arm_lawful of_fee_bump as_fee_bump _ (λ x. refl) back_fee_bump signed_fee_bump_lawful
 
 coherent : (k : EnvelopeType) (v : Envelope) → (arms k).fits v → kind v ≡ k
-coherent types.Transaction v h = arm_kind kind types.Transaction of_transaction as_transaction signed_format (λ x. refl) back_transaction v h
-coherent types.FeeBump v h = arm_kind kind types.FeeBump of_fee_bump as_fee_bump signed_fee_bump_format (λ x. refl) back_fee_bump v h
+coherent types.Transaction v h =
+    arm_kind kind types.Transaction of_transaction as_transaction signed_format (λ x. refl) back_transaction v h
+coherent types.FeeBump v h =
+    arm_kind kind types.FeeBump of_fee_bump as_fee_bump signed_fee_bump_format (λ x. refl) back_fee_bump v h
 
 pub envelope_lawful : IsFormat envelope_format
 unfolding envelope_format

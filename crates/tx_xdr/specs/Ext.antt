@@ -1,4 +1,5 @@
--- What follows a transaction's operations (XDR file Stellar-transaction, the `ext` of `Transaction`): 0, or 1 and what is declared.
+-- What follows a transaction's operations (XDR file Stellar-transaction, the `ext` of `Transaction`): 0, or 1 and what is
+-- declared.
 use Rattle.std.specs.Prelude.{◌≡◌, ◌<◌, ◌^◌, List, [], ◌∷◌, ℕ, Option, Some, None}
 use Rattle.std.proofs.Common.{refl, ap, arith}
 use Rattle.xdr_spec.specs.Format.{Format, arm, nothing, union, enumeration, find_kind}

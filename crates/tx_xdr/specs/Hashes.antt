@@ -1,5 +1,5 @@
--- The hashes of transactions and envelopes (XDR file Stellar-transaction, `TransactionSignaturePayload`; CAP-0015), each a SHA-256
--- (FIPS 180-4). Signatures are not hashed.
+-- The hashes of transactions and envelopes (XDR file Stellar-transaction, `TransactionSignaturePayload`; CAP-0015), each a
+-- SHA-256 (FIPS 180-4). Signatures are not hashed.
 use Rattle.std.specs.Prelude.{ℕ, List, ◌++◌}
 use Rattle.sha2.specs.Sha256.{sha256}
 use Rattle.xdr_spec.specs.Format.{number32}

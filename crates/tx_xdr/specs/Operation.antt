@@ -6,7 +6,8 @@ use Rattle.xdr_spec.specs.Format.{Format, via, pair, list, arm, nothing, optiona
 use Rattle.xdr_spec.specs.Laws.{IsFormat}
 use Rattle.xdr_spec.proofs.Pairs.{pair_lawful, nothing_lawful}
 use Rattle.xdr_spec.proofs.Remade.{via_lawful, arm_lawful, arm_kind}
-use Rattle.xdr_spec.proofs.Derived.{union_lawful, enumeration_lawful, find_kind-back, list_lawful, optional_lawful, number32_lawful}
+use Rattle.xdr_spec.proofs.Derived.{union_lawful, enumeration_lawful, find_kind-back, list_lawful, optional_lawful}
+use Rattle.xdr_spec.proofs.Derived.{number32_lawful}
 use Rattle.value_types.specs.Headed.{headed, headed_lawful}
 use Rattle.invoke_types.specs.HostFunction.{host_function_format, host_function_lawful}
 use Rattle.invoke_types.specs.declared.host_function.HostFunction.{HostFunction}
@@ -89,13 +90,19 @@ back_extension (bodies.ExtendFootprintTtl extend_to) x e = cc
 back_extension _ x e = absurd cc
 
 arms_lawful : (k : OperationType) → IsFormat (arms k)
-arms_lawful types.InvokeHostFunction = arm_lawful invocation_of as_invocation _ (λ x. refl) back_invocation (pair_lawful _ _ host_function_lawful (list_lawful 4294967295 _ auth_entry_lawful))
-arms_lawful types.ExtendFootprintTtl = arm_lawful extension_of as_extension _ (λ x. refl) back_extension (headed_lawful 0 _ (omega arith) number32_lawful)
+arms_lawful types.InvokeHostFunction =
+    arm_lawful invocation_of as_invocation _ (λ x. refl) back_invocation
+    (pair_lawful _ _ host_function_lawful (list_lawful 4294967295 _ auth_entry_lawful))
+arms_lawful types.ExtendFootprintTtl =
+    arm_lawful extension_of as_extension _ (λ x. refl) back_extension (headed_lawful 0 _ (omega arith) number32_lawful)
 arms_lawful types.RestoreFootprint = headed_lawful 0 _ (omega arith) (nothing_lawful bodies.RestoreFootprint)
 
 coherent : (k : OperationType) (v : OperationBody) → (arms k).fits v → kind v ≡ k
-coherent types.InvokeHostFunction v h = arm_kind kind types.InvokeHostFunction invocation_of as_invocation (pair host_function_format (list 4294967295 auth_entry_format)) (λ x. refl) back_invocation v h
-coherent types.ExtendFootprintTtl v h = arm_kind kind types.ExtendFootprintTtl extension_of as_extension (headed 0 number32) (λ x. refl) back_extension v h
+coherent types.InvokeHostFunction v h =
+    arm_kind kind types.InvokeHostFunction invocation_of as_invocation
+    (pair host_function_format (list 4294967295 auth_entry_format)) (λ x. refl) back_invocation v h
+coherent types.ExtendFootprintTtl v h =
+    arm_kind kind types.ExtendFootprintTtl extension_of as_extension (headed 0 number32) (λ x. refl) back_extension v h
 coherent types.RestoreFootprint v h = ap kind h
 
 pub body_lawful : IsFormat body_format

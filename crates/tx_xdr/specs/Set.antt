@@ -1,12 +1,13 @@
--- Transaction sets (XDR file Stellar-ledger, `GeneralizedTransactionSet`, after CAP-0063): phases, which are components of envelopes
--- or stages of clusters of envelopes.
+-- Transaction sets (XDR file Stellar-ledger, `GeneralizedTransactionSet`, after CAP-0063): phases, which are components of
+-- envelopes or stages of clusters of envelopes.
 use Rattle.std.specs.Prelude.{◌≡◌, ◌<◌, ◌^◌, ℕ, ℤ, List, [], ◌∷◌, Option, Some, None}
 use Rattle.std.proofs.Common.{refl, arith}
 use Rattle.xdr_spec.specs.Format.{Format, via, pair, list, arm, optional, signed64, enumeration, find_kind, union}
 use Rattle.xdr_spec.specs.Laws.{IsFormat}
 use Rattle.xdr_spec.proofs.Pairs.{pair_lawful}
 use Rattle.xdr_spec.proofs.Remade.{via_lawful, arm_lawful, arm_kind}
-use Rattle.xdr_spec.proofs.Derived.{list_lawful, optional_lawful, signed64_lawful, union_lawful, enumeration_lawful, find_kind-back}
+use Rattle.xdr_spec.proofs.Derived.{list_lawful, optional_lawful, signed64_lawful, union_lawful, enumeration_lawful}
+use Rattle.xdr_spec.proofs.Derived.{find_kind-back}
 use Rattle.value_types.specs.Headed.{headed, headed_lawful}
 use Rattle.value_types.specs.Hash.{hash_format, hash_lawful}
 use Rattle.value_types.specs.declared.hash.Hash.{Hash}
@@ -50,7 +51,8 @@ cluster_format = via cluster_of envelopes_of (list 4294967295 envelope_format)
 
 pub cluster_lawful : IsFormat cluster_format
 unfolding cluster_format
-cluster_lawful = via_lawful cluster_of envelopes_of _ (λ envelopes. refl) (λ cluster. refl) (list_lawful 4294967295 _ envelope_lawful)
+cluster_lawful =
+    via_lawful cluster_of envelopes_of _ (λ envelopes. refl) (λ cluster. refl) (list_lawful 4294967295 _ envelope_lawful)
 
 -- ---- stages: clusters
 
@@ -117,7 +119,8 @@ there types.Parallel = refl
 
 pub phase_type_lawful : IsFormat phase_type_format
 unfolding phase_type_format
-phase_type_lawful = enumeration_lawful phase_number phase_type_of types.Parallel small there (find_kind-back phase_number phase_types)
+phase_type_lawful =
+    enumeration_lawful phase_number phase_type_of types.Parallel small there (find_kind-back phase_number phase_types)
 
 back_components : (v : Phase) (x : List Component) → as_components v ≡ Some x → components_phase x ≡ v
 back_components (phases.Components components) x e = cc
@@ -128,13 +131,18 @@ back_parallel (phases.Parallel base_fee stages) x e = cc
 back_parallel _ x e = absurd cc
 
 arms_lawful : (k : PhaseType) → IsFormat (phase_arms k)
-arms_lawful types.Components = arm_lawful components_phase as_components _ (λ x. refl) back_components (list_lawful 4294967295 _ component_lawful)
+arms_lawful types.Components =
+    arm_lawful components_phase as_components _ (λ x. refl) back_components (list_lawful 4294967295 _ component_lawful)
 arms_lawful types.Parallel = arm_lawful parallel_phase as_parallel _ (λ x. refl) back_parallel
     (pair_lawful _ _ (optional_lawful _ signed64_lawful) (list_lawful 4294967295 _ stage_lawful))
 
 coherent : (k : PhaseType) (v : Phase) → (phase_arms k).fits v → phase_type v ≡ k
-coherent types.Components v h = arm_kind phase_type types.Components components_phase as_components (list 4294967295 component_format) (λ x. refl) back_components v h
-coherent types.Parallel v h = arm_kind phase_type types.Parallel parallel_phase as_parallel (pair (optional signed64) (list 4294967295 stage_format)) (λ x. refl) back_parallel v h
+coherent types.Components v h =
+    arm_kind phase_type types.Components components_phase as_components (list 4294967295 component_format)
+    (λ x. refl) back_components v h
+coherent types.Parallel v h =
+    arm_kind phase_type types.Parallel parallel_phase as_parallel (pair (optional signed64) (list 4294967295 stage_format))
+    (λ x. refl) back_parallel v h
 
 pub phase_lawful : IsFormat phase_format
 unfolding phase_format

@@ -25,7 +25,9 @@ footprint_format = via footprint_of footprint_fields (pair (list 4294967295 key_
 
 pub footprint_lawful : IsFormat footprint_format
 unfolding footprint_format
-footprint_lawful = via_lawful footprint_of footprint_fields _ (λ f. refl) (λ footprint. refl) (pair_lawful _ _ (list_lawful _ _ key_lawful) (list_lawful _ _ key_lawful))
+footprint_lawful =
+    via_lawful footprint_of footprint_fields _ (λ f. refl) (λ footprint. refl)
+    (pair_lawful _ _ (list_lawful _ _ key_lawful) (list_lawful _ _ key_lawful))
 
 -- ---- what is declared: ext 0, the footprint, three numbers and a fee
 
@@ -33,15 +35,19 @@ abbrev pub SorobanFields : Type 0
 SorobanFields = Footprint × (ℕ × (ℕ × (ℕ × ℤ)))
 
 abbrev pub soroban_of : SorobanFields → SorobanData
-soroban_of f = record { footprint = f.0; instructions = f.1.0; disk_read_bytes = f.1.1.0; write_bytes = f.1.1.1.0; resource_fee = f.1.1.1.1 }
+soroban_of f =
+    record { footprint = f.0; instructions = f.1.0; disk_read_bytes = f.1.1.0; write_bytes = f.1.1.1.0; resource_fee = f.1.1.1.1 }
 
 abbrev pub soroban_fields : SorobanData → SorobanFields
-soroban_fields soroban = (soroban.footprint, (soroban.instructions, (soroban.disk_read_bytes, (soroban.write_bytes, soroban.resource_fee))))
+soroban_fields soroban =
+    (soroban.footprint, (soroban.instructions, (soroban.disk_read_bytes, (soroban.write_bytes, soroban.resource_fee))))
 
 unfoldable pub soroban_format : Format SorobanData
-soroban_format = headed 0 (via soroban_of soroban_fields (pair footprint_format (pair number32 (pair number32 (pair number32 signed64)))))
+soroban_format =
+    headed 0 (via soroban_of soroban_fields (pair footprint_format (pair number32 (pair number32 (pair number32 signed64)))))
 
 pub soroban_lawful : IsFormat soroban_format
 unfolding soroban_format
 soroban_lawful = headed_lawful 0 _ (omega arith) (via_lawful soroban_of soroban_fields _ (λ f. refl) (λ soroban. refl)
-    (pair_lawful _ _ footprint_lawful (pair_lawful _ _ number32_lawful (pair_lawful _ _ number32_lawful (pair_lawful _ _ number32_lawful signed64_lawful)))))
+    (pair_lawful _ _ footprint_lawful
+    (pair_lawful _ _ number32_lawful (pair_lawful _ _ number32_lawful (pair_lawful _ _ number32_lawful signed64_lawful)))))

@@ -1,7 +1,8 @@
 //! The codec of envelopes.
 
 ghost use Rattle.xdr_core.specs.Reads.{Reads};
-ghost use Rattle.tx_xdr.specs.Envelope.{signed_format, signed_lawful, fee_bump_format, fee_bump_lawful, signed_fee_bump_format, signed_fee_bump_lawful, type_format, type_lawful, arms, envelope_format, envelope_lawful};
+ghost use Rattle.tx_xdr.specs.Envelope.{signed_format, signed_lawful, fee_bump_format, fee_bump_lawful, signed_fee_bump_format};
+ghost use Rattle.tx_xdr.specs.Envelope.{signed_fee_bump_lawful, type_format, type_lawful, arms, envelope_format, envelope_lawful};
 
 use crate::envelope::{Envelope, EnvelopeType, FeeBump, SignedFeeBump, SignedTransaction};
 use crate::numbers::{ENVELOPE_TYPE_TX, NO_EXT};

@@ -54,8 +54,8 @@ fn fee_bump_hash(alloc: Global, network: &Hash, fee_bump: &FeeBump) -> Result<Ha
     Ok(sha256_of(payload.as_slice()))
 }
 
-/// The hash that an envelope's signatures sign: that of its transaction, or the SHA-256 of the network's id, the envelope type and
-/// the fee bump.
+/// The hash that an envelope's signatures sign: that of its transaction, or the SHA-256 of the network's id, the envelope type
+/// and the fee bump.
 #[tactic(auto, unfolding(crate::specs::Envelope::envelope_format, crate::specs::Envelope::signed_format, crate::specs::Envelope::signed_fee_bump_format))]
 pub fn envelope_hash(alloc: Global, network: &Hash, envelope: &Envelope) -> Result<Hash, NoMemory>
     requires { envelope_format.fits envelope.now }

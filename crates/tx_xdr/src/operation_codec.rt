@@ -1,7 +1,8 @@
 //! The codec of operations.
 
 ghost use Rattle.xdr_core.specs.Reads.{Reads};
-ghost use Rattle.tx_xdr.specs.Operation.{type_format, type_lawful, arms, body_format, body_lawful, operation_format, operation_lawful};
+ghost use Rattle.tx_xdr.specs.Operation.{type_format, type_lawful, arms, body_format, body_lawful, operation_format};
+ghost use Rattle.tx_xdr.specs.Operation.{operation_lawful};
 
 use crate::numbers::NO_EXT;
 use crate::transaction::{Operation, OperationBody, OperationType};

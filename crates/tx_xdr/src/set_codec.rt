@@ -1,7 +1,9 @@
 //! The codec of transaction sets.
 
 ghost use Rattle.xdr_core.specs.Reads.{Reads};
-ghost use Rattle.tx_xdr.specs.Set.{component_format, component_lawful, cluster_format, cluster_lawful, stage_format, stage_lawful, phase_type_format, phase_type_lawful, phase_arms, phase_format, phase_lawful, set_format, set_lawful};
+ghost use Rattle.tx_xdr.specs.Set.{component_format, component_lawful, cluster_format, cluster_lawful, stage_format};
+ghost use Rattle.tx_xdr.specs.Set.{stage_lawful, phase_type_format, phase_type_lawful, phase_arms, phase_format, phase_lawful};
+ghost use Rattle.tx_xdr.specs.Set.{set_format, set_lawful};
 
 use crate::envelope::Envelope;
 use crate::set::{Cluster, Component, Phase, PhaseType, Stage, TxSet};

@@ -1,5 +1,6 @@
 -- Validation of code as a function on the known operand types. Behind a jump the stack is polymorphic (core section 3.3).
-use Rattle.std.specs.Prelude.{ℕ, nat_lt, Bool, true, false, List, [], ◌∷◌, length, reverse, Option, Some, None, slice_get, if◌then◌else◌}
+use Rattle.std.specs.Prelude.{ℕ, nat_lt, Bool, true, false, List, [], ◌∷◌, length, reverse, Option, Some, None, slice_get}
+use Rattle.std.specs.Prelude.{if◌then◌else◌}
 use Rattle.std.specs.List.{list_all}
 use Rattle.wasm_spec.specs.declared.types.ValueType.{ValueType}
 use Rattle.wasm_spec.specs.declared.types.ValueType.TheVariants.{I32, I64}
@@ -110,10 +111,12 @@ abbrev pub check_call : FuncType → Shape → Option Shape
 check_call t s = pops (reverse t.params) s >>= λ s. Some (push_result (result_of t) s)
 
 abbrev pub check_table : List BlockType → List ℕ → BlockType → Shape → Option Shape
-check_table labels ls r s = pop I32 s >>= λ s. pop_result r s >>= λ _. if list_all (λ k. same_label r (slice_get labels k)) ls then Some anything else None
+check_table labels ls r s = pop I32 s >>= λ s. pop_result r s >>= λ _. if list_all (λ k. same_label r (slice_get labels k)) ls
+    then Some anything else None
 
 abbrev pub check_indirect : Module → ℕ → Shape → Option Shape
-check_indirect m i s = if nat_lt 0 (length m.tables) then (slice_get m.types i >>= λ t. pop I32 s >>= λ s. check_call t s) else None
+check_indirect m i s =
+    if nat_lt 0 (length m.tables) then (slice_get m.types i >>= λ t. pop I32 s >>= λ s. check_call t s) else None
 
 abbrev pub check_control : Context → Control → Shape → Option Shape
 check_control c jump.Unreachable s = Some anything
@@ -129,9 +132,11 @@ check_code c end s = Some s
 check_code c (plain p rest) s = check_plain c p s >>= check_code c rest
 check_code c (control k rest) s = check_control c k s >>= check_code c rest
 check_code c (block r body rest) s = check_code (inside r c) body nothing >>= ends r >>= λ _. check_code c rest (push_result r s)
-check_code c (loop r body rest) s = check_code (inside None c) body nothing >>= ends r >>= λ _. check_code c rest (push_result r s)
+check_code c (loop r body rest) s =
+    check_code (inside None c) body nothing >>= ends r >>= λ _. check_code c rest (push_result r s)
 check_code c (choose r taken other rest) s =
-    pop I32 s >>= λ s. check_code (inside r c) taken nothing >>= ends r >>= λ _. check_code (inside r c) other nothing >>= ends r >>= λ _. check_code c rest (push_result r s)
+    pop I32 s >>= λ s. check_code (inside r c) taken nothing >>= ends r >>= λ _. check_code
+    (inside r c) other nothing >>= ends r >>= λ _. check_code c rest (push_result r s)
 
 -- validation of a block's body, from an empty stack to the block's result
 abbrev pub body_check : Context → BlockType → Code → Option Shape

@@ -1,5 +1,6 @@
 -- Linking with the imports that a host has (own).
-use Rattle.std.specs.Prelude.{◌≡◌, ℕ, ◌⊎◌, ◌==◌, ◌&&◌, Bool, false, List, [], ◌∷◌, length, take, replicate, Option, Some, None, slice_get, is_some, if◌then◌else◌}
+use Rattle.std.specs.Prelude.{◌≡◌, ℕ, ◌⊎◌, ◌==◌, ◌&&◌, Bool, false, List, [], ◌∷◌, length, take, replicate, Option, Some, None}
+use Rattle.std.specs.Prelude.{slice_get, is_some, if◌then◌else◌}
 use Rattle.std.specs.List.{list_all, AllByRecursion}
 use Rattle.std.specs.Str.{bytes_eq}
 use Rattle.wasm_spec.specs.declared.types.ValueType.{ValueType}
@@ -17,7 +18,8 @@ SomeOf P (x ∷ xs) = P x ⊎ SomeOf P xs
 
 -- the import is the host import of the row, with its type: from an i64 for each argument to one i64
 abbrev pub IsHostImport : Import → FuncType → Row → Type 0
-IsHostImport i t row = (i.module ≡ row.letter) × (i.name ≡ row.name) × (t.params ≡ replicate (length row.arguments) I64) × (t.results ≡ I64 ∷ [])
+IsHostImport i t row =
+    (i.module ≡ row.letter) × (i.name ≡ row.name) × (t.params ≡ replicate (length row.arguments) I64) × (t.results ≡ I64 ∷ [])
 
 -- the import is one of the host's, with its type
 abbrev pub ImportLinked : List Row → Module → Import → Type 0
@@ -29,7 +31,8 @@ Linked rows m = AllByRecursion (ImportLinked rows m) m.imports
 
 -- the import of this index is the first that is none of the host's
 abbrev pub IsFirstUnlinked : List Row → Module → ℕ → Type 0
-IsFirstUnlinked rows m k = (i : Import) × (slice_get m.imports k ≡ Some i) × (ImportLinked rows m i → ⊥) × AllByRecursion (ImportLinked rows m) (take k m.imports)
+IsFirstUnlinked rows m k = (i : Import) × (slice_get m.imports k ≡ Some i) × (ImportLinked rows m i → ⊥)
+    × AllByRecursion (ImportLinked rows m) (take k m.imports)
 
 -- the same as functions
 

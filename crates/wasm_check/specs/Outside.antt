@@ -1,5 +1,6 @@
 -- The rules outside function bodies as Boolean tests (core sections 3.2 and 3.4).
-use Rattle.std.specs.Prelude.{ℕ, ◌^◌, ◌+◌, ◌&&◌, not, nat_le, nat_lt, Bool, true, false, List, [], ◌∷◌, length, Option, Some, None}
+use Rattle.std.specs.Prelude.{ℕ, ◌^◌, ◌+◌, ◌&&◌, not, nat_le, nat_lt, Bool, true, false, List, [], ◌∷◌, length, Option, Some}
+use Rattle.std.specs.Prelude.{None}
 use Rattle.std.specs.List.{list_all}
 use Rattle.wasm_spec.specs.declared.types.ValueType.{ValueType}
 use Rattle.wasm_spec.specs.declared.types.ValueType.TheVariants.{I32}
@@ -45,7 +46,8 @@ abbrev pub functions_ok : ℕ → List ℕ → Bool
 functions_ok count fs = list_all (λ f. nat_lt f count) fs
 
 abbrev pub element_ok : Module → Element → Bool
-element_ok m e = nat_lt e.table (length m.tables) && (is_type (constant_type m.globals e.offset) I32 && functions_ok (length m.imports + length m.functions) e.functions)
+element_ok m e = nat_lt e.table (length m.tables)
+    && (is_type (constant_type m.globals e.offset) I32 && functions_ok (length m.imports + length m.functions) e.functions)
 
 abbrev pub data_ok : Module → Data → Bool
 data_ok m d = nat_lt d.memory (length m.memories) && is_type (constant_type m.globals d.offset) I32
@@ -57,15 +59,18 @@ export_ok m e = nat_lt e.index (count_of m e.kind)
 abbrev pub types_ok : Module → Bool
 types_ok m =
     list_all type_ok m.types
-    && (list_all (λ (i : Import). nat_lt i.type_index (length m.types)) m.imports && list_all (λ (f : Function). nat_lt f.type_index (length m.types)) m.functions)
+    && (list_all (λ (i : Import). nat_lt i.type_index (length m.types)) m.imports
+    && list_all (λ (f : Function). nat_lt f.type_index (length m.types)) m.functions)
 
 abbrev pub sizes_ok : Module → Bool
 sizes_ok m =
     nat_lt (length m.imports + length m.functions) (2 ^ 32)
-    && (nat_le (length m.tables) 1 && (list_all table_ok m.tables && (nat_le (length m.memories) 1 && list_all memory_ok m.memories)))
+    && (nat_le (length m.tables) 1
+    && (list_all table_ok m.tables && (nat_le (length m.memories) 1 && list_all memory_ok m.memories)))
 
 abbrev pub values_ok : Module → Bool
-values_ok m = list_all global_ok m.globals && (list_all (element_ok m) m.elements && (list_all (data_ok m) m.data && list_all (export_ok m) m.exports))
+values_ok m = list_all global_ok m.globals
+    && (list_all (element_ok m) m.elements && (list_all (data_ok m) m.data && list_all (export_ok m) m.exports))
 
 abbrev pub rules_ok : Module → Bool
 rules_ok m = types_ok m && (sizes_ok m && values_ok m)

@@ -5,7 +5,8 @@ ghost use Rattle.std.specs.List.{list_all};
 ghost use Rattle.wasm_spec.specs.Code.{Code};
 ghost use Rattle.wasm_spec.specs.Views.{before, code_of};
 ghost use Rattle.wasm_spec.specs.Typing.{inside, label};
-ghost use Rattle.wasm_check.specs.Check.{check_plain, check_control, check_call, check_table, check_indirect, check_by_signature, check_code, body_check, pops, same_label};
+ghost use Rattle.wasm_check.specs.Check.{check_plain, check_control, check_call, check_table, check_indirect, check_by_signature};
+ghost use Rattle.wasm_check.specs.Check.{check_code, body_check, pops, same_label};
 ghost use Rattle.wasm_check.specs.Checks.{Checks, ChecksOn, IsChecked};
 ghost use Rattle.wasm_check.specs.Contexts.{context_in};
 
@@ -176,7 +177,8 @@ fn check_one(
     stack: &mut Stack,
 ) -> Result<(), Fault>
     ensures scope { OnOk result (context_in module.now scope.new ≡ context_in module.now scope.old) }
-    ensures checks { (rest : Code) → ChecksOn (check_code (context_in module.now scope.old) (before instruction.now rest) stack.old) result
+    ensures checks { (rest : Code)
+        → ChecksOn (check_code (context_in module.now scope.old) (before instruction.now rest) stack.old) result
         (check_code (context_in module.now scope.old) rest stack.new) }
 {
     match instruction {
@@ -231,7 +233,8 @@ pub fn check_body(
     body: &[Instr],
 ) -> Result<(), Fault>
     ensures scope { OnOk result (context_in module.now scope.new ≡ context_in module.now scope.old) }
-    ensures checks { IsChecked (body_check (inside label (context_in module.now scope.old)) result_type (code_of body.now)) result }
+    ensures checks { IsChecked
+        (body_check (inside label (context_in module.now scope.old)) result_type (code_of body.now)) result }
 {
     let mut stack = Stack::new(alloc);
     scope.labels.push(label)?;

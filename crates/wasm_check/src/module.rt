@@ -125,7 +125,9 @@ fn check_function_body(
     func_type: &FuncType,
     function: &Function,
 ) -> Result<(), Fault>
-    ensures { IsChecked (body_check (body_context module.now func_type.now function.now.locals) (result_of func_type.now) function.now.body) result }
+    ensures { IsChecked
+        (body_check (body_context module.now func_type.now function.now.locals) (result_of func_type.now) function.now.body)
+        result }
 {
     let locals = all_locals(
         alloc,

@@ -1,5 +1,6 @@
 -- What the compiler's functions emit, for every code that may follow. Their contracts cite this page.
-use Rattle.std.specs.Prelude.{◌≡◌, ℕ, ◌+◌, ◌*◌, ◌<◌, ◌≤◌, List, [], ◌∷◌, ◌++◌, length, Some, Bool, true, false, slice_get, slice_set}
+use Rattle.std.specs.Prelude.{◌≡◌, ℕ, ◌+◌, ◌*◌, ◌<◌, ◌≤◌, List, [], ◌∷◌, ◌++◌, length, Some, Bool, true, false, slice_get}
+use Rattle.std.specs.Prelude.{slice_set}
 use Rattle.wasm_spec.specs.declared.module.Function.{Function}
 use Rattle.wasm_spec.specs.declared.module.Module.{Module}
 use Rattle.wasm_spec.specs.Code.{Code, BlockType}
@@ -62,7 +63,8 @@ pub record Forgets (old new : Emitter) : Type 0 where
 
 -- the destinations of an if
 pub record Patches (old new : Emitter) (test skip : ℕ) : Type 0 where
-  pub steps : new.steps.items ≡ slice_set (slice_set old.steps.items test (step.Unless (skip + 1))) skip (step.Skip (length old.steps.items))
+  pub steps : new.steps.items
+      ≡ slice_set (slice_set old.steps.items test (step.Unless (skip + 1))) skip (step.Skip (length old.steps.items))
   pub targets : new.targets.items ≡ old.targets.items
   pub labels : new.labels ≡ old.labels
   pub home : new.home ≡ old.home
@@ -80,7 +82,8 @@ pub record Adds (old new : Emitter) : Type 0 where
 pub record Emitted (m : Module) (old new : Emitter) (h h' : ℕ) (put : Code → Code) : Type 0 where
   pub adds : Adds old new
   pub placed : (flat : Flat) (home : Label) (ls : List Label) (rest : Code) (q : ℕ)
-      → Keeps (length old.steps.items) new.steps.items flat.steps → Keeps (length old.targets.items) new.targets.items flat.targets
+      → Keeps (length old.steps.items) new.steps.items flat.steps
+      → Keeps (length old.targets.items) new.targets.items flat.targets
       → AreLabels flat.targets old.labels ls → IsLabel flat.targets old.home home
       → Placed m flat home (length new.steps.items) rest q ls h' → Placed m flat home (length old.steps.items) (put rest) q ls h
 
@@ -88,7 +91,8 @@ pub record Emitted (m : Module) (old new : Emitter) (h h' : ℕ) (put : Code →
 pub record EmittedAll (m : Module) (old new : Emitter) (h : ℕ) (c : Code) : Type 0 where
   pub adds : Adds old new
   pub placed : (flat : Flat) (home : Label) (ls : List Label)
-      → Keeps (length old.steps.items) new.steps.items flat.steps → Keeps (length old.targets.items) new.targets.items flat.targets
+      → Keeps (length old.steps.items) new.steps.items flat.steps
+      → Keeps (length old.targets.items) new.targets.items flat.targets
       → AreLabels flat.targets old.labels ls → IsLabel flat.targets old.home home
       → Placed m flat home (length old.steps.items) c (length new.steps.items) ls h
 
@@ -111,11 +115,13 @@ pub record FunctionEmitted (m : Module) (old new : Emitter) (f : Function) (entr
   pub labels : new.labels ≡ old.labels
   pub steps : Keeps 0 old.steps.items new.steps.items
   pub targets : Keeps 0 old.targets.items new.targets.items
-  pub placed : (flat : Flat) → Keeps (length old.steps.items) new.steps.items flat.steps → Keeps (length old.targets.items) new.targets.items flat.targets → IsFunctionAt m flat f entry
+  pub placed : (flat : Flat) → Keeps (length old.steps.items) new.steps.items flat.steps
+      → Keeps (length old.targets.items) new.targets.items flat.targets → IsFunctionAt m flat f entry
 
 -- the calls of n imports come first, each followed by an End
 abbrev pub ImportsAt : ℕ → List Step → Type 0
-ImportsAt n steps = (length steps ≡ 2 * n) × ((f : ℕ) → f < n → (slice_get steps (2 * f) ≡ Some (step.Import f)) × (slice_get steps (2 * f + 1) ≡ Some step.End))
+ImportsAt n steps = (length steps ≡ 2 * n)
+    × ((f : ℕ) → f < n → (slice_get steps (2 * f) ≡ Some (step.Import f)) × (slice_get steps (2 * f + 1) ≡ Some step.End))
 
 pub record ImportsEmitted (m : Module) (new : Emitter) : Type 0 where
   pub labels : new.labels ≡ []

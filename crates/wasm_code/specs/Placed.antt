@@ -66,28 +66,34 @@ LabelAt (l ∷ ls) (suc k) P = LabelAt ls k P
 -- the step at p jumps to the label, with h operands before it
 abbrev pub JumpsTo : Flat → (ℕ → ℕ → Step) → ℕ → ℕ → Label → Type 0
 JumpsTo flat make p h l =
-    (id : ℕ) × (slice_get flat.steps p ≡ Some (make id (h - l.height - arity l.result))) × (slice_get flat.targets id ≡ Some (record { pc = l.pc; result = l.result }))
+    (id : ℕ) × (slice_get flat.steps p ≡ Some (make id (h - l.height - arity l.result)))
+    × (slice_get flat.targets id ≡ Some (record { pc = l.pc; result = l.result }))
 
 -- a row of jumps from step p on, to the labels ks and then to the label other
 abbrev pub RowAt : Flat → ℕ → ℕ → List Label → List ℕ → ℕ → Type 0
 RowAt flat p h ls [] other = LabelAt ls other (JumpsTo flat step.Jump p h)
 RowAt flat p h ls (k ∷ ks) other = LabelAt ls k (JumpsTo flat step.Jump p h) × RowAt flat (p + 1) h ls ks other
 
--- The step at p holds the control instruction, in the function with the label home. If code continues after it, next holds for the operands left.
--- Code after a branch never runs, so it is not constrained.
+-- The step at p holds the control instruction, in the function with the label home. If code continues after it, next holds for
+-- the operands left. Code after a branch never runs, so it is not constrained.
 abbrev pub ControlAt : Module → Flat → Label → ℕ → Control → List Label → ℕ → (ℕ → Type 0) → Type 0
 ControlAt m flat home p jump.Unreachable ls h next = slice_get flat.steps p ≡ Some step.Unreachable
 ControlAt m flat home p (jump.Br k) ls h next = LabelAt ls k (JumpsTo flat step.Jump p h)
 ControlAt m flat home p (jump.BrIf k) ls h next = LabelAt ls k (JumpsTo flat step.JumpIf p (h - 1)) × next (h - 1)
-ControlAt m flat home p (jump.BrTable ks k) ls h next = (slice_get flat.steps p ≡ Some (step.Table (length ks))) × RowAt flat (p + 1) (h - 1) ls ks k
+ControlAt m flat home p (jump.BrTable ks k) ls h next =
+    (slice_get flat.steps p ≡ Some (step.Table (length ks))) × RowAt flat (p + 1) (h - 1) ls ks k
 ControlAt m flat home p jump.Return ls h next = JumpsTo flat step.Jump p h home
-ControlAt m flat home p (jump.Call f) ls h next = (slice_get flat.steps p ≡ Some (step.Call f)) × next (height_after_call (function_type m f) h)
-ControlAt m flat home p (jump.CallIndirect t) ls h next = (slice_get flat.steps p ≡ Some (step.CallIndirect t)) × next (height_after_call (slice_get m.types t) (h - 1))
+ControlAt m flat home p (jump.Call f) ls h next =
+    (slice_get flat.steps p ≡ Some (step.Call f)) × next (height_after_call (function_type m f) h)
+ControlAt m flat home p (jump.CallIndirect t) ls h next =
+    (slice_get flat.steps p ≡ Some (step.CallIndirect t)) × next (height_after_call (slice_get m.types t) (h - 1))
 
--- The steps from p up to q hold the code, in the function with the label home, inside the labels ls, with h operands of the call at p.
+-- The steps from p up to q hold the code, in the function with the label home, inside the labels ls, with h operands of the call
+-- at p.
 abbrev pub Placed : Module → Flat → Label → ℕ → Code → ℕ → List Label → ℕ → Type 0
 Placed m flat home p end q ls h = p ≡ q
-Placed m flat home p (plain i rest) q ls h = (slice_get flat.steps p ≡ Some (step.Plain i)) × Placed m flat home (p + 1) rest q ls (height_after i h)
+Placed m flat home p (plain i rest) q ls h =
+    (slice_get flat.steps p ≡ Some (step.Plain i)) × Placed m flat home (p + 1) rest q ls (height_after i h)
 Placed m flat home p (control i rest) q ls h = ControlAt m flat home p i ls h (λ h. Placed m flat home (p + 1) rest q ls h)
 Placed m flat home p (block r body rest) q ls h =
     (e : ℕ) × (slice_get flat.steps p ≡ Some step.Pass)

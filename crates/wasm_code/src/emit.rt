@@ -7,7 +7,8 @@ ghost use Rattle.wasm_spec.specs.Views.{before, code_of};
 ghost use Rattle.wasm_spec.specs.Typing.{Typed, result_of};
 ghost use Rattle.wasm_code.specs.Closed.{Closed, ControlClosed, FunctionClosed};
 ghost use Rattle.wasm_code.specs.Placed.{arity, counts_of, height_after_call, IsCompiled};
-ghost use Rattle.wasm_code.specs.Emitted.{Emitted, EmittedAll, RowEmitted, Puts, Opens, Closes, Forgets, Patches, FunctionEmitted, ImportsEmitted, jump_step};
+ghost use Rattle.wasm_code.specs.Emitted.{Emitted, EmittedAll, RowEmitted, Puts, Opens, Closes, Forgets, Patches};
+ghost use Rattle.wasm_code.specs.Emitted.{FunctionEmitted, ImportsEmitted, jump_step};
 
 use crate::labels::{Labels, Open};
 use crate::step::{FlatCode, Step, Target};
@@ -95,7 +96,8 @@ fn put(out: &mut Emitter, step: Step) -> Result<(), AllocError>
     Ok(())
 }
 
-/// Returns the height of the operands after `more` are pushed. It cannot overflow, since there are never more operands than steps.
+/// Returns the height of the operands after `more` are pushed. It cannot overflow, since there are never more operands than
+/// steps.
 fn higher(out: &Emitter, height: usize, more: usize) -> usize
     requires height { height < length out.now.steps.items }
     requires more { more ≤ 1 }
@@ -107,7 +109,8 @@ fn higher(out: &Emitter, height: usize, more: usize) -> usize
 
 /// Appends a branch to a label, at a step with `height` operands.
 fn jump(out: &mut Emitter, label: Open, height: usize, conditional: bool) -> Result<(), AllocError>
-    ensures { OnOk result (Puts out.old out.new (jump_step conditional label.target (height - label.height - arity label.result))) }
+    ensures { OnOk result
+        (Puts out.old out.new (jump_step conditional label.target (height - label.height - arity label.result))) }
 {
     let dropped = height
         .saturating_sub(label.height)

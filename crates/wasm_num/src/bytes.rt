@@ -1,6 +1,7 @@
 //! Loads and stores (core section 4.4.4).
 
-ghost use Rattle.std.specs.Prelude.{◌≡◌, ◌↔◌, ◌+◌, ◌<◌, ◌≤◌, ◌^◌, IsTrue, length, Option, Some, None, MatchOption, IfNone, IfSome, option_map};
+ghost use Rattle.std.specs.Prelude.{◌≡◌, ◌↔◌, ◌+◌, ◌<◌, ◌≤◌, ◌^◌, IsTrue, length, Option, Some, None, MatchOption, IfNone};
+ghost use Rattle.std.specs.Prelude.{IfSome, option_map};
 ghost use Rattle.wasm_spec.specs.Integers.{width};
 ghost use Rattle.wasm_spec.specs.Typing.{load_type};
 ghost use Rattle.wasm_spec.specs.Memory.{loaded, stored, bytes_at, with_bytes_at, integer_of_bytes, bytes_of_integer};

@@ -1,10 +1,12 @@
--- Results of the reader's functions. The contract of read_module cites IsUnlessMemory alone. The contracts of its parts cite the others.
+-- Results of the reader's functions. The contract of read_module cites IsUnlessMemory alone. The contracts of its parts cite the
+-- others.
 use Rattle.std.specs.Prelude.{◌≡◌, ℕ, List, [], ◌∷◌, Option, Some, None, Result, Ok, Err}
 use Rattle.wasm_read.specs.declared.error.ReadModErr.{ReadModErr}
 use Rattle.wasm_read.specs.declared.error.ReadModErr.TheVariants.{NotAModule, NoMemory}
 use Rattle.wasm_read.specs.Reading.{Reader}
 
--- Ok: the reading function returns the value, and the new bytes are those after it. NotAModule: it returns None. Out of memory may come with any bytes.
+-- Ok: the reading function returns the value, and the new bytes are those after it. NotAModule: it returns None. Out of memory
+-- may come with any bytes.
 abbrev pub Gives : {A : Type 0} → Reader A → List ℕ → List ℕ → Result A ReadModErr → Type 0
 Gives read old new (Ok x) = read old ≡ Some (x, new)
 Gives read old new (Err NotAModule) = read old ≡ None

@@ -1,6 +1,8 @@
 -- The reader as functions on lists of bytes (after core section 5): each returns a value and the bytes after it, or None.
--- ModuleLaws proves that module_at returns exactly the modules of ModuleBytes, so no reader of the main theorems has to believe this page.
-use Rattle.std.specs.Prelude.{ℕ, zero, suc, ◌+◌, ◌-◌, ◌*◌, ◌^◌, Bool, false, ◌==◌, nat_lt, nat_le, List, [], ◌∷◌, length, take, drop, Option, Some, None, if◌then◌else◌}
+-- ModuleLaws proves that module_at returns exactly the modules of ModuleBytes, so no reader of the main theorems has to believe
+-- this page.
+use Rattle.std.specs.Prelude.{ℕ, zero, suc, ◌+◌, ◌-◌, ◌*◌, ◌^◌, Bool, false, ◌==◌, nat_lt, nat_le, List, [], ◌∷◌, length, take}
+use Rattle.std.specs.Prelude.{drop, Option, Some, None, if◌then◌else◌}
 use Rattle.std.specs.Str.{is_utf8}
 use Rattle.wasm_spec.specs.declared.types.ValueType.{ValueType}
 use Rattle.wasm_spec.specs.declared.types.FuncType.{FuncType}
@@ -139,7 +141,8 @@ mem_arg_at = via_at mem_arg (both_at u32_at u32_at)
 -- each reads the immediates of the opcode b
 
 unfoldable pub parametric_at : ℕ → Reader Plain
-parametric_at b bs = if b == 0x01 then Some (op.Nop, bs) else if b == 0x1A then Some (op.Drop, bs) else if b == 0x1B then Some (op.Select, bs) else None
+parametric_at b bs = if b == 0x01 then Some (op.Nop, bs) else if b == 0x1A then Some (op.Drop, bs) else if b == 0x1B
+    then Some (op.Select, bs) else None
 
 unfoldable pub variable_at : ℕ → Reader Plain
 variable_at b bs =
@@ -208,12 +211,14 @@ inner code (suc d) bs = code d bs
 
 -- the type and the body of a block, and the byte that ends it
 abbrev pub block_at : (ℕ → Reader Code) → ℕ → Reader (BlockType × Code)
-block_at code d bs = block_type_at bs >>= λ t. inner code d t.1 >>= λ body. expect 0x0B body.1 >>= λ after. Some ((t.0, body.0), after)
+block_at code d bs =
+    block_type_at bs >>= λ t. inner code d t.1 >>= λ body. expect 0x0B body.1 >>= λ after. Some ((t.0, body.0), after)
 
 -- the else branch of an if, and the byte that ends it
 abbrev pub else_at : (ℕ → Reader Code) → ℕ → Reader Code
 else_at code d [] = None
-else_at code d (b ∷ bs) = if b == 0x05 then (inner code d bs >>= λ n. expect 0x0B n.1 >>= λ after. Some (n.0, after)) else if b == 0x0B then Some (end, bs) else None
+else_at code d (b ∷ bs) = if b == 0x05 then (inner code d bs >>= λ n. expect 0x0B n.1 >>= λ after. Some (n.0, after))
+    else if b == 0x0B then Some (end, bs) else None
 
 abbrev pub if_at : (ℕ → Reader Code) → ℕ → Reader (BlockType × (Code × Code))
 if_at code d bs = block_type_at bs >>= λ t. inner code d t.1 >>= λ y. else_at code d y.1 >>= λ n. Some ((t.0, (y.0, n.0)), n.1)
@@ -316,12 +321,18 @@ abbrev pub Funcs : Type 0
 Funcs = List (List Locals × Code)
 
 abbrev pub Sections : Type 0
-Sections = List FuncType × (List Import × (List ℕ × (List TableType × (List ResizableLimits × (List Global × (List Export × (List Element × (Funcs × List Data))))))))
+Sections = List FuncType
+    × (List Import
+    × (List ℕ × (List TableType × (List ResizableLimits × (List Global × (List Export × (List Element × (Funcs × List Data))))))))
 
 unfoldable pub sections_at : Reader Sections
 sections_at =
-    both_at (section_at 1 func_type_at) (both_at (section_at 2 import_at) (both_at (section_at 3 u32_at) (both_at (section_at 4 table_at) (both_at (section_at 5 limits_at)
-    (both_at (section_at 6 global_at) (both_at (section_at 7 export_at) (both_at (section_at 9 element_at) (both_at (section_at 10 (sized_at func_at)) (section_at 11 data_at)))))))))
+    both_at (section_at 1 func_type_at)
+    (both_at (section_at 2 import_at)
+    (both_at (section_at 3 u32_at) (both_at (section_at 4 table_at) (both_at (section_at 5 limits_at)
+    (both_at (section_at 6 global_at)
+    (both_at (section_at 7 export_at)
+    (both_at (section_at 9 element_at) (both_at (section_at 10 (sized_at func_at)) (section_at 11 data_at)))))))))
 
 abbrev pub function_of : ℕ → List Locals × Code → Function
 function_of t f = record { type_index = t; locals = f.0; body = f.1 }

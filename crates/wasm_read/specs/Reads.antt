@@ -24,6 +24,7 @@ ReadsOpcode old new (Err NoMemory) = Unit {0}
 -- the rest of one instruction after its opcode
 abbrev pub ReadsInstr : ℕ → ℕ → List ℕ → List ℕ → Result Instr ReadModErr → Type 0
 ReadsInstr d b old new (Ok i) =
-    (length new ≤ length old) × ((n : ℕ) → length old < n → tail_at (code_at n) d (head_of b) b old ≡ (code_at n d new >>= λ r. Some (before i r.0, r.1)))
+    (length new ≤ length old)
+    × ((n : ℕ) → length old < n → tail_at (code_at n) d (head_of b) b old ≡ (code_at n d new >>= λ r. Some (before i r.0, r.1)))
 ReadsInstr d b old new (Err NotAModule) = (n : ℕ) → length old < n → tail_at (code_at n) d (head_of b) b old ≡ None
 ReadsInstr d b old new (Err NoMemory) = Unit {0}

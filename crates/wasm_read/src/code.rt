@@ -4,7 +4,8 @@ ghost use Rattle.std.specs.Prelude.{◌≡◌, ◌≢◌};
 ghost use Rattle.wasm_read.specs.declared.head.Head.TheVariants.{End};
 ghost use Rattle.wasm_read.specs.Gives.{Gives};
 ghost use Rattle.wasm_read.specs.Reads.{ReadsOpcode, ReadsWith, ReadsInstr};
-ghost use Rattle.wasm_read.specs.Reading.{head_of as head_at, inner as inner_at, code_at, block_at, if_at, else_at, instructions_at, expr_at, block_type_at};
+ghost use Rattle.wasm_read.specs.Reading.{head_of as head_at, inner as inner_at, code_at, block_at, if_at, else_at};
+ghost use Rattle.wasm_read.specs.Reading.{instructions_at, expr_at, block_type_at};
 
 use crate::error::ReadModErr;
 use crate::head::{Head, head_of};

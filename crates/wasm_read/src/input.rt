@@ -2,7 +2,8 @@
 
 ghost use Rattle.std.specs.Prelude.{◌≡◌, ◌<◌, ◌≤◌, ◌==◌, length, IfOk, slice_get, option_copied};
 ghost use Rattle.wasm_read.specs.Gives.{Gives, GivesAs, Ends, Skips, IsUnlessMemory};
-ghost use Rattle.wasm_read.specs.Reading.{byte_at, behind_at, expect as expect_at, u32_at, integer_at, bytes_at, name_at, split_at};
+ghost use Rattle.wasm_read.specs.Reading.{byte_at, behind_at, expect as expect_at, u32_at, integer_at, bytes_at, name_at};
+ghost use Rattle.wasm_read.specs.Reading.{split_at};
 
 use crate::error::ReadModErr;
 use crate::numbers::{signed, unsigned};

@@ -2,7 +2,8 @@
 
 ghost use Rattle.std.specs.Prelude.{◌≡◌, ◌<◌, ◌≤◌, length, slice_get};
 ghost use Rattle.wasm_read.specs.Gives.{Gives};
-ghost use Rattle.wasm_read.specs.Reading.{mem_arg_at, parametric_at, variable_at, memory_at, numeric_at, plain_at, control_at, single_at};
+ghost use Rattle.wasm_read.specs.Reading.{mem_arg_at, parametric_at, variable_at, memory_at, numeric_at, plain_at, control_at};
+ghost use Rattle.wasm_read.specs.Reading.{single_at};
 ghost use Rattle.wasm_spec.specs.Opcodes.{load_of, store_of, numeric_of, sign_extension_of, value_type_of, block_type_of};
 
 use crate::binary::vector;

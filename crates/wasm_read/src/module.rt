@@ -5,7 +5,8 @@ ghost use Rattle.wasm_spec.specs.declared.module.Module.{Module};
 ghost use Rattle.wasm_spec.specs.Binary.{MAGIC, ModuleBytes};
 ghost use Rattle.wasm_read.specs.Gives.{Gives, GivesAs, Skips, Is, IsAs, IsUnlessMemory};
 ghost use Rattle.wasm_read.specs.Sections.{sections_view};
-ghost use Rattle.wasm_read.specs.Reading.{expect_all, vector_at, sized_at, custom_at, at_custom, customs_at, section_behind, section_at, sections_at, all_sections_at, functions_of, module_at};
+ghost use Rattle.wasm_read.specs.Reading.{expect_all, vector_at, sized_at, custom_at, at_custom, customs_at, section_behind};
+ghost use Rattle.wasm_read.specs.Reading.{section_at, sections_at, all_sections_at, functions_of, module_at};
 
 use crate::binary::{Binary, vector};
 use crate::error::ReadModErr;

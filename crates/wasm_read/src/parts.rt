@@ -4,7 +4,8 @@ ghost use Rattle.std.specs.Prelude.{◌≡◌, ◌+◌, ◌^◌, nat_lt};
 ghost use Rattle.wasm_spec.specs.Binary.{locals_count};
 ghost use Rattle.wasm_spec.specs.Opcodes.{mutability_of, export_kind_of};
 ghost use Rattle.wasm_read.specs.Gives.{Gives};
-ghost use Rattle.wasm_read.specs.Reading.{u32_at, value_type_at, func_type_at, limits_at, limits_behind, table_at, import_at, global_at, export_at, element_at, data_at, locals_at, func_at, sized_at};
+ghost use Rattle.wasm_read.specs.Reading.{u32_at, value_type_at, func_type_at, limits_at, limits_behind, table_at, import_at};
+ghost use Rattle.wasm_read.specs.Reading.{global_at, export_at, element_at, data_at, locals_at, func_at, sized_at};
 
 use crate::binary::{Binary, vector};
 use crate::code::expression;

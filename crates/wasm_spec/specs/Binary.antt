@@ -1,5 +1,6 @@
 -- The binary format (core section 5): which bytes encode which parts of a module. Bytes are numbers below 256.
-use Rattle.std.specs.Prelude.{◌≡◌, ℕ, ◌+◌, ◌-◌, ◌*◌, ◌^◌, ◌<◌, ◌≤◌, ◌⊎◌, max, List, [], ◌∷◌, ◌++◌, length, map, sum_by, Option, Some, None, IsUtf8}
+use Rattle.std.specs.Prelude.{◌≡◌, ℕ, ◌+◌, ◌-◌, ◌*◌, ◌^◌, ◌<◌, ◌≤◌, ◌⊎◌, max, List, [], ◌∷◌, ◌++◌, length, map, sum_by, Option}
+use Rattle.std.specs.Prelude.{Some, None, IsUtf8}
 use Rattle.wasm_spec.specs.declared.types.ValueType.{ValueType}
 use Rattle.wasm_spec.specs.declared.types.FuncType.{FuncType}
 use Rattle.wasm_spec.specs.declared.types.ResizableLimits.{ResizableLimits}
@@ -43,15 +44,18 @@ Single meaning x bs = (b : ℕ) × (bs ≡ b ∷ []) × (meaning b ≡ Some x)
 abbrev pub IsLeb : (ℕ → ℕ → ℕ → Type 0) → ℕ → Spelling ℕ
 IsLeb IsLast bits n [] = ⊥
 IsLeb IsLast bits n (b ∷ []) = (b < 128) × IsLast bits b n
-IsLeb IsLast bits n (b ∷ c ∷ bs) = (128 ≤ b) × (7 < bits) × (high : ℕ) × (n + 128 ≡ 128 * high + b) × IsLeb IsLast (bits - 7) high (c ∷ bs)
+IsLeb IsLast bits n (b ∷ c ∷ bs) =
+    (128 ≤ b) × (7 < bits) × (high : ℕ) × (n + 128 ≡ 128 * high + b) × IsLeb IsLast (bits - 7) high (c ∷ bs)
 
 -- the last byte of an unsigned number with so many bits left: its unused bits are 0
 abbrev pub IsUnsignedLast : ℕ → ℕ → ℕ → Type 0
 IsUnsignedLast bits b n = (b < 2 ^ bits) × (n ≡ b)
 
--- The last byte of a signed number with so many bits left: bit 6 is the sign, and the unused bits equal it. n is the number, plus 2 ^ bits if it is negative.
+-- The last byte of a signed number with so many bits left: bit 6 is the sign, and the unused bits equal it. n is the number, plus
+-- 2 ^ bits if it is negative.
 abbrev pub IsSignedLast : ℕ → ℕ → ℕ → Type 0
-IsSignedLast bits b n = ((b < 64) × (b < 2 ^ (bits - 1)) × (n ≡ b)) ⊎ ((64 ≤ b) × (128 ≤ b + 2 ^ (bits - 1)) × (n + 128 ≡ b + 2 ^ bits))
+IsSignedLast bits b n =
+    ((b < 64) × (b < 2 ^ (bits - 1)) × (n ≡ b)) ⊎ ((64 ≤ b) × (128 ≤ b + 2 ^ (bits - 1)) × (n + 128 ≡ b + 2 ^ bits))
 
 -- uN
 abbrev pub IsUnsigned : ℕ → Spelling ℕ
@@ -142,8 +146,10 @@ abbrev pub IsCode : Spelling Code
 IsCode end bs = bs ≡ []
 IsCode (plain p rest) bs = (a b : List ℕ) × (bs ≡ a ++ b) × IsPlain p a × IsCode rest b
 IsCode (control k rest) bs = (a b : List ℕ) × (bs ≡ a ++ b) × IsControl k a × IsCode rest b
-IsCode (block t body rest) bs = (y a b : List ℕ) × (bs ≡ 0x02 ∷ (y ++ (a ++ (0x0B ∷ b)))) × IsBlockType t y × IsCode body a × IsCode rest b
-IsCode (loop t body rest) bs = (y a b : List ℕ) × (bs ≡ 0x03 ∷ (y ++ (a ++ (0x0B ∷ b)))) × IsBlockType t y × IsCode body a × IsCode rest b
+IsCode (block t body rest) bs =
+    (y a b : List ℕ) × (bs ≡ 0x02 ∷ (y ++ (a ++ (0x0B ∷ b)))) × IsBlockType t y × IsCode body a × IsCode rest b
+IsCode (loop t body rest) bs =
+    (y a b : List ℕ) × (bs ≡ 0x03 ∷ (y ++ (a ++ (0x0B ∷ b)))) × IsBlockType t y × IsCode body a × IsCode rest b
 IsCode (choose t taken other rest) bs =
     (y a e b : List ℕ) × (bs ≡ 0x04 ∷ (y ++ (a ++ (e ++ (0x0B ∷ b))))) × IsBlockType t y × IsCode taken a
     × (((other ≡ end) × (e ≡ [])) ⊎ ((c : List ℕ) × (e ≡ 0x05 ∷ c) × IsCode other c)) × IsCode rest b
@@ -215,7 +221,8 @@ AreCustoms = IsRow (Behind 0x00 (Sized IsCustomContent))
 
 -- The section with this id and the custom sections after it, or no bytes at all if there are no items.
 abbrev pub IsSection : {A : Type 0} → ℕ → Spelling A → Spelling (List A)
-IsSection number P xs bs = ((xs ≡ []) × (bs ≡ [])) ⊎ ((names : List (List ℕ)) × Behind number (Sized (IsVector P) ⊗ AreCustoms) (xs, names) bs)
+IsSection number P xs bs =
+    ((xs ≡ []) × (bs ≡ [])) ⊎ ((names : List (List ℕ)) × Behind number (Sized (IsVector P) ⊗ AreCustoms) (xs, names) bs)
 
 -- modules (5.5.15)
 
@@ -229,10 +236,23 @@ type_indices fs = map (λ (f : Function). f.type_index) fs
 abbrev pub funcs : List Function → List (List Locals × Code)
 funcs fs = map (λ (f : Function). (f.locals, f.body)) fs
 
--- The sections in the order of their ids, each at most once. Section 3 holds the functions' types, and section 10 their locals and bodies. There is no start section (id 8).
+-- The sections in the order of their ids, each at most once. Section 3 holds the functions' types, and section 10 their locals
+-- and bodies. There is no start section (id 8).
 abbrev pub ModuleBytes : Module → List ℕ → Type 0
 ModuleBytes m bs =
     (names : List (List ℕ)) × (rest : List ℕ) × (bs ≡ MAGIC ++ rest)
-    × (AreCustoms ⊗ IsSection 1 IsFuncType ⊗ IsSection 2 IsImport ⊗ IsSection 3 IsU32 ⊗ IsSection 4 IsTable ⊗ IsSection 5 IsLimits ⊗ IsSection 6 IsGlobal
-    ⊗ IsSection 7 IsExport ⊗ IsSection 9 IsElement ⊗ IsSection 10 (Sized IsFunc) ⊗ IsSection 11 IsData)
-    (names, (m.types, (m.imports, (type_indices m.functions, (m.tables, (m.memories, (m.globals, (m.exports, (m.elements, (funcs m.functions, m.data)))))))))) rest
+    × (AreCustoms ⊗ IsSection 1 IsFuncType ⊗ IsSection 2 IsImport ⊗ IsSection 3 IsU32 ⊗ IsSection 4 IsTable
+    ⊗ IsSection 5 IsLimits ⊗ IsSection 6 IsGlobal ⊗ IsSection 7 IsExport
+    ⊗ IsSection 9 IsElement ⊗ IsSection 10 (Sized IsFunc) ⊗ IsSection 11 IsData) (
+      names,
+      (
+        m.types,
+        (
+          m.imports,
+          (
+            type_indices m.functions,
+            (m.tables, (m.memories, (m.globals, (m.exports, (m.elements, (funcs m.functions, m.data)))))),
+          ),
+        ),
+      ),
+    ) rest

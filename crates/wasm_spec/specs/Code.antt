@@ -49,7 +49,8 @@ stored (plain p rest) = gcons (gnum 1) (gcons (coded_plain.code p) (stored rest)
 stored (control k rest) = gcons (gnum 2) (gcons (coded_control.code k) (stored rest))
 stored (block t body rest) = gcons (gnum 3) (gcons (coded_block_type.code t) (gcons (stored body) (stored rest)))
 stored (loop t body rest) = gcons (gnum 4) (gcons (coded_block_type.code t) (gcons (stored body) (stored rest)))
-stored (choose t taken other rest) = gcons (gnum 5) (gcons (coded_block_type.code t) (gcons (stored taken) (gcons (stored other) (stored rest))))
+stored (choose t taken other rest) =
+    gcons (gnum 5) (gcons (coded_block_type.code t) (gcons (stored taken) (gcons (stored other) (stored rest))))
 
 pub stored-inj : (x y : Code) → stored x ≡ stored y → x ≡ y
 stored-inj end end e = refl
@@ -76,7 +77,8 @@ stored-inj (choose s a c x) (choose t b d y) e =
     let g : stored a ≡ stored b = cc in
     let f : stored c ≡ stored d = cc in
     let r : stored x ≡ stored y = cc in
-    ap (λ (k : BlockType). choose k a c x) (coded_block_type.inj s t h) ∙ ap (λ (k : Code). choose t k c x) (stored-inj a b g) ∙ ap₂ (choose t b) (stored-inj c d f) (stored-inj x y r)
+    ap (λ (k : BlockType). choose k a c x) (coded_block_type.inj s t h) ∙ ap (λ (k : Code). choose t k c x) (stored-inj a b g)
+    ∙ ap₂ (choose t b) (stored-inj c d f) (stored-inj x y r)
 stored-inj _ _ e = cc
 
 abbrev pub coded_code : Coded Code

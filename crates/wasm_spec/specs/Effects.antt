@@ -1,5 +1,6 @@
 -- The effects of the instructions that never branch (core sections 4.4.1 to 4.4.4).
-use Rattle.std.specs.Prelude.{ℕ, ◌+◌, ◌-◌, ◌*◌, ◌^◌, nat_le, List, [], ◌∷◌, ◌++◌, Option, Some, None, slice_get, slice_set, replicate, if◌then◌else◌}
+use Rattle.std.specs.Prelude.{ℕ, ◌+◌, ◌-◌, ◌*◌, ◌^◌, nat_le, List, [], ◌∷◌, ◌++◌, Option, Some, None, slice_get, slice_set}
+use Rattle.std.specs.Prelude.{replicate, if◌then◌else◌}
 use Rattle.wasm_spec.specs.declared.types.ValueType.TheVariants.{I32}
 use Rattle.wasm_spec.specs.declared.types.Taken.{Taken}
 use Rattle.wasm_spec.specs.declared.types.Taken.TheVariants as operands
@@ -16,7 +17,8 @@ use Rattle.wasm_spec.specs.Memory.{loaded, stored}
 use Rattle.wasm_spec.specs.Typing.{numeric_signature, load_type, store_type}
 use Rattle.wasm_spec.specs.Stores.{value_of, result_values, pop, PAGE, Store, pages, with_bytes}
 
--- The effect of an instruction. Grows also demands a charge for that many new bytes. Lacks: an operand, local or global is missing or has another type.
+-- The effect of an instruction. Grows also demands a charge for that many new bytes. Lacks: an operand, local or global is
+-- missing or has another type.
 pub data Effect : Type 0 where
   Leaves : (operands locals : List Value) (store : Store) → Effect
   Grows : (bytes : ℕ) (operands locals : List Value) (store : Store) → Effect
@@ -37,7 +39,8 @@ gives o (Some n) ops locals store = Leaves (result_values (numeric_signature o).
 abbrev pub numeric_effect : Numeric → Taken → List Value → List Value → Store → Effect
 numeric_effect o operands.None ops locals store = Lacks
 numeric_effect o (operands.One t) ops locals store = pop Lacks t ops (λ i ops. gives o (numeric_result o i 0) ops locals store)
-numeric_effect o (operands.Two t u) ops locals store = pop Lacks t ops (λ j ops. pop Lacks u ops (λ i ops. gives o (numeric_result o i j) ops locals store))
+numeric_effect o (operands.Two t u) ops locals store =
+    pop Lacks t ops (λ j ops. pop Lacks u ops (λ i ops. gives o (numeric_result o i j) ops locals store))
 
 -- parametric instructions (4.4.2)
 
@@ -63,7 +66,8 @@ local_tee i (v ∷ ops) locals store = with_some (slice_get locals i) (λ _. Lea
 
 abbrev pub global_set : ℕ → List Value → List Value → Store → Effect
 global_set i [] locals store = Lacks
-global_set i (v ∷ ops) locals store = with_some (slice_get store.globals i) (λ _. Leaves ops locals (record store { globals = slice_set store.globals i v }))
+global_set i (v ∷ ops) locals store =
+    with_some (slice_get store.globals i) (λ _. Leaves ops locals (record store { globals = slice_set store.globals i v }))
 
 -- memory (4.4.4)
 
@@ -81,7 +85,8 @@ stores (Some bytes) ops locals store = Leaves ops locals (with_bytes bytes store
 abbrev pub grows : ℕ → List Value → List Value → Store → Effect
 grows n ops locals store =
     if nat_le (pages store.memory + n) store.memory.most_pages
-    then Grows (n * PAGE) (value.I32 (pages store.memory) ∷ ops) locals (with_bytes (store.memory.bytes ++ replicate (n * PAGE) 0) store)
+    then Grows (n * PAGE) (value.I32 (pages store.memory) ∷ ops) locals
+    (with_bytes (store.memory.bytes ++ replicate (n * PAGE) 0) store)
     else Leaves (value.I32 (2 ^ 32 - 1) ∷ ops) locals store
 
 abbrev pub effect_of : Plain → List Value → List Value → Store → Effect
@@ -96,7 +101,8 @@ effect_of (op.GlobalSet i) ops locals store = global_set i ops locals store
 effect_of (op.Load l m) ops locals store =
     pop Lacks I32 ops (λ a ops. loads l (loaded store.memory.bytes l a m.offset) ops locals store)
 effect_of (op.Store s m) ops locals store =
-    pop Lacks (store_type s) ops (λ n ops. pop Lacks I32 ops (λ a ops. stores (stored store.memory.bytes s a m.offset n) ops locals store))
+    pop Lacks (store_type s) ops
+    (λ n ops. pop Lacks I32 ops (λ a ops. stores (stored store.memory.bytes s a m.offset n) ops locals store))
 effect_of op.MemorySize ops locals store = Leaves (value.I32 (pages store.memory) ∷ ops) locals store
 effect_of op.MemoryGrow ops locals store = pop Lacks I32 ops (λ n ops. grows n ops locals store)
 effect_of (op.I32Const n) ops locals store = Leaves (value.I32 n ∷ ops) locals store

@@ -1,5 +1,6 @@
 -- The start of a run: the export that is called, and the initial store (core section 4.5.4).
-use Rattle.std.specs.Prelude.{ℕ, ◌+◌, ◌*◌, ◌&&◌, nat_le, min, List, [], ◌∷◌, ◌++◌, length, map, fold, replicate, Bool, false, Option, Some, None, unwrap_or, option_to_list, slice_get, if◌then◌else◌}
+use Rattle.std.specs.Prelude.{ℕ, ◌+◌, ◌*◌, ◌&&◌, nat_le, min, List, [], ◌∷◌, ◌++◌, length, map, fold, replicate, Bool, false}
+use Rattle.std.specs.Prelude.{Option, Some, None, unwrap_or, option_to_list, slice_get, if◌then◌else◌}
 use Rattle.std.specs.List.{list_all}
 use Rattle.std.specs.Str.{bytes_eq}
 use Rattle.wasm_spec.specs.declared.types.ValueType.TheVariants.{I64}
@@ -62,7 +63,8 @@ memory_of None = record { bytes = []; most_pages = 0 }
 memory_of (Some l) = record { bytes = replicate (l.min * PAGE) 0; most_pages = min (unwrap_or l.max MOST_PAGES) MOST_PAGES }
 
 abbrev pub empty_store : Module → Store
-empty_store m = record { memory = memory_of (slice_get m.memories 0); globals = first_globals m; table = table_of (slice_get m.tables 0) }
+empty_store m =
+    record { memory = memory_of (slice_get m.memories 0); globals = first_globals m; table = table_of (slice_get m.tables 0) }
 
 -- segments: all are tested before any is written, in the order of the module
 
@@ -109,7 +111,8 @@ abbrev pub has_arity : ℕ → Option FuncType → Bool
 has_arity n None = false
 has_arity n (Some t) = same_types t.params (replicate n I64) && same_types t.results (I64 ∷ [])
 
--- The start of a call of an export: its function and the store, or the error. The errors are tested in this order (a rule of this host).
+-- The start of a call of an export: its function and the store, or the error. The errors are tested in this order (a rule of this
+-- host).
 pub data Start : Type 0 where
   Missing : Start
   WrongArity : Start

@@ -1,6 +1,7 @@
 -- Operations on integers (core sections 4.3.1, 4.3.2 and 4.3.4, and the sign extensions of core 2.0).
 -- An integer of N bits is a number below 2 ^ N.
-use Rattle.std.specs.Prelude.{ℕ, zero, suc, ◌+◌, ◌-◌, ◌*◌, ◌/◌, ◌%◌, ◌^◌, ℤ, pos, negsuc, ◌-ℤ◌, ◌*ℤ◌, int_div, int_lt, int_le, min, max, Bool, not, ◌&&◌, ◌==◌, nat_lt, nat_le, Option, Some, None, if◌then◌else◌}
+use Rattle.std.specs.Prelude.{ℕ, zero, suc, ◌+◌, ◌-◌, ◌*◌, ◌/◌, ◌%◌, ◌^◌, ℤ, pos, negsuc, ◌-ℤ◌, ◌*ℤ◌, int_div, int_lt, int_le}
+use Rattle.std.specs.Prelude.{min, max, Bool, not, ◌&&◌, ◌==◌, nat_lt, nat_le, Option, Some, None, if◌then◌else◌}
 use Rattle.wasm_spec.specs.declared.types.ValueType.{ValueType}
 use Rattle.wasm_spec.specs.declared.types.ValueType.TheVariants.{I32, I64}
 use Rattle.wasm_spec.specs.declared.instructions.Sign.TheVariants.{Signed, Unsigned}
@@ -59,7 +60,8 @@ imul N i j = (i * j) % 2 ^ N
 abbrev pub idiv_u : ℕ → ℕ → ℕ → Option ℕ
 idiv_u N i j = if j == 0 then None else Some (i / j)
 
--- Rounded toward zero. None, undefined, if the divisor is 0 or the quotient is 2 ^ (N - 1), which is above every signed number of N bits.
+-- Rounded toward zero. None, undefined, if the divisor is 0 or the quotient is 2 ^ (N - 1), which is above every signed number of
+-- N bits.
 abbrev pub idiv_s : ℕ → ℕ → ℕ → Option ℕ
 idiv_s N i j =
     if j == 0 then None else
@@ -196,7 +198,8 @@ conversion_of conversion.I64Extend32 i = iextend_s 32 64 i
 abbrev pub truth : Bool → ℕ
 truth b = if b then 1 else 0
 
--- The result of an instruction on the operand i, or on i and j, where j is the topmost. An instruction with one operand ignores j. None: undefined, which is a trap.
+-- The result of an instruction on the operand i, or on i and j, where j is the topmost. An instruction with one operand ignores
+-- j. None: undefined, which is a trap.
 abbrev pub numeric_result : Numeric → (i j : ℕ) → Option ℕ
 numeric_result (numeric.Eqz t) i j = Some (truth (ieqz i))
 numeric_result (numeric.Compare t o) i j = Some (truth (comparison_of (width t) o i j))

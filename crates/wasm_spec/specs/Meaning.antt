@@ -1,5 +1,6 @@
 -- The execution of code and of calls (core section 4.4).
-use Rattle.std.specs.Prelude.{◌≡◌, ◌<◌, ℕ, zero, suc, ◌-◌, ◌^◌, ◌&&◌, List, [], ◌∷◌, ◌++◌, length, map, reverse, Bool, true, false, Option, Some, None, is_some, slice_get}
+use Rattle.std.specs.Prelude.{◌≡◌, ◌<◌, ℕ, zero, suc, ◌-◌, ◌^◌, ◌&&◌, List, [], ◌∷◌, ◌++◌, length, map, reverse, Bool, true}
+use Rattle.std.specs.Prelude.{false, Option, Some, None, is_some, slice_get}
 use Rattle.budget_meter.specs.Meter.{Meter}
 use Rattle.wasm_spec.specs.declared.types.ValueType.{ValueType}
 use Rattle.wasm_spec.specs.declared.types.ValueType.TheVariants.{I32, I64}
@@ -15,7 +16,8 @@ use Rattle.wasm_spec.specs.Code.{Code, end, plain, control, block, loop, choose,
 use Rattle.wasm_spec.specs.Typing.{function_type, result_of, local_types}
 use Rattle.wasm_spec.specs.Stores.{number_of, zero_of, answered, pop, Store, with_bytes}
 use Rattle.wasm_spec.specs.Effects.{effect_of}
-use Rattle.wasm_spec.specs.Runs.{State, Run, Normal, Branch, Return, Trap, Spent, Stuck, Ask, executed, effect_run, then_do, carried, whole, onto, leave, turns}
+use Rattle.wasm_spec.specs.Runs.{State, Run, Normal, Branch, Return, Trap, Spent, Stuck, Ask, executed, effect_run, then_do}
+use Rattle.wasm_spec.specs.Runs.{carried, whole, onto, leave, turns}
 
 -- function types are compared by structure, not by index (2.3.3, 4.4.5)
 
@@ -82,12 +84,17 @@ control_run m calls (jump.CallIndirect t) ops s = pop Stuck I32 ops (λ n ops. i
 -- Each instruction is counted and charged when it is reached, and a loop instruction only before its first iteration.
 abbrev pub exec : Module → Calls → Code → List Value → State → Run
 exec m calls end ops s = Normal ops s
-exec m calls (plain p rest) ops s = executed Spent s (λ s. then_do (effect_run (effect_of p ops s.locals s.store) s) (exec m calls rest))
+exec m calls (plain p rest) ops s =
+    executed Spent s (λ s. then_do (effect_run (effect_of p ops s.locals s.store) s) (exec m calls rest))
 exec m calls (control k rest) ops s = executed Spent s (λ s. then_do (control_run m calls k ops s) (exec m calls rest))
-exec m calls (block t body rest) ops s = executed Spent s (λ s. then_do (leave t ops (exec m calls body [] s)) (exec m calls rest))
-exec m calls (loop t body rest) ops s = executed Spent s (λ s. then_do (leave t ops (turns (suc s.left) (exec m calls body []) s)) (exec m calls rest))
+exec m calls (block t body rest) ops s =
+    executed Spent s (λ s. then_do (leave t ops (exec m calls body [] s)) (exec m calls rest))
+exec m calls (loop t body rest) ops s =
+    executed Spent s (λ s. then_do (leave t ops (turns (suc s.left) (exec m calls body []) s)) (exec m calls rest))
 exec m calls (choose t taken other rest) ops s =
-    executed Spent s (λ s. pop Stuck I32 ops (λ n ops. then_do (leave t ops (at_zero n (exec m calls other [] s) (exec m calls taken [] s))) (exec m calls rest)))
+    executed Spent s
+    (λ s. pop Stuck I32 ops
+    (λ n ops. then_do (leave t ops (at_zero n (exec m calls other [] s) (exec m calls taken [] s))) (exec m calls rest)))
 
 -- calls (4.4.7)
 
@@ -131,7 +138,8 @@ too_deep f t ops s = with_arguments (arguments (length t.params) [] ops) (λ arg
 -- the call of an import: the host returns an answer, the memory's bytes and the budget
 abbrev pub ask : FuncType → Calls
 ask t f ops s = with_arguments (arguments (length t.params) [] ops) (λ args under.
-    Ask f (map number_of args) s.store.memory.bytes s.meter (λ v bytes b. Normal (answered (result_of t) v ++ under) (record s { store = with_bytes bytes s.store; meter = b })))
+    Ask f (map number_of args) s.store.memory.bytes s.meter
+    (λ v bytes b. Normal (answered (result_of t) v ++ under) (record s { store = with_bytes bytes s.store; meter = b })))
 
 abbrev pub own_call : Option Function → (Function → FuncType → List Value → State → Run) → FuncType → List Value → State → Run
 own_call None go t ops s = Stuck
@@ -163,6 +171,7 @@ MOST_CALLS = 512
 abbrev pub beginning : Store → Meter → State
 beginning store meter = record { locals = []; store = store; left = 2 ^ 64 - 1; meter = meter }
 
--- The run of a function of the module with arguments of 64 bits. This call counts as the first nested one. If the function is an import, the run starts with its Ask.
+-- The run of a function of the module with arguments of 64 bits. This call counts as the first nested one. If the function is an
+-- import, the run starts with its Ask.
 abbrev pub meaning : Module → ℕ → List ℕ → Store → Meter → Run
 meaning m f args store meter = call_of m MOST_CALLS f (reverse (map value.I64 args)) (beginning store meter)

@@ -23,7 +23,8 @@ value_type_of b = if b == 0x7F then Some I32 else if b == 0x7E then Some I64 els
 
 -- block types (5.3.2)
 abbrev pub block_type_of : ℕ → Option BlockType
-block_type_of b = if b == 0x40 then Some None else if b == 0x7F then Some (Some I32) else if b == 0x7E then Some (Some I64) else None
+block_type_of b =
+    if b == 0x40 then Some None else if b == 0x7F then Some (Some I32) else if b == 0x7E then Some (Some I64) else None
 
 -- mutability (5.3.7)
 abbrev pub mutability_of : ℕ → Option Mutability

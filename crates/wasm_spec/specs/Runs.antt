@@ -11,16 +11,17 @@ use Rattle.wasm_spec.specs.Code.{BlockType}
 use Rattle.wasm_spec.specs.Stores.{Store}
 use Rattle.wasm_spec.specs.Effects.{Effect, Leaves, Grows, Faults, Lacks}
 
--- The state of a call besides its operands: its locals, the store, the number of instructions that may still be executed, and the budget.
--- The budget's limits are below 2 ^ 64 and each instruction spends at least one, so if left starts at 2 ^ 64 - 1, the budget is spent first.
+-- The state of a call besides its operands: its locals, the store, the number of instructions that may still be executed, and the
+-- budget. The budget's limits are below 2 ^ 64 and each instruction spends at least one, so if left starts at 2 ^ 64 - 1, the
+-- budget is spent first.
 pub record State : Type 0 where
   pub locals : List Value
   pub store : Store
   pub left : ℕ
   pub meter : Meter
 
--- The outcome of a run. Ask is a call of an import: on is the rest of the run, for each answer, memory and budget that the host may return.
--- Every outcome but Stuck carries the budget's sums. A run of a valid module is never Stuck.
+-- The outcome of a run. Ask is a call of an import: on is the rest of the run, for each answer, memory and budget that the host
+-- may return. Every outcome but Stuck carries the budget's sums. A run of a valid module is never Stuck.
 pub data Run : Type 0 where
   Normal : (operands : List Value) (s : State) → Run
   Branch : (depth : ℕ) (operands : List Value) (s : State) → Run
@@ -57,7 +58,8 @@ executed spent s go = counted s.left spent s go
 -- the run of an instruction with this effect
 abbrev pub effect_run : Effect → State → Run
 effect_run (Leaves ops locals store) s = Normal ops (record s { locals = locals; store = store })
-effect_run (Grows bytes ops locals store) s = charged MemAlloc bytes Spent s (λ s. Normal ops (record s { locals = locals; store = store }))
+effect_run (Grows bytes ops locals store) s =
+    charged MemAlloc bytes Spent s (λ s. Normal ops (record s { locals = locals; store = store }))
 effect_run (Faults kind) s = Trap kind s.meter
 effect_run Lacks s = Stuck
 
@@ -114,7 +116,8 @@ again go (Spent meter) = Spent meter
 again go Stuck = Stuck
 again go (Ask f args memory meter on) = Ask f args memory meter (λ v bytes b. again go (on v bytes b))
 
--- At most n iterations of a loop. Each branch back executes an instruction, so no loop makes more iterations than one plus the instructions left.
+-- At most n iterations of a loop. Each branch back executes an instruction, so no loop makes more iterations than one plus the
+-- instructions left.
 abbrev pub turns : ℕ → (State → Run) → State → Run
 turns zero body s = Spent s.meter
 turns (suc n) body s = again (turns n body) (body s)

@@ -13,7 +13,8 @@ pub record SpendsMore (old new : Meter) : Type 0 where
 
 -- either the run ends as spent, or it continues with more spent
 abbrev pub GoesOnSpending : State → (State → Run) → Run → Type 0
-GoesOnSpending s go r = (r ≡ Spent s.meter) ⊎ ((k : ℕ) × (after : Meter) × SpendsMore s.meter after × (r ≡ go (record s { left = k; meter = after })))
+GoesOnSpending s go r =
+    (r ≡ Spent s.meter) ⊎ ((k : ℕ) × (after : Meter) × SpendsMore s.meter after × (r ≡ go (record s { left = k; meter = after })))
 
 -- at least as many instructions are left as the budget can pay for, at one each
 abbrev pub Enough : State → Type 0
@@ -23,7 +24,8 @@ Enough s = s.meter.limits.instructions ≤ s.meter.used.instructions + s.left
 abbrev pub paid : State → State
 paid s = record s { left = s.left - 1; meter = record s.meter { used = used_after s.meter WasmInsnExec 1 } }
 
--- If the budget has no room for an instruction, the run ends as spent. Otherwise the run continues with one instruction counted and charged.
+-- If the budget has no room for an instruction, the run ends as spent. Otherwise the run continues with one instruction counted
+-- and charged.
 abbrev pub PaidIfRoom : State → (State → Run) → Run → Type 0
 PaidIfRoom s go r =
     ((has_room s.meter.limits (used_after s.meter WasmInsnExec 1) ≡ false) × (r ≡ Spent s.meter))

@@ -1,5 +1,6 @@
 -- Validation of modules (core section 3, with the limits of this host).
-use Rattle.std.specs.Prelude.{◌≡◌, ◌≢◌, ℕ, ◌+◌, ◌^◌, ◌<◌, ◌≤◌, ◌&&◌, nat_le, nat_lt, List, [], ◌∷◌, ◌++◌, length, map, reverse, take, replicate, Bool, Option, Some, None, IfSome, option_to_list, slice_get, if◌then◌else◌}
+use Rattle.std.specs.Prelude.{◌≡◌, ◌≢◌, ℕ, ◌+◌, ◌^◌, ◌<◌, ◌≤◌, ◌&&◌, nat_le, nat_lt, List, [], ◌∷◌, ◌++◌, length, map, reverse}
+use Rattle.std.specs.Prelude.{take, replicate, Bool, Option, Some, None, IfSome, option_to_list, slice_get, if◌then◌else◌}
 use Rattle.std.specs.List.{AllByRecursion, flat_map}
 use Rattle.wasm_spec.specs.declared.types.ValueType.{ValueType}
 use Rattle.wasm_spec.specs.declared.types.ValueType.TheVariants.{I32, I64}
@@ -66,7 +67,8 @@ function_type m f = slice_get (function_indices m) f >>= slice_get m.types
 abbrev pub result_of : FuncType → BlockType
 result_of t = slice_get t.results 0
 
--- The context of code: the module, the types of the locals, the type that each label takes, the innermost first, and the result of the function.
+-- The context of code: the module, the types of the locals, the type that each label takes, the innermost first, and the result
+-- of the function.
 pub record Context : Type 0 where
   pub module_ : Module
   pub locals : List ValueType
@@ -109,7 +111,8 @@ numeric_signature (numeric.Unary t o) = signature (operands.One t) (Some t)
 numeric_signature (numeric.Binary t o) = signature (operands.Two t t) (Some t)
 numeric_signature (numeric.Convert o) = signature (operands.One (converted_from o)) (Some (converted_to o))
 
--- Loads and stores (3.3.4): the type of the value, and the exponent e of the 2 ^ e bytes in memory, which is also the exponent of the natural alignment.
+-- Loads and stores (3.3.4): the type of the value, and the exponent e of the 2 ^ e bytes in memory, which is also the exponent of
+-- the natural alignment.
 
 abbrev pub load_type : LoadKind → ValueType
 load_type load.I32 = I32
@@ -159,7 +162,8 @@ abbrev pub set_signature : Mutability → ValueType → Option Signature
 set_signature Constant t = None
 set_signature Variable t = Some (signature (operands.One t) None)
 
--- The types that an instruction pops and pushes, if its indices exist and its alignment is at most the natural one. Drop and select have no fixed type.
+-- The types that an instruction pops and pushes, if its indices exist and its alignment is at most the natural one. Drop and
+-- select have no fixed type.
 abbrev pub signature_of : Context → Plain → Option Signature
 signature_of c op.Nop = Some (signature operands.None None)
 signature_of c op.Drop = None
@@ -167,10 +171,13 @@ signature_of c op.Select = None
 signature_of c (op.LocalGet i) = slice_get c.locals i >>= λ t. Some (signature operands.None (Some t))
 signature_of c (op.LocalSet i) = slice_get c.locals i >>= λ t. Some (signature (operands.One t) None)
 signature_of c (op.LocalTee i) = slice_get c.locals i >>= λ t. Some (signature (operands.One t) (Some t))
-signature_of c (op.GlobalGet i) = slice_get c.module_.globals i >>= λ (g : Global). Some (signature operands.None (Some g.value_type))
+signature_of c (op.GlobalGet i) =
+    slice_get c.module_.globals i >>= λ (g : Global). Some (signature operands.None (Some g.value_type))
 signature_of c (op.GlobalSet i) = slice_get c.module_.globals i >>= λ (g : Global). set_signature g.mutability g.value_type
-signature_of c (op.Load l m) = when (has_memory c && nat_le m.align (load_exponent l)) (signature (operands.One I32) (Some (load_type l)))
-signature_of c (op.Store s m) = when (has_memory c && nat_le m.align (store_exponent s)) (signature (operands.Two (store_type s) I32) None)
+signature_of c (op.Load l m) =
+    when (has_memory c && nat_le m.align (load_exponent l)) (signature (operands.One I32) (Some (load_type l)))
+signature_of c (op.Store s m) =
+    when (has_memory c && nat_le m.align (store_exponent s)) (signature (operands.Two (store_type s) I32) None)
 signature_of c op.MemorySize = when (has_memory c) (signature operands.None (Some I32))
 signature_of c op.MemoryGrow = when (has_memory c) (signature (operands.One I32) (Some I32))
 signature_of c (op.I32Const n) = when (nat_lt n (2 ^ 32)) (signature operands.None (Some I32))
@@ -187,7 +194,8 @@ taken_types (operands.Two t u) = t ∷ u ∷ []
 abbrev pub Applies : Signature → List ValueType → List ValueType → Type 0
 Applies s ts us = (below : List ValueType) × (ts ≡ taken_types s.takes ++ below) × (us ≡ option_to_list s.gives ++ below)
 
--- The instruction turns operands of the types ts into operands of the types us, the topmost first (3.3.1 to 3.3.4, and 3.3.6 for the operands below).
+-- The instruction turns operands of the types ts into operands of the types us, the topmost first (3.3.1 to 3.3.4, and 3.3.6 for
+-- the operands below).
 abbrev pub PlainTyped : Context → Plain → List ValueType → List ValueType → Type 0
 PlainTyped c op.Drop ts us = (t : ValueType) × (ts ≡ t ∷ us)
 PlainTyped c op.Select ts us = (t : ValueType) × (below : List ValueType) × (ts ≡ I32 ∷ t ∷ t ∷ below) × (us ≡ t ∷ below)
@@ -203,25 +211,32 @@ CallTyped t ts us = (below : List ValueType) × (ts ≡ reverse t.params ++ belo
 -- The same for control instructions (3.3.5). An instruction that never continues, as a branch, may leave operands of any types.
 abbrev pub ControlTyped : Context → Control → List ValueType → List ValueType → Type 0
 ControlTyped c jump.Unreachable ts us = Unit {0}
-ControlTyped c (jump.Br l) ts us = (r : BlockType) × (below : List ValueType) × (label c l ≡ Some r) × (ts ≡ option_to_list r ++ below)
+ControlTyped c (jump.Br l) ts us =
+    (r : BlockType) × (below : List ValueType) × (label c l ≡ Some r) × (ts ≡ option_to_list r ++ below)
 ControlTyped c (jump.BrIf l) ts us =
-    (r : BlockType) × (below : List ValueType) × (label c l ≡ Some r) × (ts ≡ I32 ∷ (option_to_list r ++ below)) × (us ≡ option_to_list r ++ below)
+    (r : BlockType) × (below : List ValueType) × (label c l ≡ Some r) × (ts ≡ I32 ∷ (option_to_list r ++ below))
+    × (us ≡ option_to_list r ++ below)
 ControlTyped c (jump.BrTable ls l) ts us =
-    (r : BlockType) × (below : List ValueType) × (label c l ≡ Some r) × AllByRecursion (λ k. label c k ≡ Some r) ls × (ts ≡ I32 ∷ (option_to_list r ++ below))
+    (r : BlockType) × (below : List ValueType) × (label c l ≡ Some r) × AllByRecursion (λ k. label c k ≡ Some r) ls
+    × (ts ≡ I32 ∷ (option_to_list r ++ below))
 ControlTyped c jump.Return ts us = (below : List ValueType) × (ts ≡ option_to_list c.result ++ below)
 ControlTyped c (jump.Call f) ts us = (t : FuncType) × (function_type c.module_ f ≡ Some t) × CallTyped t ts us
 ControlTyped c (jump.CallIndirect i) ts us =
-    (t : FuncType) × (below : List ValueType) × (0 < length c.module_.tables) × (slice_get c.module_.types i ≡ Some t) × (ts ≡ I32 ∷ below) × CallTyped t below us
+    (t : FuncType) × (below : List ValueType) × (0 < length c.module_.tables) × (slice_get c.module_.types i ≡ Some t)
+    × (ts ≡ I32 ∷ below) × CallTyped t below us
 
 -- The code turns operands of the types ts into operands of the types us (3.3.6). A block starts with no operands.
 abbrev pub CodeTyped : Context → Code → List ValueType → List ValueType → Type 0
 CodeTyped c end ts us = us ≡ ts
 CodeTyped c (plain p rest) ts us = (mid : List ValueType) × PlainTyped c p ts mid × CodeTyped c rest mid us
 CodeTyped c (control k rest) ts us = (mid : List ValueType) × ControlTyped c k ts mid × CodeTyped c rest mid us
-CodeTyped c (block r body rest) ts us = CodeTyped (inside r c) body [] (option_to_list r) × CodeTyped c rest (option_to_list r ++ ts) us
-CodeTyped c (loop r body rest) ts us = CodeTyped (inside None c) body [] (option_to_list r) × CodeTyped c rest (option_to_list r ++ ts) us
+CodeTyped c (block r body rest) ts us =
+    CodeTyped (inside r c) body [] (option_to_list r) × CodeTyped c rest (option_to_list r ++ ts) us
+CodeTyped c (loop r body rest) ts us =
+    CodeTyped (inside None c) body [] (option_to_list r) × CodeTyped c rest (option_to_list r ++ ts) us
 CodeTyped c (choose r taken other rest) ts us =
-    (below : List ValueType) × (ts ≡ I32 ∷ below) × CodeTyped (inside r c) taken [] (option_to_list r) × CodeTyped (inside r c) other [] (option_to_list r)
+    (below : List ValueType) × (ts ≡ I32 ∷ below) × CodeTyped (inside r c) taken [] (option_to_list r)
+    × CodeTyped (inside r c) other [] (option_to_list r)
     × CodeTyped c rest (option_to_list r ++ below) us
 
 -- functions (3.4.1)
@@ -242,7 +257,8 @@ pub record FunctionTyped (m : Module) (f : Function) : Type 0 where
 
 -- the rules outside function bodies (3.2, 3.3.7, 3.4)
 
--- Constant expressions (3.3.7). A constant expression leaves one value, so it is a single constant or a single global.get of a global that is never set.
+-- Constant expressions (3.3.7). A constant expression leaves one value, so it is a single constant or a single global.get of a
+-- global that is never set.
 
 abbrev pub constant_global : Global → Option ValueType
 constant_global g = when_constant g.mutability g.value_type
@@ -271,7 +287,8 @@ constant_type globals _ = None
 abbrev pub TypeValid : FuncType → Type 0
 TypeValid t = length t.results ≤ 1
 
--- Limits (3.2.1) of tables and memories (3.2.3, 3.2.4). The minimum is within the host's bound. The maximum, if any, is at least the minimum and within the core's bound.
+-- Limits (3.2.1) of tables and memories (3.2.3, 3.2.4). The minimum is within the host's bound. The maximum, if any, is at least
+-- the minimum and within the core's bound.
 abbrev pub LimitsValid : (bound most : ℕ) → ResizableLimits → Type 0
 LimitsValid bound most l = (l.min ≤ bound) × IfSome l.max (λ n. (l.min ≤ n) × (n ≤ most))
 
@@ -287,7 +304,8 @@ GlobalValid g = constant_type [] g.init ≡ Some g.value_type
 
 -- 3.4.5
 abbrev pub ElementValid : Module → Element → Type 0
-ElementValid m e = (e.table < length m.tables) × (constant_type m.globals e.offset ≡ Some I32) × AllByRecursion (λ f. f < length (function_indices m)) e.functions
+ElementValid m e = (e.table < length m.tables) × (constant_type m.globals e.offset ≡ Some I32)
+    × AllByRecursion (λ f. f < length (function_indices m)) e.functions
 
 -- 3.4.6
 abbrev pub DataValid : Module → Data → Type 0
@@ -308,8 +326,8 @@ abbrev pub AreDistinct : List (List ℕ) → Type 0
 AreDistinct [] = Unit {0}
 AreDistinct (x ∷ xs) = AllByRecursion (λ y. x ≢ y) xs × AreDistinct xs
 
--- The rules for a module outside its function bodies. The bound of 2^32 on the number of functions, imports included, is a rule of this host:
--- the core bounds each vector (2.1.3), and an index is a number of 32 bits.
+-- The rules for a module outside its function bodies. The bound of 2^32 on the number of functions, imports included, is a rule
+-- of this host: the core bounds each vector (2.1.3), and an index is a number of 32 bits.
 pub record OutsideValid (m : Module) : Type 0 where
   pub few_functions : length (function_indices m) < 2 ^ 32
   pub types : AllByRecursion TypeValid m.types
@@ -332,9 +350,11 @@ pub record Typed (m : Module) : Type 0 where
 
 -- the function with this index, imports counted, is the first ill-typed one
 abbrev pub IsFirstIll : Module → ℕ → Type 0
-IsFirstIll m f = (i : ℕ) × (ill : Function) × (f ≡ length m.imports + i) × (slice_get m.functions i ≡ Some ill) × (FunctionTyped m ill → ⊥) × AllByRecursion (FunctionTyped m) (take i m.functions)
+IsFirstIll m f = (i : ℕ) × (ill : Function) × (f ≡ length m.imports + i) × (slice_get m.functions i ≡ Some ill)
+    × (FunctionTyped m ill → ⊥) × AllByRecursion (FunctionTyped m) (take i m.functions)
 
--- The report on an invalid module (a rule of this host): None if a rule outside bodies is broken, else the index of the first ill-typed function.
+-- The report on an invalid module (a rule of this host): None if a rule outside bodies is broken, else the index of the first
+-- ill-typed function.
 abbrev pub IsIll : Module → Option ℕ → Type 0
 IsIll m None = OutsideValid m → ⊥
 IsIll m (Some f) = OutsideValid m × IsFirstIll m f

@@ -5,7 +5,8 @@ use Rattle.wasm_spec.specs.declared.values.Value.{Value}
 use Rattle.wasm_spec.specs.declared.values.TrapKind.{TrapKind}
 use Rattle.wasm_spec.specs.Runs.{Run, Normal, Branch, Return, Trap, Spent, Stuck, Ask}
 
--- A host's reply to a call: an answer with the memory and the budget after it, or the end of the run. A host with worlds in W says in Q why it ends the run.
+-- A host's reply to a call: an answer with the memory and the budget after it, or the end of the run. A host with worlds in W
+-- says in Q why it ends the run.
 pub data Reply (W Q : Type 0) : Type 0 where
   Answers : (world : W) (answer : ℕ) (memory : List ℕ) (meter : Meter) → Reply W Q
   Quits : (why : Q) → Reply W Q

@@ -1,4 +1,5 @@
-//! WebAssembly modules: their structure as types, and their binary format, validation and execution as definitions that contracts cite.
+//! WebAssembly modules: their structure as types, and their binary format, validation and execution as definitions that contracts
+//! cite.
 //!
 //! The crate covers WebAssembly Core 1.0, sections 2 to 5, and the five sign extension instructions.
 //! It has no floats, start functions, imports other than functions, or blocks nested deeper than 1,000.

@@ -1,4 +1,5 @@
-//! The numeric instructions in the order of their opcodes (core section 5.4.5). Constants and three of the conversions are in none of the tables.
+//! The numeric instructions in the order of their opcodes (core section 5.4.5). Constants and three of the conversions are in
+//! none of the tables.
 
 use crate::instructions::{Binary, Comparison, Conversion, Numeric, Sign, Unary};
 use crate::types::ValueType;
