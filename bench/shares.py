@@ -41,7 +41,7 @@ ELSE = [
 ]
 # What a line below the parts counts: functions with all that they call.
 ACROSS = [
-    ("comparing ledger keys", ["ledger_types::key_order::"]),
+    ("comparing ledger keys", ["ledger_types::key_order::", "entry_map::order::"]),
     ("SHA-256", ["sha2::"]),
     ("allocating and freeing", ["rattle_alloc", "rattle_realloc", "rattle_dealloc"]),
 ]
