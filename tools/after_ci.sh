@@ -37,8 +37,16 @@ check_python() {
 
 check 'docs/DEFINITIONS.md has each definition' python3 tools/definitions.py --check
 check 'docs/TRUST.md has each page that decides' python3 tools/definitions.py --trust
+check 'docs/RULES.md and docs/PROMISES.md name what is there' python3 tools/rules.py --check
+check 'tests of tools/rules.py' python3 tools/test_rules.py
+check 'tests of tools/links.py and tools/pictures.py' python3 tools/test_pages.py
+check 'links of the documents lead somewhere' python3 tools/links.py
+check 'docs/pictures are what tools/pictures.py draws' python3 tools/pictures.py --check
 check 'docs/ARCHITECTURE.md has each crate' python3 tools/layers.py --check
+check 'definitions stand on no more code, and no more proofs are cited' python3 tools/crossings.py --check
 check 'docs/COSTS.md has the lines of each crate' python3 tools/lines.py --check
+check 'lines, bodies and docstrings are as they have to be' python3 tools/hygiene.py
+check 'tests of tools/hygiene.py' python3 tools/test_hygiene.py
 check 'soroban_host.h has each host function' python3 tools/host_header.py --check
 check 'tests of .ci/run' python3 tools/test_gate.py
 check 'edits stand in the code' python3 tools/edits.py --check

@@ -1,4 +1,6 @@
-"""Large files and what commands make of them, by docs/FORMATS.md alone: the tables that tools/program_cases.py runs name these.
+"""Large files and what commands make of them, by docs/FORMATS.md and docs/RULES.md alone.
+
+The tables that tools/program_cases.py runs name these.
 
 Each function that a table names takes words and returns bytes. Nothing here comes from the program.
 """
