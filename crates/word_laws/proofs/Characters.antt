@@ -1,12 +1,12 @@
 -- The bits of a text of at most 9 characters say the text.
-use Rattle.std.proofs.Common.{◌≡◌, ℕ, zero, suc, ◌+◌, ◌*◌, ◌-◌, ◌/◌, ◌%◌, ◌≤◌, ◌<◌, Bool, true, false, List, [], ◌∷◌, ◌++◌, length, Option, Some, None, arith, refl, sym, ap, ap₂, ◌∙◌, subst}
-use Rattle.std.specs.Prelude.{◌==◌, nat_le, is_some, if◌then◌else◌}
+use Rattle.std.proofs.Common.{◌≡◌, ℕ, zero, suc, ◌+◌, ◌*◌, ◌-◌, ◌/◌, ◌%◌, ◌≤◌, ◌<◌, Bool, true, false, List, [], ◌∷◌, ◌++◌, length, Option, Some, None, arith, refl, sym, ap, ap₂, ◌∙◌, subst, length-append}
+use Rattle.std.specs.Prelude.{◌==◌, ◌&&◌, nat_le, is_some, if◌then◌else◌}
 use Rattle.std.specs.Option.{option_map}
 use Rattle.std.specs.List.{list_all}
 use Rattle.std.proofs.lemmas.Bool.{and_parts, eqb-true, leb-true, le-leb, lt-leb, ne_eqb}
 use Rattle.std.proofs.lemmas.List.{append-nil, append_assoc}
 use Rattle.host_spec.specs.Characters.{between, character_of, is_character, number_of}
-use Rattle.host_spec.specs.Words.{ended_by, text_bits, text_of, with_character}
+use Rattle.host_spec.specs.Words.{ended_by, only_if, text_bits, text_of, with_character}
 
 -- ---- a character and its number
 
@@ -26,9 +26,6 @@ is_above low high c h = ap (λ (b : Bool). if nat_le low c then b else false) (l
     neither : (b : Bool) → (if b then false else false) ≡ false
     neither true = refl
     neither false = refl
-
-is_below : (low high c : ℕ) → c < low → between low high c ≡ false
-is_below low high c h = ap (λ (b : Bool). if b then nat_le c high else false) (lt-leb low c h)
 
 -- the number is one of a character, and says it
 pub record Says (c n : ℕ) : Type 0 where
@@ -140,3 +137,106 @@ text_read text short all =
     ap (λ (m : ℕ). text_of m (text_bits 0 text)) split
     ∙ read_behind text (9 - length text) 0 all
     ∙ ap (option_map (λ (front : List ℕ). front ++ text)) (nothing_said (9 - length text))
+
+-- ---- a number and its character
+
+abbrev pick : Bool → Bool → Bool → Bool → ℕ → Option ℕ
+pick a b d f c = if a then Some 1 else if b then Some (2 + (c - 48)) else if d then Some (12 + (c - 65)) else if f then Some (38 + (c - 97)) else None
+
+digit_back : (n : ℕ) → 2 ≤ n → n ≤ 11 → number_of (48 + (n - 2)) ≡ Some n
+digit_back n low high =
+    let c = 48 + (n - 2) in
+    let back : 2 + (c - 48) ≡ n = omega (arith, low, high) in
+    ap₂ (λ (a b : Bool). pick a b (between 65 90 c) (between 97 122 c) c) (ne_eqb c 95 (λ e. omega (arith, e, low, high))) (is_within 48 57 c (omega arith) (omega (arith, low, high)))
+    ∙ ap (λ (x : ℕ). Some x) back
+
+upper_back : (n : ℕ) → 12 ≤ n → n ≤ 37 → number_of (65 + (n - 12)) ≡ Some n
+upper_back n low high =
+    let c = 65 + (n - 12) in
+    let back : 12 + (c - 65) ≡ n = omega (arith, low, high) in
+    ap₂ (λ (a b : Bool). pick a b (between 65 90 c) (between 97 122 c) c) (ne_eqb c 95 (λ e. omega (arith, e, low, high))) (is_above 48 57 c (omega arith))
+    ∙ ap (λ (d : Bool). pick false false d (between 97 122 c) c) (is_within 65 90 c (omega arith) (omega (arith, low, high)))
+    ∙ ap (λ (x : ℕ). Some x) back
+
+lower_back : (n : ℕ) → 38 ≤ n → n ≤ 63 → number_of (97 + (n - 38)) ≡ Some n
+lower_back n low high =
+    let c = 97 + (n - 38) in
+    let back : 38 + (c - 97) ≡ n = omega (arith, low, high) in
+    ap₂ (λ (a b : Bool). pick a b (between 65 90 c) (between 97 122 c) c) (ne_eqb c 95 (λ e. omega (arith, e, low, high))) (is_above 48 57 c (omega arith))
+    ∙ ap₂ (λ (d f : Bool). pick false false d f c) (is_above 65 90 c (omega arith)) (is_within 97 122 c (omega arith) (omega (arith, low, high)))
+    ∙ ap (λ (x : ℕ). Some x) back
+
+by_lower_back : (n c : ℕ) (b : Bool) → between 38 63 n ≡ b → (if b then Some (97 + (n - 38)) else None) ≡ Some c → number_of c ≡ Some n
+by_lower_back n c true at e = let is : 97 + (n - 38) ≡ c = cc in let h = within 38 63 n at in subst (λ x. number_of x ≡ Some n) is (lower_back n h.0 h.1)
+by_lower_back n c false at e = absurd cc
+
+by_upper_back : (n c : ℕ) (b : Bool) → between 12 37 n ≡ b → (if b then Some (65 + (n - 12)) else if between 38 63 n then Some (97 + (n - 38)) else None) ≡ Some c → number_of c ≡ Some n
+by_upper_back n c true at e = let is : 65 + (n - 12) ≡ c = cc in let h = within 12 37 n at in subst (λ x. number_of x ≡ Some n) is (upper_back n h.0 h.1)
+by_upper_back n c false at e = by_lower_back n c (between 38 63 n) refl e
+
+by_digit_back : (n c : ℕ) (b : Bool) → between 2 11 n ≡ b
+    → (if b then Some (48 + (n - 2)) else if between 12 37 n then Some (65 + (n - 12)) else if between 38 63 n then Some (97 + (n - 38)) else None) ≡ Some c → number_of c ≡ Some n
+by_digit_back n c true at e = let is : 48 + (n - 2) ≡ c = cc in let h = within 2 11 n at in subst (λ x. number_of x ≡ Some n) is (digit_back n h.0 h.1)
+by_digit_back n c false at e = by_upper_back n c (between 12 37 n) refl e
+
+by_one : (n c : ℕ) (b : Bool) → (n == 1) ≡ b
+    → (if b then Some 95 else if between 2 11 n then Some (48 + (n - 2)) else if between 12 37 n then Some (65 + (n - 12)) else if between 38 63 n then Some (97 + (n - 38)) else None) ≡ Some c
+    → number_of c ≡ Some n
+by_one n c true at e =
+    let is : 95 ≡ c = cc in
+    let one : 1 ≡ n = sym (eqb-true n 1 at) in
+    subst (λ x. number_of x ≡ Some n) is (ap (λ (x : ℕ). Some x) one)
+by_one n c false at e = by_digit_back n c (between 2 11 n) refl e
+
+pub numbered : (n c : ℕ) → character_of n ≡ Some c → number_of c ≡ Some n
+numbered n c e = by_one n c (n == 1) refl e
+
+-- the bits of one character more
+bits_behind : (text : List ℕ) (c bits : ℕ) → text_bits bits (text ++ c ∷ []) ≡ with_character (text_bits bits text) (number_of c)
+bits_behind [] c bits = refl
+bits_behind (x ∷ text) c bits = bits_behind text c (with_character bits (number_of x))
+
+all_behind : (text : List ℕ) (c : ℕ) → list_all is_character text ≡ true → is_character c ≡ true → list_all is_character (text ++ c ∷ []) ≡ true
+all_behind [] c all one = ap (λ (b : Bool). b && true) one
+all_behind (x ∷ text) c all one =
+    let h = and_parts (is_character x) (list_all is_character text) all in
+    ap₂ (λ (a b : Bool). a && b) h.0 (all_behind text c h.1 one)
+
+-- the bits are those of the text
+pub record Spells (n bits : ℕ) (text : List ℕ) : Type 0 where
+  pub short : length text ≤ n
+  pub characters : list_all is_character text ≡ true
+  pub bits_are : text_bits 0 text ≡ bits
+
+-- the bits end in those of a character
+longer : (n bits : ℕ) (front : List ℕ) (c : ℕ) → Spells n (bits / 64) front → character_of (bits % 64) ≡ Some c → Spells (suc n) bits (front ++ c ∷ [])
+longer n bits front c h last =
+    let number = numbered (bits % 64) c last in
+    let whole : bits / 64 * 64 + bits % 64 ≡ bits = omega arith in
+    record {
+      short = omega (arith, h.short, length-append front (c ∷ []));
+      characters = all_behind front c h.characters (ap (λ (o : Option ℕ). is_some o) number);
+      bits_are = bits_behind front c 0 ∙ ap₂ with_character h.bits_are number ∙ whole;
+    }
+
+empty : (n bits : ℕ) (text : List ℕ) → (bits == 0) ≡ true → [] ≡ text → Spells n bits text
+empty n bits text none is = subst (Spells n bits) is (record { short = omega arith; characters = refl; bits_are = sym (eqb-true bits 0 none) })
+
+by_end : (bits : ℕ) (text : List ℕ) (b : Bool) → (bits == 0) ≡ b → only_if b [] ≡ Some text → Spells 0 bits text
+by_end bits text true none e = empty 0 bits text none cc
+by_end bits text false none e = absurd cc
+
+by_last : (n bits : ℕ) (text : List ℕ) → ((front : List ℕ) → text_of n (bits / 64) ≡ Some front → Spells n (bits / 64) front)
+    → (o : Option (List ℕ)) (p : Option ℕ) → text_of n (bits / 64) ≡ o → character_of (bits % 64) ≡ p → ended_by o p ≡ Some text → Spells (suc n) bits text
+by_last n bits text before (Some front) (Some c) said last e = let is : front ++ c ∷ [] ≡ text = cc in subst (Spells (suc n) bits) is (longer n bits front c (before front said) last)
+by_last n bits text before (Some front) None said last e = absurd cc
+by_last n bits text before None p said last e = absurd cc
+
+by_rest : (n bits : ℕ) (text : List ℕ) → ((front : List ℕ) → text_of n (bits / 64) ≡ Some front → Spells n (bits / 64) front)
+    → (b : Bool) → (bits == 0) ≡ b → (if b then Some [] else ended_by (text_of n (bits / 64)) (character_of (bits % 64))) ≡ Some text → Spells (suc n) bits text
+by_rest n bits text before true none e = empty (suc n) bits text none cc
+by_rest n bits text before false none e = by_last n bits text before (text_of n (bits / 64)) (character_of (bits % 64)) refl refl e
+
+pub text_spelled : (n bits : ℕ) (text : List ℕ) → text_of n bits ≡ Some text → Spells n bits text
+text_spelled zero bits text e = by_end bits text (bits == 0) refl e
+text_spelled (suc n) bits text e = by_rest n bits text (λ front said. text_spelled n (bits / 64) front said) (bits == 0) refl e

@@ -2,3 +2,4 @@ mod Characters
 mod Ranges
 mod Reading
 mod Small
+mod Unique

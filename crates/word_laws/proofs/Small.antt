@@ -87,7 +87,7 @@ read_u128 hi lo none = reads (u128 (record { hi = hi; lo = lo })) (10 + lo * 256
     (ap₂ (λ (h m : ℕ). Some (u128 (record { hi = h; lo = m }))) (sym none) (body_is 10 lo (omega arith)))
 
 -- the 64 bits of a number that 56 bits hold
-abbrev widened : ℕ → ℕ
+abbrev pub widened : ℕ → ℕ
 widened b = if nat_lt b (2 ^ 55) then b else b + (2 ^ 64 - 2 ^ 56)
 
 widen_low : (n : ℕ) → n < 2 ^ 55 → widened (n % 2 ^ 56) ≡ n

@@ -6,12 +6,16 @@ use Rattle.value_types.specs.Datum.{Datum, boolean, void, error, u32, i32, u64, 
 use Rattle.value_xdr.specs.Bytes.{IsBounded}
 use Rattle.host_spec.specs.Characters.{is_character}
 use Rattle.host_spec.specs.Hosted.{IsHosted}
-use Rattle.host_spec.specs.Words.{meaning, object_tag, object_word, small_word}
+use Rattle.host_spec.specs.Words.{meaning, object_tag, object_word, small_meaning, small_word}
 use Rattle.object_store.specs.Shown.{shown_with, shown_word}
 
 -- Whatever was shown in the frame, the small word of a value means the value.
 abbrev pub SmallWordsAreRead : Type 0
 SmallWordsAreRead = (shown : List Datum) (d : Datum) (w : ℕ) → IsBounded d → small_word d ≡ Some w → meaning shown w ≡ Some d
+
+-- A word of 64 bits that means a value without naming an object is the value's small word: no other word means the value.
+abbrev pub SmallWordsAreUnique : Type 0
+SmallWordsAreUnique = (d : Datum) (w : ℕ) → w < 2 ^ 64 → small_meaning w ≡ Some d → small_word d ≡ Some w
 
 -- The object's word of a value with an index means the value of that index. Types without objects have the tag 0.
 abbrev pub ObjectWordsAreRead : Type 0

@@ -1,10 +1,16 @@
 //! Laws of words. Each law is the contract of a function with an empty body.
 
-ghost use Rattle.word_laws.specs.Laws.{ObjectWordsAreRead, ShownWordsAreRead, SmallValuesHaveRanges, SmallWordsAreRead};
+ghost use Rattle.word_laws.specs.Laws.{ObjectWordsAreRead, ShownWordsAreRead, SmallValuesHaveRanges};
+ghost use Rattle.word_laws.specs.Laws.{SmallWordsAreRead, SmallWordsAreUnique};
 
 /// A value's small word means the value, in every frame.
 pub fn small_words_are_read()
     ensures { SmallWordsAreRead }
+{}
+
+/// A word that means a value by its bits alone is the value's small word.
+pub fn small_words_are_unique()
+    ensures { SmallWordsAreUnique }
 {}
 
 /// An object's word means the value that was shown with its handle.

@@ -7,4 +7,5 @@ mod laws;
 
 pub use laws::{
     object_words_are_read, shown_words_are_read, small_values_have_ranges, small_words_are_read,
+    small_words_are_unique,
 };
