@@ -1,0 +1,13 @@
+pub mod Tests
+pub mod Meets
+pub mod Declaring
+pub mod Meeting
+pub mod Places
+pub mod Growing
+pub mod Standing
+pub mod Building
+pub mod Ranked
+pub mod Planning
+pub mod Spelling
+pub mod Moves
+pub mod Tallies
