@@ -5,7 +5,8 @@ python3 tools/layers.py            writes the picture anew
 python3 tools/layers.py --check    says whether the picture is what this writes, and whether each crate stands in crates.txt with
                                    exactly the libraries that its files name; the status is 1 if not
 
-`rt` lists the crates below a crate once for each way to them, so a crate that stands on others through a third one leaves them out.
+`rt` lists the crates below a crate once for each way to them, so a crate that stands on others through a third one leaves them
+out.
 """
 import pathlib
 import re
@@ -23,7 +24,10 @@ def crates():
         name, colon, needs = line.partition(":")
         if colon and not name.startswith("#"):
             listed[name.strip()] = needs.split()
-    return {name: ([need for need in needs if need in listed], [need for need in needs if need not in listed]) for name, needs in listed.items()}
+    return {
+        name: ([need for need in needs if need in listed], [need for need in needs if need not in listed])
+        for name, needs in listed.items()
+    }
 
 
 def named(name):
@@ -66,7 +70,7 @@ def layer(name, needs, known):
 
 
 def picture():
-    """Returns a line for each crate, lowest layer first, with the crates right below it and the kit's crates that come in with it."""
+    """Returns a line for each crate, lowest layer first, with the crates right below it and the kit's crates that it adds."""
     listed = crates()
     needs = {name: own for name, (own, _) in listed.items()}
     under, height = {}, {}
