@@ -13,5 +13,5 @@ mod rows;
 pub use import::HostImport;
 pub use kinds::{ArgKind, ResultKind};
 pub use laws::names_differ;
-pub use names::import_named;
+pub use names::{import_named, row_named};
 pub use rows::{HOST_ROWS, HostRow, TableRow};

@@ -139,3 +139,11 @@ pub const HOST_ROWS: [TableRow; 94] = [
     row!("a", "get_address_from_muxed_address", GetAddressFromMuxedAddress(MuxedAddress) -> Address),
     row!("a", "get_id_from_muxed_address", GetIdFromMuxedAddress(MuxedAddress) -> U64),
 ];
+
+/// The indices of the rows, in the order of their names.
+pub(crate) const BY_NAME: [u8; 94] = [
+    63, 61, 68, 65, 56, 60, 55, 62, 57, 53, 69, 59, 58, 54, 64, 75, 88, 76, 1, 84, 85, 80, 52, 21,
+    22, 81, 82, 8, 92, 79, 87, 6, 93, 5, 3, 4, 2, 7, 78, 26, 25, 28, 29, 31, 27, 23, 24, 30, 32, 0,
+    16, 11, 13, 9, 17, 18, 12, 14, 15, 10, 77, 90, 91, 51, 66, 72, 70, 74, 67, 73, 71, 19, 20, 89,
+    86, 83, 45, 43, 36, 47, 42, 35, 44, 48, 37, 33, 49, 41, 39, 40, 38, 34, 46, 50,
+];

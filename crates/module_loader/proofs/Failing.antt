@@ -2,7 +2,7 @@
 use Rattle.std.proofs.Common.{◌≡◌, ℕ, zero, suc, Bool, true, false, List, [], ◌∷◌, take, Option, Some, None, refl, sym, ap, ◌∙◌, subst}
 use Rattle.std.specs.Prelude.{slice_get, option_map, if◌then◌else◌}
 use Rattle.std.specs.List.{AllByRecursion}
-use Rattle.wasm_check.proofs.OutsideLaws.{Same}
+use Rattle.wasm_check.proofs.Lemmas.{Same}
 use Rattle.module_loader.specs.Loading.{first_failing}
 
 pub false_unless : (b : Bool) → (b ≡ true → ⊥) → b ≡ false

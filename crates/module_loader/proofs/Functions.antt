@@ -9,10 +9,7 @@ use Rattle.wasm_spec.specs.Binary.{locals_count}
 use Rattle.wasm_spec.specs.Typing.{FunctionTyped, MOST_LOCALS, body_context, result_of}
 use Rattle.wasm_check.specs.Check.{Shape, body_check}
 use Rattle.wasm_check.specs.declared.error.Fault.TheVariants.{Ill}
-use Rattle.wasm_check.proofs.CheckLaws.{checked_typed}
-use Rattle.wasm_check.proofs.FunctionLaws.{judged, many_locals, no_type}
-use Rattle.wasm_check.proofs.OutsideLaws.{Same}
-use Rattle.wasm_check.proofs.Passed.{and_true, both_true}
+use Rattle.wasm_check.proofs.Lemmas.{Same, and_true, both_true, checked_typed, judged, many_locals, no_type}
 use Rattle.module_loader.specs.Loading.{function_ok, has_type}
 use Rattle.module_loader.proofs.Failing.{true_unless}
 

@@ -1,4 +1,5 @@
-pub mod Exact
-pub mod Failing
+mod Exact
+mod Failing
 mod Functions
 mod Imports
+pub mod Lemmas

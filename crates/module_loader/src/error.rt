@@ -1,6 +1,6 @@
 //! Why bytes are rejected as a module.
 
-use std::alloc::AllocError;
+use std::alloc::{AllocError, AllocFailed};
 
 /// Why the host rejects bytes as a module.
 #[derive(Clone, Copy, Debug, PartialEq, Eq)]
@@ -29,6 +29,17 @@ impl From<AllocError> for LoadErr {
     ghost from_gives = { λ _ e. e ≡ NoMemory };
 
     fn from(_error: AllocError) -> Self {
+        LoadErr::NoMemory
+    }
+}
+
+impl<T: Drop> From<AllocFailed<T>> for LoadErr {
+    ghost use Rattle.module_loader.specs.declared.error.LoadErr.TheVariants.{NoMemory};
+    ghost use Rattle.std.specs.Prelude.{◌≡◌};
+
+    ghost from_gives = { λ _ e. e ≡ NoMemory };
+
+    fn from(_error: AllocFailed<T>) -> Self {
         LoadErr::NoMemory
     }
 }

@@ -9,4 +9,4 @@ mod loading;
 pub use error::{Flaw, LoadErr};
 pub use laws::{loaded_is_exact, module_of_is_exact};
 pub use linked::LinkedModule;
-pub use loading::load;
+pub use loading::{link, load};

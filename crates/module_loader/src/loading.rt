@@ -1,18 +1,20 @@
 //! Loading of a module from its bytes.
 
-ghost use Rattle.std.specs.Prelude.{◌≡◌, IfOk, IfErr};
+ghost use Rattle.std.specs.Prelude.{◌≡◌, ◌<◌, ◌^◌, length, IfOk, IfErr};
 ghost use Rattle.wasm_spec.specs.Binary.{ModuleBytes};
 ghost use Rattle.wasm_spec.specs.Typing.{Typed};
 ghost use Rattle.host_interface.specs.Rows.{host_rows, rows_of};
 ghost use Rattle.wasm_check.specs.Linking.{Linked};
+ghost use Rattle.module_loader.specs.declared.error.Flaw.TheVariants.{Unlinked};
+ghost use Rattle.module_loader.specs.declared.error.LoadErr.TheVariants.{Flawed};
 ghost use Rattle.module_loader.specs.Loading.{HasRows, IsLoadedUnlessMemory, IsModuleOf, ReportsFlaw, ReportsIll};
 ghost use Rattle.module_loader.specs.Loading.{ReportsUnlinked, Gives, loaded, module_of};
 
 use crate::error::{Flaw, LoadErr};
 use crate::linked::LinkedModule;
 use host_interface::TableRow;
-use std::alloc::{AllocError, Global};
-use wasm_check::{CheckErr, ValidModule, check, host_row, link};
+use std::alloc::Global;
+use wasm_check::{CheckErr, ValidModule, check, host_row};
 use wasm_read::{ReadModErr, read_module};
 use wasm_spec::Module;
 
@@ -32,7 +34,7 @@ fn linked_of(alloc: Global, bytes: &[u8]) -> Result<LinkedModule, LoadErr>
     ensures { IsLoadedUnlessMemory bytes.now result }
 {
     let valid = valid_of(alloc, bytes)?;
-    match link_rows(alloc, &valid) {
+    match link(alloc, &valid) {
         Ok(rows) => Ok(LinkedModule { valid, rows }),
         Err(error) => Err(error),
     }
@@ -71,40 +73,35 @@ fn validate(alloc: Global, module: Module) -> Result<ValidModule, LoadErr>
     }
 }
 
-fn check_links(module: &ValidModule) -> Result<(), LoadErr>
-    ensures linked { IfOk result (λ _. Linked host_rows module.now) }
-    ensures unlinked { IfErr result (ReportsUnlinked module.now) }
-{
-    match link(module) {
-        Ok(()) => Ok(()),
-        Err(error) => Err(LoadErr::Flawed(Flaw::Unlinked {
-            import: error.import,
-        })),
-    }
-}
-
-/// Links the imports of a module and returns their rows.
-fn link_rows(alloc: Global, module: &ValidModule) -> Result<Vec<TableRow>, LoadErr>
+/// Links the imports of a valid module with the host interface. Returns the row of each, in their order, or the index of
+/// the first import that the interface does not have with its type.
+pub fn link(alloc: Global, module: &ValidModule) -> Result<Vec<TableRow>, LoadErr>
     ensures linked { IfOk result (λ _. Linked host_rows module.now) }
     ensures rows { IfOk result (λ rows. HasRows module.now (rows_of rows.items)) }
     ensures unlinked { IfErr result (ReportsUnlinked module.now) }
 {
-    check_links(module)?;
-    let rows = rows_of(alloc, module.module())?;
-    Ok(rows)
+    rows_of(alloc, module.module())
 }
 
-/// Returns the rows of the imports of a linked module, in their order.
-fn rows_of(alloc: Global, module: &Module) -> Result<Vec<TableRow>, AllocError>
-    requires { Linked host_rows module.now }
-    ensures { IfOk result (λ rows. HasRows module.now (rows_of rows.items)) }
+/// Returns the row of each import, found once.
+fn rows_of(alloc: Global, module: &Module) -> Result<Vec<TableRow>, LoadErr>
+    requires { length module.now.imports < 2 ^ 32 }
+    ensures linked { IfOk result (λ _. Linked host_rows module.now) }
+    ensures rows { IfOk result (λ rows. HasRows module.now (rows_of rows.items)) }
+    ensures unlinked { IfErr result (ReportsUnlinked module.now) }
 {
     let mut rows = Vec::new(alloc);
-    for import in module.imports.as_slice() {
+    for (index, import) in module.imports.as_slice().iter().enumerate() {
         match host_row(module, import) {
             Some(row) => rows.push(row)?,
-            None => unreachable!(),
+            None => return Err(unlinked(index as u32)),
         }
     }
     Ok(rows)
+}
+
+fn unlinked(import: u32) -> LoadErr
+    ensures { result ≡ Flawed (Unlinked «import») }
+{
+    LoadErr::Flawed(Flaw::Unlinked { import })
 }

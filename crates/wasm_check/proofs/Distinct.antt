@@ -4,7 +4,7 @@ use Rattle.std.specs.List.{list_any}
 use Rattle.std.specs.Str.{bytes_eq}
 use Rattle.std.proofs.Common.{◌≡◌, ℕ, ◌<◌, Bool, true, false, not, ◌||◌, ◌&&◌, List, [], ◌∷◌, length, get_or, take, map, Bor, refl, sym, ap, ap₂, ◌∙◌}
 use Rattle.list_laws.specs.Twice.{stand_twice}
-use Rattle.list_laws.proofs.Twice.{order, Holds, found_twice}
+use Rattle.list_laws.proofs.Lemmas.{Holds, found_twice, order}
 use Rattle.wasm_spec.specs.declared.module.Export.{Export}
 use Rattle.wasm_check.specs.Outside.{is_new, exports_differ}
 

@@ -1,8 +1,9 @@
-pub mod CheckLaws
-pub mod CodeSteps
-pub mod Constants
-pub mod Distinct
-pub mod FunctionLaws
-pub mod LinkLaws
-pub mod OutsideLaws
-pub mod Passed
+mod CheckLaws
+mod CodeSteps
+mod Constants
+mod Distinct
+mod FunctionLaws
+pub mod Lemmas
+mod LinkLaws
+mod OutsideLaws
+mod Passed

@@ -1,10 +1,13 @@
 -- An import has a row exactly if it is one of the host's imports.
-use Rattle.std.proofs.Common.{◌≡◌, ℕ, ◌+◌, inl, inr, ⊎_elim, Bool, true, false, List, [], ◌∷◌, ◌++◌, ◌<◌, length, get_or, take, replicate, Option, Some, None, refl, sym, ap, ap₂, ◌∙◌, subst, suc, zero}
-use Rattle.std.specs.Prelude.{◌==◌, ◌&&◌, slice_get, is_some, option_map, not, if◌then◌else◌}
-use Rattle.std.specs.List.{list_all, AllByRecursion}
+use Rattle.std.proofs.Common.{◌≡◌, ℕ, inl, inr, ⊎_elim, Bool, true, false, ◌||◌, cond, List, [], ◌∷◌, length, replicate, Option, Some, None, refl, sym, ap, ap₂, ◌∙◌, subst, suc, zero}
+use Rattle.std.specs.Prelude.{◌==◌, ◌&&◌, slice_get, is_some, if◌then◌else◌}
+use Rattle.std.specs.Cmp.Lexicographic.{nat_list_eq_equiv}
+use Rattle.std.specs.List.{find, list_all, list_any, AllByRecursion}
 use Rattle.std.specs.Str.{bytes_eq}
-use Rattle.host_interface.specs.Rows.{Row}
-use Rattle.std.proofs.lemmas.List.{take_more}
+use Rattle.list_laws.specs.Twice.{stand_twice}
+use Rattle.host_interface.specs.Named.{is_named}
+use Rattle.host_interface.specs.Order.{names_of}
+use Rattle.host_interface.specs.Rows.{Row, host_rows}
 use Rattle.std.proofs.lemmas.Bool.{eqb-true, eq-eqb}
 use Rattle.std.proofs.lemmas.Slice.Eq.{bytes_eq-Decides}
 use Rattle.wasm_spec.specs.declared.types.ValueType.{ValueType}
@@ -13,9 +16,9 @@ use Rattle.wasm_spec.specs.declared.types.FuncType.{FuncType}
 use Rattle.wasm_spec.specs.declared.module.Import.{Import}
 use Rattle.wasm_spec.specs.declared.module.Module.{Module}
 use Rattle.wasm_check.specs.Check.{same_type}
-use Rattle.wasm_check.specs.Linking.{SomeOf, IsHostImport, ImportLinked, one_i64, type_matches, matches, find_row, typed_row, import_row, import_ok}
+use Rattle.wasm_check.specs.Linking.{SomeOf, IsHostImport, ImportLinked, one_i64, type_matches, matches, with_type, find_row, typed_row, import_ok}
 use Rattle.wasm_check.proofs.OutsideLaws.{Same, same_and, same_all, same_type_true, same_type_refl}
-use Rattle.wasm_check.proofs.Passed.{and_true, both_true, never}
+use Rattle.wasm_check.proofs.Passed.{and_true, both_true}
 
 same_bytes : (a b : List ℕ) → Same (bytes_eq a b) (a ≡ b)
 same_bytes a b = let d = bytes_eq-Decides a b in record { back = d.0; on = d.1 }
@@ -109,24 +112,53 @@ same_typed rows i (Some u) = record { back = λ e. (u, refl, (same_search i u ro
 pub same_import : (rows : List Row) (m : Module) (i : Import) → Same (import_ok rows m i) (ImportLinked rows m i)
 same_import rows m i = same_typed rows i (slice_get m.types i.type_index)
 
--- the test of an import, from the row that the code found
-mapped_is_some : {A B : Type 0} (f : A → B) (o : Option A) → is_some (option_map f o) ≡ is_some o
-mapped_is_some f None = refl
-mapped_is_some f (Some x) = refl
+-- ---- the row of the name
 
-pub tested : {A : Type 0} (f : A → Row) (rows : List Row) (m : Module) (i : Import) (o : Option A) (none : Bool) → option_map f o ≡ import_row rows m i → is_some o ≡ not none → import_ok rows m i ≡ not none
-tested f rows m i o none e t = sym (ap is_some e) ∙ mapped_is_some f o ∙ t
+both_false : (a b : Bool) → (a || b) ≡ false → (a ≡ false) × (b ≡ false)
+both_false false false e = (refl, refl)
+both_false false true e = cc
+both_false true b e = cc
 
--- the tests so far, and one more
+and_false : (a : Bool) → (a && false) ≡ false
+and_false true = refl
+and_false false = refl
 
-pub linked_more : (rows : List Row) (m : Module) (k : ℕ) (i : Import) → k < length m.imports → i ≡ get_or m.imports k i → import_ok rows m i ≡ true → AllByRecursion (ImportLinked rows m) (take k m.imports) → AllByRecursion (ImportLinked rows m) (take (k + 1) m.imports)
-linked_more rows m k i lt e ok h =
-    let t : take (k + 1) m.imports ≡ take k m.imports ++ i ∷ [] = take_more m.imports k i lt ∙ ap (λ x. take k m.imports ++ x ∷ []) (sym e) in
-    subst (AllByRecursion (ImportLinked rows m)) (sym t) (all_push (ImportLinked rows m) (take k m.imports) i h ((same_import rows m i).back ok))
-  where
-    all_push : {A : Type 0} (P : A → Type 0) (xs : List A) (x : A) → AllByRecursion P xs → P x → AllByRecursion P (xs ++ x ∷ [])
-    all_push P [] x h p = (p, tt)
-    all_push P (y ∷ ys) x h p = (h.0, all_push P ys x h.1 p)
+and_assoc : (a b c : Bool) → ((a && b) && c) ≡ (a && (b && c))
+and_assoc true b c = refl
+and_assoc false b c = refl
 
-pub not_linked : (rows : List Row) (m : Module) (i : Import) → import_ok rows m i ≡ false → ImportLinked rows m i → ⊥
-not_linked rows m i e h = never (import_ok rows m i) e ((same_import rows m i).on h)
+-- a row matches if it has the import's name, and its type
+named_and_typed : (i : Import) (t : FuncType) (row : Row) → matches i t row ≡ (is_named i.module i.name row && type_matches (length row.arguments) t)
+named_and_typed i t row =
+    ap₂ (λ (a b : Bool). a && (b && type_matches (length row.arguments) t)) (nat_list_eq_equiv.symm i.module row.letter) (nat_list_eq_equiv.symm i.name row.name)
+    ∙ sym (and_assoc (bytes_eq row.letter i.module) (bytes_eq row.name i.name) (type_matches (length row.arguments) t))
+
+none_of_name : (i : Import) (t : FuncType) (rows : List Row) → list_any (bytes_eq i.name) (names_of rows) ≡ false → find_row rows i t ≡ None
+none_of_name i t [] e = refl
+none_of_name i t (row ∷ rows) e =
+    let h = both_false (bytes_eq i.name row.name) (list_any (bytes_eq i.name) (names_of rows)) e in
+    let other : matches i t row ≡ false = ap (λ (b : Bool). bytes_eq i.module row.letter && (b && type_matches (length row.arguments) t)) h.0 ∙ and_false (bytes_eq i.module row.letter) in
+    ap (λ (b : Bool). if b then Some row else find_row rows i t) other ∙ none_of_name i t rows h.1
+
+by_head : (i : Import) (t : FuncType) (row : Row) (rows : List Row) (b : Bool) → is_named i.module i.name row ≡ b → list_any (bytes_eq row.name) (names_of rows) ≡ false
+    → find_row rows i t ≡ with_type (find (is_named i.module i.name) rows) t → find_row (row ∷ rows) i t ≡ with_type (find (is_named i.module i.name) (row ∷ rows)) t
+by_head i t row rows true named none later =
+    let typed : matches i t row ≡ type_matches (length row.arguments) t = named_and_typed i t row ∙ ap (λ (b : Bool). b && type_matches (length row.arguments) t) named in
+    let same : row.name ≡ i.name = (same_bytes row.name i.name).back (and_true (bytes_eq row.letter i.module) (bytes_eq row.name i.name) named).1 in
+    let last : find_row rows i t ≡ None = none_of_name i t rows (subst (λ n. list_any (bytes_eq n) (names_of rows) ≡ false) same none) in
+    ap₂ (λ (b : Bool) (o : Option Row). if b then Some row else o) typed last
+    ∙ sym (ap (λ (b : Bool). with_type (cond b (Some row) (find (is_named i.module i.name) rows)) t) named)
+by_head i t row rows false named none later =
+    let other : matches i t row ≡ false = named_and_typed i t row ∙ ap (λ (b : Bool). b && type_matches (length row.arguments) t) named in
+    ap (λ (b : Bool). if b then Some row else find_row rows i t) other ∙ later
+    ∙ sym (ap (λ (b : Bool). with_type (cond b (Some row) (find (is_named i.module i.name) rows)) t) named)
+
+-- the first row whose host import it is, is the row of its name, if that has the type
+by_name : (i : Import) (t : FuncType) (rows : List Row) → stand_twice (names_of rows) ≡ false → find_row rows i t ≡ with_type (find (is_named i.module i.name) rows) t
+by_name i t [] distinct = refl
+by_name i t (row ∷ rows) distinct =
+    let h = both_false (list_any (bytes_eq row.name) (names_of rows)) (stand_twice (names_of rows)) distinct in
+    by_head i t row rows (is_named i.module i.name row) refl h.0 (by_name i t rows h.1)
+
+pub host_by_name : (i : Import) (t : FuncType) → find_row host_rows i t ≡ with_type (find (is_named i.module i.name) host_rows) t
+host_by_name i t = by_name i t host_rows refl

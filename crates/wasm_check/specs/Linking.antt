@@ -47,6 +47,11 @@ type_matches arity t = (length t.params == arity) && (list_all (λ p. same_type 
 abbrev pub matches : Import → FuncType → Row → Bool
 matches i t row = bytes_eq i.module row.letter && (bytes_eq i.name row.name && type_matches (length row.arguments) t)
 
+-- the row, if its host import has this type
+abbrev pub with_type : Option Row → FuncType → Option Row
+with_type None t = None
+with_type (Some row) t = if type_matches (length row.arguments) t then Some row else None
+
 -- the first row whose host import it is
 abbrev pub find_row : List Row → Import → FuncType → Option Row
 find_row [] i t = None

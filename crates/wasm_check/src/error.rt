@@ -23,12 +23,6 @@ impl From<AllocError> for CheckErr {
     }
 }
 
-/// The index of the first import that the host interface does not have with its type.
-#[derive(Clone, Copy, Debug, PartialEq, Eq)]
-pub struct Unlinked {
-    pub import: u32,
-}
-
 /// Why validation of code fails.
 #[derive(Debug, PartialEq, Eq, Drop)]
 pub enum Fault {

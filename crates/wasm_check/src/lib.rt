@@ -11,7 +11,7 @@ mod operands;
 mod outside;
 mod signature;
 
-pub use error::{CheckErr, Unlinked};
-pub use linking::{host_row, link};
+pub use error::CheckErr;
+pub use linking::host_row;
 pub use module::{ValidModule, check};
 pub use names::same_name;

@@ -1,7 +1,7 @@
 use Rattle.std.proofs.Common.{◌≡◌, ℕ, Bool, not, arith, refl, sym, ap, ◌∙◌, take}
 use Rattle.std.proofs.Math.Seq.{take-length}
 use Rattle.list_laws.specs.Twice.{stand_twice}
-use Rattle.list_laws.proofs.Twice.{none_twice, still_holds}
+use Rattle.list_laws.proofs.Lemmas.{none_twice, still_holds}
 use Rattle.wasm_check.proofs.Distinct.{name_of, names_of, repeated_name, differ_names}
 use Rattle.wasm_check.proofs.names.names_differ.Goals as goal
 

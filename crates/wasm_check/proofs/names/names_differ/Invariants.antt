@@ -1,6 +1,6 @@
 use Rattle.std.proofs.Common.{◌≡◌, take, false}
 use Rattle.list_laws.specs.Twice.{stand_twice}
-use Rattle.list_laws.proofs.Twice.{Holds}
+use Rattle.list_laws.proofs.Lemmas.{Holds}
 use Rattle.wasm_check.proofs.Distinct.{names_of}
 use Rattle.wasm_check.proofs.names.names_differ.Given as goal
 
