@@ -35,6 +35,13 @@ sums_after used terms input = record {
   memory = used.memory + cost_of terms.memory input;
 }
 
+-- both sums with the cost of so many executed instructions added
+abbrev pub sums_after_many : Used → KindTerms → ℕ → Used
+sums_after_many used terms count = record {
+  instructions = used.instructions + count * cost_of terms.instructions 1;
+  memory = used.memory + count * cost_of terms.memory 1;
+}
+
 -- no sum is above its limit
 abbrev pub IsWithin : Limits → Used → Type 0
 IsWithin limits used = (used.instructions ≤ limits.instructions) × (used.memory ≤ limits.memory)

@@ -1,2 +1,3 @@
-pub mod CodeLaws
-pub mod EmitLaws
+mod CodeLaws
+mod EmitLaws
+mod OpLaws

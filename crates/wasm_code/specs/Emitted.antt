@@ -30,7 +30,7 @@ AreLabels targets (o ∷ os) (l ∷ ls) = IsLabel targets o l × AreLabels targe
 
 -- one more step
 pub record Puts (old new : Emitter) (s : Step) : Type 0 where
-  pub steps : new.steps.items ≡ old.steps.items ++ s ∷ []
+  pub steps : new.steps ≡ old.steps ++ s ∷ []
   pub targets : new.targets.items ≡ old.targets.items
   pub labels : new.labels ≡ old.labels
   pub home : new.home ≡ old.home
@@ -42,29 +42,28 @@ jump_step false id n = step.Jump id n
 -- one more label
 pub record Opens (old new : Emitter) (pc : ℕ) (r : BlockType) (height id : ℕ) : Type 0 where
   pub is_next : id ≡ length old.targets.items
-  pub steps : new.steps.items ≡ old.steps.items
+  pub steps : new.steps ≡ old.steps
   pub targets : new.targets.items ≡ old.targets.items ++ (record { pc = pc; result = r }) ∷ []
   pub labels : new.labels ≡ (record { target = id; result = r; height = height }) ∷ old.labels
   pub home : new.home ≡ old.home
 
 -- one label less, whose target is the next step
 pub record Closes (old new : Emitter) (id : ℕ) (r : BlockType) : Type 0 where
-  pub steps : new.steps.items ≡ old.steps.items
-  pub targets : new.targets.items ≡ slice_set old.targets.items id (record { pc = length old.steps.items; result = r })
+  pub steps : new.steps ≡ old.steps
+  pub targets : new.targets.items ≡ slice_set old.targets.items id (record { pc = length old.steps; result = r })
   pub labels : (o : Open) (os : List Open) → old.labels ≡ o ∷ os → new.labels ≡ os
   pub home : new.home ≡ old.home
 
 -- one label less
 pub record Forgets (old new : Emitter) : Type 0 where
-  pub steps : new.steps.items ≡ old.steps.items
+  pub steps : new.steps ≡ old.steps
   pub targets : new.targets.items ≡ old.targets.items
   pub labels : (o : Open) (os : List Open) → old.labels ≡ o ∷ os → new.labels ≡ os
   pub home : new.home ≡ old.home
 
 -- the destinations of an if
 pub record Patches (old new : Emitter) (test skip : ℕ) : Type 0 where
-  pub steps : new.steps.items
-      ≡ slice_set (slice_set old.steps.items test (step.Unless (skip + 1))) skip (step.Skip (length old.steps.items))
+  pub steps : new.steps ≡ slice_set (slice_set old.steps test (step.Unless (skip + 1))) skip (step.Skip (length old.steps))
   pub targets : new.targets.items ≡ old.targets.items
   pub labels : new.labels ≡ old.labels
   pub home : new.home ≡ old.home
@@ -73,49 +72,47 @@ pub record Patches (old new : Emitter) (test skip : ℕ) : Type 0 where
 pub record Adds (old new : Emitter) : Type 0 where
   pub labels : new.labels ≡ old.labels
   pub home : new.home ≡ old.home
-  pub steps : Keeps 0 old.steps.items new.steps.items
+  pub steps : Keeps 0 old.steps new.steps
   pub targets : Keeps 0 old.targets.items new.targets.items
-  pub longer : length old.steps.items ≤ length new.steps.items
+  pub longer : length old.steps ≤ length new.steps
   pub more : length old.targets.items ≤ length new.targets.items
 
 -- The instruction was added: for every code placed after it, both are placed at the step where the instruction starts.
 pub record Emitted (m : Module) (old new : Emitter) (h h' : ℕ) (put : Code → Code) : Type 0 where
   pub adds : Adds old new
   pub placed : (flat : Flat) (home : Label) (ls : List Label) (rest : Code) (q : ℕ)
-      → Keeps (length old.steps.items) new.steps.items flat.steps
-      → Keeps (length old.targets.items) new.targets.items flat.targets
+      → Keeps (length old.steps) new.steps flat.steps → Keeps (length old.targets.items) new.targets.items flat.targets
       → AreLabels flat.targets old.labels ls → IsLabel flat.targets old.home home
-      → Placed m flat home (length new.steps.items) rest q ls h' → Placed m flat home (length old.steps.items) (put rest) q ls h
+      → Placed m flat home (length new.steps) rest q ls h' → Placed m flat home (length old.steps) (put rest) q ls h
 
 -- the same for a whole code
 pub record EmittedAll (m : Module) (old new : Emitter) (h : ℕ) (c : Code) : Type 0 where
   pub adds : Adds old new
   pub placed : (flat : Flat) (home : Label) (ls : List Label)
-      → Keeps (length old.steps.items) new.steps.items flat.steps
-      → Keeps (length old.targets.items) new.targets.items flat.targets
+      → Keeps (length old.steps) new.steps flat.steps → Keeps (length old.targets.items) new.targets.items flat.targets
       → AreLabels flat.targets old.labels ls → IsLabel flat.targets old.home home
-      → Placed m flat home (length old.steps.items) c (length new.steps.items) ls h
+      → Placed m flat home (length old.steps) c (length new.steps) ls h
 
 -- the same for the jumps of a table
 pub record RowEmitted (old new : Emitter) (h : ℕ) (ks : List ℕ) (other : ℕ) : Type 0 where
   pub adds : Adds old new
   pub placed : (flat : Flat) (ls : List Label)
-      → Keeps (length old.steps.items) new.steps.items flat.steps → AreLabels flat.targets old.labels ls
-      → RowAt flat (length old.steps.items) h ls ks other
+      → Keeps (length old.steps) new.steps flat.steps → AreLabels flat.targets old.labels ls
+      → RowAt flat (length old.steps) h ls ks other
 
 -- the same for the first jumps of a table, for every row of jumps after them
 pub record RowBegun (old new : Emitter) (h : ℕ) (ks : List ℕ) : Type 0 where
   pub adds : Adds old new
   pub placed : (flat : Flat) (ls : List Label) (more : List ℕ) (other : ℕ)
-      → Keeps (length old.steps.items) new.steps.items flat.steps → AreLabels flat.targets old.labels ls
-      → RowAt flat (length new.steps.items) h ls more other → RowAt flat (length old.steps.items) h ls (ks ++ more) other
+      → Keeps (length old.steps) new.steps flat.steps → AreLabels flat.targets old.labels ls
+      → RowAt flat (length new.steps) h ls more other → RowAt flat (length old.steps) h ls (ks ++ more) other
 
 -- The function was added: it is placed at its entry, for every code that follows.
 pub record FunctionEmitted (m : Module) (old new : Emitter) (f : Function) (entry : ℕ) : Type 0 where
   pub labels : new.labels ≡ old.labels
-  pub steps : Keeps 0 old.steps.items new.steps.items
+  pub steps : Keeps 0 old.steps new.steps
   pub targets : Keeps 0 old.targets.items new.targets.items
-  pub placed : (flat : Flat) → Keeps (length old.steps.items) new.steps.items flat.steps
+  pub placed : (flat : Flat) → Keeps (length old.steps) new.steps flat.steps
       → Keeps (length old.targets.items) new.targets.items flat.targets → IsFunctionAt m flat f entry
 
 -- the calls of n imports come first, each followed by an End
@@ -125,4 +122,4 @@ ImportsAt n steps = (length steps ≡ 2 * n)
 
 pub record ImportsEmitted (m : Module) (new : Emitter) : Type 0 where
   pub labels : new.labels ≡ []
-  pub steps : ImportsAt (length m.imports) new.steps.items
+  pub steps : ImportsAt (length m.imports) new.steps

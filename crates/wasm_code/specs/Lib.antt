@@ -1,3 +1,4 @@
 pub mod Closed
 pub mod Emitted
+pub mod Ops
 pub mod Placed

@@ -11,6 +11,7 @@ ghost use Rattle.wasm_code.specs.Emitted.{Emitted, EmittedAll, RowEmitted, Puts,
 ghost use Rattle.wasm_code.specs.Emitted.{FunctionEmitted, ImportsEmitted, jump_step};
 
 use crate::labels::{Labels, Open};
+use crate::op::Steps;
 use crate::step::{FlatCode, Step, Target};
 use crate::types::{function_type, type_at};
 use std::alloc::{AllocError, Global};
@@ -19,7 +20,7 @@ use wasm_spec::{Control, FuncType, Function, Instr, Items, Module, Numeric, Plai
 /// The code emitted so far, the labels in scope, and the label of the current function's own block.
 #[derive(Drop)]
 pub struct Emitter {
-    pub steps: Vec<Step>,
+    pub steps: Steps,
     pub targets: Vec<Target>,
     pub labels: Labels,
     pub home: Open,
@@ -99,7 +100,7 @@ fn put(out: &mut Emitter, step: Step) -> Result<(), AllocError>
 /// Returns the height of the operands after `more` are pushed. It cannot overflow, since there are never more operands than
 /// steps.
 fn higher(out: &Emitter, height: usize, more: usize) -> usize
-    requires height { height < length out.now.steps.items }
+    requires height { height < length out.now.steps }
     requires more { more ≤ 1 }
     ensures { result ≡ height + more }
 {
@@ -165,13 +166,13 @@ fn forget_label(out: &mut Emitter)
 
 /// Sets where the test of an `if` and the end of its first branch lead.
 fn patch(out: &mut Emitter, test: usize, skip: usize)
-    requires test { test < length out.old.steps.items }
-    requires skip { skip < length out.old.steps.items }
+    requires test { test < length out.old.steps }
+    requires skip { skip < length out.old.steps }
     ensures { Patches out.old out.new test skip }
 {
     let end = out.steps.len();
-    out.steps[test] = Step::Unless(skip + 1);
-    out.steps[skip] = Step::Skip(end);
+    out.steps.set(test, Step::Unless(skip + 1));
+    out.steps.set(skip, Step::Skip(end));
 }
 
 /// Appends the jumps of a `br_table`: one to each of `depths`, and one to `other`.
@@ -196,9 +197,9 @@ fn emit_control(
     height: usize,
 ) -> Result<usize, AllocError>
     requires closed { ControlClosed «module».now (length out.old.labels) instruction.now }
-    requires bound { height ≤ length out.old.steps.items }
+    requires bound { height ≤ length out.old.steps }
     ensures placed { IfOk result (λ after. Emitted «module».now out.old out.new height after (control instruction.now)) }
-    ensures bound { IfOk result (λ after. after ≤ length out.new.steps.items) }
+    ensures bound { IfOk result (λ after. after ≤ length out.new.steps) }
 {
     match instruction {
         Control::Unreachable => {
@@ -241,9 +242,9 @@ fn emit_control(
 
 /// Returns the number of operands after the call of a function of this type.
 fn after_call(out: &Emitter, called: Option<&FuncType>, height: usize) -> usize
-    requires { height < length out.now.steps.items }
+    requires { height < length out.now.steps }
     ensures value { result ≡ height_after_call (option_copied called.entry) height }
-    ensures bound { result ≤ length out.now.steps.items }
+    ensures bound { result ≤ length out.now.steps }
 {
     match called {
         None => height,
@@ -263,9 +264,9 @@ fn emit_one(
     height: usize,
 ) -> Result<usize, AllocError>
     requires closed { Closed «module».now (length out.old.labels) (before instruction.now end) }
-    requires bound { height ≤ length out.old.steps.items }
+    requires bound { height ≤ length out.old.steps }
     ensures placed { IfOk result (λ after. Emitted «module».now out.old out.new height after (before instruction.now)) }
-    ensures bound { IfOk result (λ after. after ≤ length out.new.steps.items) }
+    ensures bound { IfOk result (λ after. after ≤ length out.new.steps) }
 {
     match instruction {
         Instr::Plain(plain) => {
@@ -314,7 +315,7 @@ fn emit_all(
     height: usize,
 ) -> Result<(), AllocError>
     requires closed { Closed «module».now (length out.old.labels) (code_of instructions.now) }
-    requires bound { height ≤ length out.old.steps.items }
+    requires bound { height ≤ length out.old.steps }
     ensures { OnOk result (EmittedAll «module».now out.old out.new height (code_of instructions.now)) }
 {
     let mut current_height = height;
@@ -353,7 +354,7 @@ fn emit_function(
 
 /// Appends two steps for each import, before the code of all functions, so that a host can call an import as it calls a function.
 fn emit_imports(out: &mut Emitter, module: &Module) -> Result<(), AllocError>
-    requires steps { out.old.steps.items ≡ [] }
+    requires steps { out.old.steps ≡ [] }
     requires labels { out.old.labels ≡ [] }
     requires few { length «module».now.imports < 2 ^ 32 }
     ensures { OnOk result (ImportsEmitted «module».now out.new) }
@@ -371,7 +372,7 @@ pub fn compile(alloc: Global, module: &Module) -> Result<FlatCode, AllocError>
     ensures { IfOk result (IsCompiled «module».now) }
 {
     let mut out = Emitter {
-        steps: Vec::new(alloc),
+        steps: Steps::new(alloc),
         targets: Vec::new(alloc),
         labels: Labels::new(alloc),
         home: Open {
@@ -392,7 +393,7 @@ pub fn compile(alloc: Global, module: &Module) -> Result<FlatCode, AllocError>
         home: _,
     } = out;
     Ok(FlatCode {
-        steps: Items::from_vec(steps),
+        steps,
         targets: Items::from_vec(targets),
         entries: Items::from_vec(entries),
     })

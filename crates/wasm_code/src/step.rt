@@ -1,5 +1,6 @@
 //! Flat code: the steps of all functions in one vector.
 
+use crate::op::Steps;
 use wasm_spec::{Items, Plain, ValueType};
 
 /// One step of flat code. Each step but `Skip`, `Import` and `End` counts as one executed instruction.
@@ -39,7 +40,7 @@ pub struct Target {
 /// first step of each function that the module defines.
 #[derive(Drop)]
 pub struct FlatCode {
-    pub steps: Items<Step>,
+    pub steps: Steps,
     pub targets: Items<Target>,
     pub entries: Items<usize>,
 }

@@ -1,14 +1,17 @@
-pub mod CallLaws
-pub mod Counts
-pub mod Events
-pub mod LeftLaws
-pub mod Measure
-pub mod MoveLaws
-pub mod PlainLaws
-pub mod Sim
-pub mod SimCalls
-pub mod SimCode
-pub mod SimStart
-pub mod Stack
-pub mod Spends
-pub mod Ways
+mod CallLaws
+mod Counts
+mod Events
+mod LeftLaws
+pub mod Lemmas
+mod Measure
+mod MoveLaws
+mod OpLaws
+mod PlainLaws
+mod QuickLaws
+mod Sim
+mod SimCalls
+mod SimCode
+mod SimStart
+mod Spends
+mod Stack
+mod Ways

@@ -1,5 +1,5 @@
 -- Plain instructions, where their operands are known.
-use Rattle.std.proofs.Common.{◌≡◌, ℕ, ◌<◌, ◌^◌, List, [], ◌∷◌, ◌++◌, Option, Some, None, refl, ap, ◌∙◌, subst, lit<}
+use Rattle.std.proofs.Common.{◌≡◌, ℕ, List, [], ◌∷◌, ◌++◌, Option, Some, None, refl, ap, ◌∙◌, subst}
 use Rattle.std.specs.Prelude.{Result, Ok, Err, IfOk, slice_get, slice_set}
 use Rattle.wasm_spec.specs.declared.types.ValueType.{ValueType}
 use Rattle.wasm_spec.specs.declared.types.ValueType.TheVariants.{I32, I64}
@@ -10,7 +10,7 @@ use Rattle.wasm_spec.specs.declared.instructions.Plain.{Plain}
 use Rattle.wasm_spec.specs.declared.values.Value.{Value}
 use Rattle.wasm_spec.specs.declared.instructions.Numeric.{Numeric}
 use Rattle.wasm_spec.specs.Code.{BlockType}
-use Rattle.wasm_spec.specs.Integers.{width, numeric_result}
+use Rattle.wasm_spec.specs.Integers.{numeric_result}
 use Rattle.wasm_spec.specs.Stores.{type_of, value_of, result_values, pop, Store}
 use Rattle.wasm_spec.specs.Effects.{Effect, Leaves, Grows, Faults, Lacks, with_some, gives, numeric_effect, chosen, loads}
 use Rattle.wasm_spec.specs.declared.values.Value.TheVariants as value
@@ -20,18 +20,9 @@ use Rattle.wasm_spec.specs.declared.instructions.Plain.TheVariants as op
 use Rattle.wasm_spec.specs.Typing.{store_type, numeric_signature}
 use Rattle.wasm_spec.specs.Memory.{loaded, stored}
 use Rattle.wasm_spec.specs.Effects.{stores, effect_of}
-use Rattle.wasm_num.specs.Operands.{FitsResult}
 use Rattle.wasm_machine.specs.Numbers.{HasTop, HasPair}
 use Rattle.wasm_machine.specs.Machine.{Machine, Fails, affects}
 use Rattle.wasm_machine.specs.MachineState.{CanApply}
-
-pub zero_fits : (t : ValueType) → 0 < 2 ^ width t
-zero_fits I32 = lit< tt
-zero_fits I64 = lit< tt
-
-pub fits_given : (r : BlockType) (t : ValueType) (n : ℕ) → r ≡ Some t → FitsResult r n → n < 2 ^ width t
-fits_given None t n e h = cc
-fits_given (Some u) t n e h = let q : u ≡ t = cc in subst (λ x. n < 2 ^ width x) q h
 
 pub given_values : (r : BlockType) (t : ValueType) (n : ℕ) (ops : List Value) → r ≡ Some t → result_values r n ++ ops ≡ value_of t n ∷ ops
 given_values r t n ops e = ap (λ x. result_values x n ++ ops) e

@@ -11,7 +11,7 @@ use Rattle.wasm_spec.specs.Typing.{function_type, result_of}
 use Rattle.wasm_spec.specs.Stores.{number_of, answered, with_bytes}
 use Rattle.wasm_spec.specs.Runs.{State, Run, Normal, Branch, Return, Trap, Spent, Stuck, Ask, carried, whole, onto}
 use Rattle.wasm_spec.specs.Meaning.{Calls, exec, arguments, with_arguments, back_in, finish, start_locals, enter, too_deep, ask, own_call, is_import, any_call, call_of}
-use Rattle.wasm_spec.proofs.SoundCalls.{own_function}
+use Rattle.wasm_spec.proofs.Lemmas.{own_function}
 use Rattle.wasm_code.specs.declared.step.Step.TheVariants as step
 use Rattle.wasm_code.specs.declared.step.FlatCode.{FlatCode}
 use Rattle.wasm_code.specs.Placed.{arity, home_of, IsFunctionAt, AreFunctionsAt, IsCompiled}

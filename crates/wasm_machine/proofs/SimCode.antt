@@ -26,7 +26,7 @@ use Rattle.wasm_spec.specs.Stores.{result_values, pop, Store, pages}
 use Rattle.wasm_spec.specs.Effects.{Effect, Leaves, Grows, Faults, Lacks, with_some, gives, numeric_effect, drop_effect, chosen, local_set, local_tee, global_set, loads, stores, grows, effect_of}
 use Rattle.wasm_spec.specs.Runs.{State, Run, Normal, Branch, Return, Trap, Spent, Stuck, Ask, has_room, charged_if, effect_run, then_do, leave, turns}
 use Rattle.wasm_spec.specs.Meaning.{Calls, at_zero, label_for, same_types, same_function_type, matching_call, typed_call, element_call, indirect_call, control_run, exec}
-use Rattle.wasm_spec.proofs.Sound.{same_types_are}
+use Rattle.wasm_spec.proofs.Lemmas.{same_types_are}
 use Rattle.std.proofs.lemmas.Bool.{and_parts}
 use Rattle.wasm_code.specs.declared.step.Step.TheVariants as step
 use Rattle.wasm_code.specs.declared.step.FlatCode.{FlatCode}

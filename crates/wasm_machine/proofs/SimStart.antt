@@ -17,9 +17,7 @@ use Rattle.wasm_spec.specs.Typing.{function_type, result_of, Typed}
 use Rattle.wasm_spec.specs.Stores.{number_of, answered, Store, with_bytes}
 use Rattle.wasm_spec.specs.Runs.{State, Run, Normal, Branch, Return, Trap, Spent, Stuck, Ask, carried, whole, onto}
 use Rattle.wasm_spec.specs.Meaning.{exec, arguments, with_arguments, back_in, finish, start_locals, enter, own_call, is_import, any_call, call_of, MOST_CALLS, beginning, meaning}
-use Rattle.wasm_spec.proofs.Sound.{CallGood}
-use Rattle.wasm_spec.proofs.SoundCalls.{own_function}
-use Rattle.wasm_spec.proofs.SoundStart.{Begins, meaning_good}
+use Rattle.wasm_spec.proofs.Lemmas.{Begins, CallGood, meaning_good, own_function}
 use Rattle.wasm_code.specs.declared.step.Step.TheVariants as step
 use Rattle.wasm_code.specs.declared.step.FlatCode.{FlatCode}
 use Rattle.wasm_code.specs.Placed.{home_of, IsFunctionAt, IsCompiled}

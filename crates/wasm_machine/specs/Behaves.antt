@@ -17,7 +17,8 @@ abbrev pub Stops : Module → FlatCode → Machine → Moved → Type 0
 Stops source flat m out = (n : Machine) × Comes source flat m n × (move source flat n ≡ out)
 
 -- the machine reaches a call of an import with this memory and budget, and n is the machine behind the call
-pub record StopsToAsk (source : Module) (flat : FlatCode) (m : Machine) (f : ℕ) (args memory : List ℕ) (meter : Meter) (r : BlockType) (n : Machine) : Type 0 where
+pub record StopsToAsk (source : Module) (flat : FlatCode) (m : Machine) (f : ℕ) (args memory : List ℕ) (meter : Meter)
+    (r : BlockType) (n : Machine) : Type 0 where
   pub stop : Machine
   pub comes : Comes source flat m stop
   pub asks : move source flat stop ≡ Asks f args r n

@@ -4,5 +4,6 @@ pub mod Lending
 pub mod Machine
 pub mod Numbers
 pub mod MachineState
+pub mod Quick
 pub mod Says
 pub mod Spending

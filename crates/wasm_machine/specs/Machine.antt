@@ -1,5 +1,6 @@
 -- The machine that runs flat code (own).
-use Rattle.std.specs.Prelude.{ℕ, zero, suc, ◌+◌, ◌-◌, nat_lt, min, List, [], ◌∷◌, ◌++◌, length, map, Option, Some, None, slice_get, Bool, true, false}
+use Rattle.std.specs.Prelude.{ℕ, zero, suc, ◌+◌, ◌-◌, nat_lt, min, List, [], ◌∷◌, ◌++◌, length, map, Option, Some, None}
+use Rattle.std.specs.Prelude.{slice_get, Bool, true, false}
 use Rattle.budget_meter.specs.declared.kind.Kind.TheVariants.{MemAlloc}
 use Rattle.budget_meter.specs.Meter.{Meter}
 use Rattle.wasm_spec.specs.declared.types.ValueType.TheVariants.{I32}
@@ -25,7 +26,8 @@ pub record Frame : Type 0 where
   pub pc : ℕ
   pub locals : List Value
 
--- the state of a run: the index of the next step, the operands of all open calls with the topmost first, the state of the innermost call, and the waiting calls
+-- the state of a run: the index of the next step, the operands of all open calls with the topmost first, the state of the
+-- innermost call, and the waiting calls
 pub record Machine : Type 0 where
   pub pc : ℕ
   pub operands : List Value
@@ -50,9 +52,11 @@ abbrev pub on_with : List Value → Machine → Machine
 on_with ops m = record m { pc = m.pc + 1; operands = ops }
 
 abbrev pub affects : Effect → Machine → Moved
-affects (Leaves ops locals store) m = Goes (record m { pc = m.pc + 1; operands = ops; state = record m.state { locals = locals; store = store } })
+affects (Leaves ops locals store) m =
+    Goes (record m { pc = m.pc + 1; operands = ops; state = record m.state { locals = locals; store = store } })
 affects (Grows bytes ops locals store) m =
-    charged MemAlloc bytes RunsOut m.state (λ s. Goes (record m { pc = m.pc + 1; operands = ops; state = record s { locals = locals; store = store } }))
+    charged MemAlloc bytes RunsOut m.state
+    (λ s. Goes (record m { pc = m.pc + 1; operands = ops; state = record s { locals = locals; store = store } }))
 affects (Faults kind) m = Traps kind m.state.meter
 affects Lacks m = Fails
 
@@ -113,16 +117,20 @@ enters (suc room) f entry args under m = Goes (record {
 abbrev pub calls_own : Option Function → Option ℕ → FuncType → Machine → Moved
 calls_own None entry t m = Fails
 calls_own (Some f) None t m = Fails
-calls_own (Some f) (Some entry) t m = taking (arguments (length t.params) [] m.operands) (λ args under. enters (room_of m.frames) f entry args under m)
+calls_own (Some f) (Some entry) t m =
+    taking (arguments (length t.params) [] m.operands) (λ args under. enters (room_of m.frames) f entry args under m)
 
 abbrev pub asks : FuncType → ℕ → Machine → Moved
-asks t f m = taking (arguments (length t.params) [] m.operands) (λ args under. Asks f (map number_of args) (result_of t) (on_with under m))
+asks t f m =
+    taking (arguments (length t.params) [] m.operands) (λ args under. Asks f (map number_of args) (result_of t) (on_with under m))
 
 -- the call of a function of the type, an import or a function of the module
 abbrev pub calls : Module → FlatCode → Bool → Option FuncType → ℕ → Machine → Moved
 calls source flat imported None f m = Fails
 calls source flat true (Some t) f m = asks t f m
-calls source flat false (Some t) f m = calls_own (slice_get source.functions (f - length source.imports)) (slice_get flat.entries (f - length source.imports)) t m
+calls source flat false (Some t) f m =
+    calls_own (slice_get source.functions (f - length source.imports))
+    (slice_get flat.entries (f - length source.imports)) t m
 
 -- the call of the function of the index
 abbrev pub calls_at : Module → FlatCode → ℕ → Machine → Moved
@@ -173,14 +181,19 @@ abbrev pub executes : Module → FlatCode → Step → Machine → Moved
 executes source flat (step.Plain p) m = affects (effect_of p m.operands m.state.locals m.state.store) m
 executes source flat step.Unreachable m = Traps Unreachable m.state.meter
 executes source flat step.Pass m = Goes (on_with m.operands m)
-executes source flat (step.Unless to) m = pop Fails I32 m.operands (λ n ops. Goes (record m { pc = at_zero n to (m.pc + 1); operands = ops }))
+executes source flat (step.Unless to) m =
+    pop Fails I32 m.operands (λ n ops. Goes (record m { pc = at_zero n to (m.pc + 1); operands = ops }))
 executes source flat (step.Jump id n) m = jumps (slice_get flat.targets id) n m
 executes source flat (step.JumpIf id n) m =
-    pop Fails I32 m.operands (λ v ops. at_zero v (Goes (on_with ops m)) (jumps (slice_get flat.targets id) n (record m { operands = ops })))
+    pop Fails I32 m.operands (λ v ops. at_zero v (Goes (on_with ops m))
+    (jumps (slice_get flat.targets id) n (record m { operands = ops })))
 executes source flat (step.Table count) m =
-    pop Fails I32 m.operands (λ v ops. jumps_by flat (slice_get flat.steps (m.pc + 1 + min v count)) (record m { operands = ops }))
+    pop Fails I32 m.operands (λ v ops. jumps_by flat (slice_get flat.steps (m.pc + 1 + min v count))
+    (record m { operands = ops }))
 executes source flat (step.Call f) m = calls_at source flat f m
-executes source flat (step.CallIndirect t) m = pop Fails I32 m.operands (λ v ops. calls_indirect source flat (slice_get source.types t) v (record m { operands = ops }))
+executes source flat (step.CallIndirect t) m =
+    pop Fails I32 m.operands (λ v ops. calls_indirect source flat (slice_get source.types t) v
+    (record m { operands = ops }))
 executes source flat _ m = Fails
 
 abbrev pub moves_if : Bool → Module → FlatCode → Step → Machine → Moved
@@ -196,4 +209,8 @@ move source flat m = moves source flat (slice_get flat.steps m.pc) m
 
 -- goes on with an import's result, and the memory and budget after the import's call
 abbrev pub resumed : BlockType → ℕ → List ℕ → Meter → Machine → Machine
-resumed r v bytes b m = record m { operands = answered r v ++ m.operands; state = record m.state { store = with_bytes bytes m.state.store; meter = b } }
+resumed r v bytes b m =
+    record m {
+      operands = answered r v ++ m.operands;
+      state = record m.state { store = with_bytes bytes m.state.store; meter = b };
+    }

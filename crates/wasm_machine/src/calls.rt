@@ -4,7 +4,8 @@ ghost use Rattle.std.specs.Prelude.{◌≡◌, ◌<◌, ◌≤◌, ◌^◌, ◌+
 ghost use Rattle.wasm_spec.specs.Typing.{function_type};
 ghost use Rattle.wasm_spec.specs.Stores.{number_of, zero_of};
 ghost use Rattle.wasm_spec.specs.Meaning.{same_types, same_function_type, is_import, start_locals};
-ghost use Rattle.wasm_machine.specs.Machine.{asks, calls_own, calls, calls_at, calls_typed, calls_element, calls_indirect, asks_from_outside};
+ghost use Rattle.wasm_machine.specs.Machine.{asks, calls_own, calls, calls_at, calls_typed, calls_element, calls_indirect};
+ghost use Rattle.wasm_machine.specs.Machine.{asks_from_outside};
 ghost use Rattle.wasm_machine.specs.MachineState.{CanMove, Moves};
 
 use crate::frames::Waiting;
@@ -47,10 +48,8 @@ fn numbers(alloc: Global, values: &[Value]) -> Result<Vec<u64>, AllocError>
 fn push_zeros(locals: &mut Vec<Value>, group: Locals) -> Result<(), AllocError>
     ensures { OnOk result (locals.new.items ≡ locals.old.items ++ replicate group.count (zero_of group.value_type)) }
 {
-    for _ in 0..group.count {
-        locals.push(zero_of(group.value_type))?;
-    }
-    Ok(())
+    let length = locals.len() + group.count as usize;
+    locals.resize(length, zero_of(group.value_type))
 }
 
 /// Pushes the initial values of a function's own locals behind its arguments.
@@ -149,7 +148,8 @@ fn call_own(
     requires own { length source.now.imports ≤ function_index }
     requires pc { machine.old.pc < 2 ^ 63 }
     requires moves { CanMove (calls source.now code.now false (Some func_type.now) function_index) machine.old }
-    ensures { IfOk result (λ o. Moves (calls source.now code.now false (Some func_type.now) function_index) machine.old o machine.new) }
+    ensures { IfOk result (λ o. Moves (calls source.now code.now false (Some func_type.now) function_index)
+        machine.old o machine.new) }
 {
     let own = function_index as usize - source.imports.as_slice().len();
     match source.functions.as_slice().get(own) {
@@ -170,8 +170,10 @@ fn call_of_type(
     func_type: &FuncType,
 ) -> Result<Outcome, AllocError>
     requires pc { machine.old.pc < 2 ^ 63 }
-    requires moves { CanMove (calls source.now code.now (is_import source.now function_index) (Some func_type.now) function_index) machine.old }
-    ensures { IfOk result (λ o. Moves (calls source.now code.now (is_import source.now function_index) (Some func_type.now) function_index) machine.old o machine.new) }
+    requires moves { CanMove (calls source.now code.now (is_import source.now function_index) (Some func_type.now) function_index)
+        machine.old }
+    ensures { IfOk result (λ o. Moves (calls source.now code.now (is_import source.now function_index)
+        (Some func_type.now) function_index) machine.old o machine.new) }
 {
     if is_import(source, function_index) {
         ask(machine, function_index, func_type)
@@ -206,8 +208,10 @@ fn call_typed(
     wanted: &FuncType,
 ) -> Result<Outcome, AllocError>
     requires pc { machine.old.pc < 2 ^ 63 }
-    requires moves { CanMove (calls_typed source.now code.now wanted.now (function_type source.now function_index) function_index) machine.old }
-    ensures { IfOk result (λ o. Moves (calls_typed source.now code.now wanted.now (function_type source.now function_index) function_index) machine.old o machine.new) }
+    requires moves { CanMove (calls_typed source.now code.now wanted.now (function_type source.now function_index) function_index)
+        machine.old }
+    ensures { IfOk result (λ o. Moves (calls_typed source.now code.now wanted.now
+        (function_type source.now function_index) function_index) machine.old o machine.new) }
 {
     match function_type(source, function_index) {
         None => unreachable!(),
@@ -265,7 +269,8 @@ pub fn call_import(
 ) -> Result<Outcome, AllocError>
     requires pc { machine.old.pc < 2 ^ 63 }
     requires moves { CanMove (asks_from_outside (function_type source.now function_index) function_index) machine.old }
-    ensures { IfOk result (λ o. Moves (asks_from_outside (function_type source.now function_index) function_index) machine.old o machine.new) }
+    ensures { IfOk result (λ o. Moves (asks_from_outside (function_type source.now function_index) function_index)
+        machine.old o machine.new) }
 {
     match function_type(source, function_index) {
         None => unreachable!(),

@@ -32,3 +32,15 @@ pub enum Outcome {
     /// The run calls the import of this index with these arguments; its result has this type.
     Asks(u32, Vec<u64>, Option<ValueType>),
 }
+
+/// The outcome of a step that neither calls nor returns.
+#[derive(Clone, Copy, PartialEq, Eq, Debug)]
+pub enum Quick {
+    /// The next step follows.
+    Goes,
+    Traps(TrapKind),
+    /// The budget cannot pay for the instruction.
+    RunsOut,
+    /// There was no memory for the operands.
+    NoMemory,
+}

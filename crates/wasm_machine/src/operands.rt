@@ -1,6 +1,7 @@
 //! The operand stack of all open calls.
 
-ghost use Rattle.std.specs.Prelude.{◌≡◌, ◌<◌, ◌≤◌, List, [], ◌∷◌, ◌++◌, drop, length, map, reverse, slice_get, Some, IsSome, OnOk, OnErr, IfOk};
+ghost use Rattle.std.specs.Prelude.{◌≡◌, ◌<◌, ◌≤◌, List, [], ◌∷◌, ◌++◌, drop, length, map, reverse, slice_get, Some, IsSome};
+ghost use Rattle.std.specs.Prelude.{OnOk, OnErr, IfOk};
 ghost use Rattle.wasm_spec.specs.declared.values.Value.{Value as Value_};
 ghost use Rattle.wasm_spec.specs.declared.types.ValueType.TheVariants.{I32, I64};
 ghost use Rattle.wasm_spec.specs.declared.values.Value.TheVariants as value;

@@ -3,7 +3,7 @@
 ghost use Rattle.std.specs.Prelude.{◌≡◌, MatchBool, IsTrue};
 ghost use Rattle.wasm_machine.specs.MachineState.{Pays, CannotPay};
 
-use budget_meter::{Budget, Kind};
+use budget_meter::Budget;
 
 /// Counts and charges one instruction. Returns false and changes nothing if none is left or the budget has no room.
 pub fn pay(left: &mut u64, budget: &mut Budget) -> bool
@@ -11,7 +11,7 @@ pub fn pay(left: &mut u64, budget: &mut Budget) -> bool
         (Pays left.old budget.old left.new budget.new)
         (CannotPay left.old budget.old × (left.new ≡ left.old) × (budget.new ≡ budget.old)) }
 {
-    if *left == 0 || budget.charge(Kind::WasmInsnExec, 1).is_err() {
+    if *left == 0 || !budget.charge_instruction() {
         return false;
     }
     *left -= 1;

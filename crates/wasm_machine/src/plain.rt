@@ -2,24 +2,28 @@
 
 ghost use Rattle.std.specs.Prelude.{◌≡◌, ◌≢◌, ◌<◌, ◌^◌, ◌∷◌, List, slice_get, IfOk, OnOk, IfSome, Some, None};
 ghost use Rattle.wasm_spec.specs.Integers.{width};
-ghost use Rattle.wasm_spec.specs.Typing.{numeric_signature, store_type};
+ghost use Rattle.wasm_spec.specs.Typing.{numeric_signature, store_type, converted_from, converted_to};
 ghost use Rattle.wasm_spec.specs.Stores.{value_of};
 ghost use Rattle.wasm_spec.specs.declared.types.Taken.TheVariants as taken;
 ghost use Rattle.wasm_spec.specs.declared.types.ValueType.TheVariants.{I32 as Narrow};
 ghost use Rattle.wasm_spec.specs.declared.values.Value.{Value as Operand};
 ghost use Rattle.wasm_spec.specs.Stores.{Store as Contents};
-ghost use Rattle.wasm_spec.specs.declared.instructions.Plain.TheVariants as op;
+ghost use Rattle.wasm_spec.specs.declared.instructions.Plain.TheVariants as plain;
+ghost use Rattle.wasm_code.specs.Ops.{plain_of};
+ghost use Rattle.wasm_spec.specs.declared.instructions.Numeric.{Numeric as Operation};
+ghost use Rattle.wasm_spec.specs.declared.instructions.Numeric.TheVariants as numeric;
 ghost use Rattle.wasm_spec.specs.Effects.{effect_of, numeric_effect, gives};
-ghost use Rattle.wasm_num.specs.Operands.{operand_type, FitsResult};
 ghost use Rattle.wasm_machine.specs.Numbers.{HasTop, HasPair};
 ghost use Rattle.wasm_machine.specs.MachineState.{CanApply, IsEffect};
 
 use crate::operands::Operands;
 use crate::store::Store;
 use std::alloc::AllocError;
-use wasm_code::{converted_from, converted_to, load_type, store_type};
-use wasm_num::{load, numeric};
-use wasm_spec::{LoadKind, MemArg, Numeric, Plain, TrapKind, Value, ValueType};
+use wasm_code::{Op, converted_from, converted_to, load_type, store_type};
+use wasm_num::{binary, compared, convert, load, tested, unary};
+use wasm_spec::{
+    Binary, Comparison, Conversion, LoadKind, MemArg, TrapKind, Unary, Value, ValueType,
+};
 
 /// Returns the number as a value of the type.
 fn value_of(value_type: ValueType, number: u64) -> Value
@@ -44,49 +48,69 @@ fn pop_number(operands: &mut Operands, value_type: ValueType) -> u64
     }
 }
 
-/// Returns the result type of a numeric instruction.
-fn given_type(operation: Numeric) -> ValueType
-    ensures { (numeric_signature operation).gives ≡ Some result }
-{
-    match operation {
-        Numeric::Eqz(_) => ValueType::I32,
-        Numeric::Compare(_, _) => ValueType::I32,
-        Numeric::Unary(value_type, _) => value_type,
-        Numeric::Binary(value_type, _) => value_type,
-        Numeric::Convert(conversion) => converted_to(conversion),
-    }
-}
-
-/// Pushes the result of a numeric instruction, or returns its trap if it has no result.
+/// Pushes the result of a numeric instruction, which has the type, or returns its trap if it has no result.
+#[tactic(auto, using(crate::proofs::PlainLaws::given_values))]
 fn give(
-    operation: Numeric,
+    given: ValueType,
     number: Option<u64>,
     operands: &mut Operands,
 ) -> Result<Option<TrapKind>, AllocError>
-    requires { IfSome number (FitsResult (numeric_signature operation).gives) }
-    ensures { IfOk result (λ trap. (locals : List Operand) (store : Contents) → IsEffect (gives operation number operands.old locals store) trap operands.new locals store) }
+    requires { IfSome number (λ n. n < 2 ^ width given) }
+    ensures { IfOk result (λ trap. (o : Operation) (locals : List Operand) (store : Contents)
+        → (numeric_signature o).gives ≡ Some given
+        → IsEffect (gives o number operands.old locals store) trap operands.new locals store) }
 {
     match number {
         None => Ok(Some(TrapKind::Arithmetic)),
         Some(number) => {
-            operands.push(value_of(given_type(operation), number))?;
+            operands.push(value_of(given, number))?;
             Ok(None)
         }
     }
 }
 
-/// Executes a numeric instruction with one operand.
-fn apply_one(
-    operation: Numeric,
-    operand: ValueType,
-    operands: &mut Operands,
-) -> Result<Option<TrapKind>, AllocError>
-    requires same { operand_type operation ≡ operand }
-    requires top { HasTop operand operands.old }
-    ensures { IfOk result (λ trap. (locals : List Operand) (store : Contents) → IsEffect (numeric_effect operation (taken.One operand) operands.old locals store) trap operands.new locals store) }
+/// Executes a test.
+fn apply_test(operand: ValueType, operands: &mut Operands) -> Result<Option<TrapKind>, AllocError>
+    requires { HasTop operand operands.old }
+    ensures { IfOk result (λ trap. (locals : List Operand) (store : Contents)
+        → IsEffect (numeric_effect (numeric.Eqz operand)
+        (taken.One operand) operands.old locals store) trap operands.new locals store) }
 {
     let number = pop_number(operands, operand);
-    give(operation, numeric(operation, number, 0), operands)
+    give(ValueType::I32, Some(tested(operand, number)), operands)
+}
+
+/// Executes an operation on one operand.
+fn apply_unary(
+    operand: ValueType,
+    operation: Unary,
+    operands: &mut Operands,
+) -> Result<Option<TrapKind>, AllocError>
+    requires { HasTop operand operands.old }
+    ensures { IfOk result (λ trap. (locals : List Operand) (store : Contents)
+        → IsEffect (numeric_effect (numeric.Unary operand operation)
+        (taken.One operand) operands.old locals store) trap operands.new locals store) }
+{
+    let number = pop_number(operands, operand);
+    give(operand, Some(unary(operand, operation, number)), operands)
+}
+
+/// Executes a conversion from a type to a type.
+fn apply_conversion(
+    operation: Conversion,
+    operand: ValueType,
+    given: ValueType,
+    operands: &mut Operands,
+) -> Result<Option<TrapKind>, AllocError>
+    requires from { converted_from operation ≡ operand }
+    requires to { converted_to operation ≡ given }
+    requires top { HasTop operand operands.old }
+    ensures { IfOk result (λ trap. (locals : List Operand) (store : Contents)
+        → IsEffect (numeric_effect (numeric.Convert operation)
+        (taken.One operand) operands.old locals store) trap operands.new locals store) }
+{
+    let number = pop_number(operands, operand);
+    give(given, Some(convert(operation, number)), operands)
 }
 
 /// Executes a load.
@@ -97,7 +121,8 @@ fn apply_load(
     store: &Store,
 ) -> Result<Option<TrapKind>, AllocError>
     requires { HasTop Narrow operands.old }
-    ensures { IfOk result (λ trap. (locals : List Operand) → IsEffect (effect_of (op.Load kind argument) operands.old locals store.now) trap operands.new locals store.now) }
+    ensures { IfOk result (λ trap. (locals : List Operand)
+        → IsEffect (effect_of (plain.Load kind argument) operands.old locals store.now) trap operands.new locals store.now) }
 {
     let address = operands.pop32();
     match load(kind, store.memory(), address, argument.offset) {
@@ -109,19 +134,40 @@ fn apply_load(
     }
 }
 
-/// Executes a numeric instruction with two operands of one type.
-fn apply_two(
-    operation: Numeric,
+/// Executes a comparison.
+fn apply_comparison(
     operand: ValueType,
+    operation: Comparison,
     operands: &mut Operands,
 ) -> Result<Option<TrapKind>, AllocError>
-    requires same { operand_type operation ≡ operand }
-    requires top { HasPair operand operand operands.old }
-    ensures { IfOk result (λ trap. (locals : List Operand) (store : Contents) → IsEffect (numeric_effect operation (taken.Two operand operand) operands.old locals store) trap operands.new locals store) }
+    requires { HasPair operand operand operands.old }
+    ensures { IfOk result (λ trap. (locals : List Operand) (store : Contents)
+        → IsEffect (numeric_effect (numeric.Compare operand operation)
+        (taken.Two operand operand) operands.old locals store) trap operands.new locals store) }
 {
     let second = pop_number(operands, operand);
     let first = pop_number(operands, operand);
-    give(operation, numeric(operation, first, second), operands)
+    give(
+        ValueType::I32,
+        Some(compared(operand, operation, first, second)),
+        operands,
+    )
+}
+
+/// Executes an operation on two operands.
+fn apply_binary(
+    operand: ValueType,
+    operation: Binary,
+    operands: &mut Operands,
+) -> Result<Option<TrapKind>, AllocError>
+    requires { HasPair operand operand operands.old }
+    ensures { IfOk result (λ trap. (locals : List Operand) (store : Contents)
+        → IsEffect (numeric_effect (numeric.Binary operand operation)
+        (taken.Two operand operand) operands.old locals store) trap operands.new locals store) }
+{
+    let second = pop_number(operands, operand);
+    let first = pop_number(operands, operand);
+    give(operand, binary(operand, operation, first, second), operands)
 }
 
 /// Executes a store.
@@ -132,7 +178,8 @@ fn apply_store(
     store: &mut Store,
 ) -> Option<TrapKind>
     requires { HasPair (store_type kind) Narrow operands.old }
-    ensures { (locals : List Operand) → IsEffect (effect_of (op.Store kind argument) operands.old locals store.old) result operands.new locals store.new }
+    ensures { (locals : List Operand) → IsEffect
+        (effect_of (plain.Store kind argument) operands.old locals store.old) result operands.new locals store.new }
 {
     let number = pop_number(operands, store_type(kind));
     let address = operands.pop32();
@@ -142,29 +189,11 @@ fn apply_store(
     }
 }
 
-/// Executes a numeric instruction.
-fn apply_numeric(
-    operation: Numeric,
-    operands: &mut Operands,
-) -> Result<Option<TrapKind>, AllocError>
-    requires { (locals : List Operand) × (store : Contents) × CanApply (numeric_effect operation (numeric_signature operation).takes operands.old locals store) }
-    ensures { IfOk result (λ trap. (locals : List Operand) (store : Contents) → IsEffect (numeric_effect operation (numeric_signature operation).takes operands.old locals store) trap operands.new locals store) }
-{
-    match operation {
-        Numeric::Eqz(value_type) => apply_one(operation, value_type, operands),
-        Numeric::Compare(value_type, _) => apply_two(operation, value_type, operands),
-        Numeric::Unary(value_type, _) => apply_one(operation, value_type, operands),
-        Numeric::Binary(value_type, _) => apply_two(operation, value_type, operands),
-        Numeric::Convert(conversion) => {
-            apply_one(operation, converted_from(conversion), operands)
-        }
-    }
-}
-
 /// Executes `select`.
 fn apply_select(operands: &mut Operands) -> Result<(), AllocError>
-    requires { (locals : List Operand) × (store : Contents) × CanApply (effect_of op.Select operands.old locals store) }
-    ensures { OnOk result ((locals : List Operand) (store : Contents) → IsEffect (effect_of op.Select operands.old locals store) None operands.new locals store) }
+    requires { (locals : List Operand) × (store : Contents) × CanApply (effect_of plain.Select operands.old locals store) }
+    ensures { OnOk result ((locals : List Operand) (store : Contents)
+        → IsEffect (effect_of plain.Select operands.old locals store) None operands.new locals store) }
 {
     let number = operands.pop32();
     let second = operands.pop();
@@ -183,48 +212,58 @@ fn local_at(locals: &[Value], index: u32) -> Option<Value>
     locals.get(index as usize).copied()
 }
 
-/// Executes a plain instruction other than `memory.grow`. Returns the trap if it traps.
+/// Executes an instruction other than `memory.grow` that never branches. Returns the trap if it traps.
 pub fn apply(
-    plain: Plain,
+    op: &Op,
     operands: &mut Operands,
     locals: &mut Vec<Value>,
     store: &mut Store,
 ) -> Result<Option<TrapKind>, AllocError>
-    requires other { plain ≢ op.MemoryGrow }
-    requires able { CanApply (effect_of plain operands.old locals.old.items store.old) }
-    ensures { IfOk result (λ trap. IsEffect (effect_of plain operands.old locals.old.items store.old) trap operands.new locals.new.items store.new) }
+    requires other { plain_of op.now ≢ plain.MemoryGrow }
+    requires able { CanApply (effect_of (plain_of op.now) operands.old locals.old.items store.old) }
+    ensures { IfOk result (λ trap. IsEffect
+        (effect_of (plain_of op.now) operands.old locals.old.items store.old) trap operands.new locals.new.items store.new) }
 {
-    match plain {
-        Plain::Nop => {}
-        Plain::Drop => {
+    match *op {
+        Op::Nop => {}
+        Op::Drop => {
             let _ = operands.pop();
         }
-        Plain::Select => apply_select(operands)?,
-        Plain::LocalGet(index) => match local_at(locals, index) {
+        Op::Select => apply_select(operands)?,
+        Op::LocalGet(index) => match local_at(locals, index) {
             Some(value) => operands.push(value)?,
             None => unreachable!(),
         },
-        Plain::LocalSet(index) => locals[index as usize] = operands.pop(),
-        Plain::LocalTee(index) => {
+        Op::LocalSet(index) => locals[index as usize] = operands.pop(),
+        Op::LocalTee(index) => {
             let value = operands.pop();
             locals[index as usize] = value;
             operands.push(value)?;
         }
-        Plain::GlobalGet(index) => match store.global(index) {
+        Op::GlobalGet(index) => match store.global(index) {
             Some(value) => operands.push(value)?,
             None => unreachable!(),
         },
-        Plain::GlobalSet(index) => {
+        Op::GlobalSet(index) => {
             let value = operands.pop();
             store.set_global(index, value);
         }
-        Plain::Load(kind, argument) => return apply_load(kind, argument, operands, store),
-        Plain::Store(kind, argument) => return Ok(apply_store(kind, argument, operands, store)),
-        Plain::MemorySize => operands.push(Value::I32(store.pages()))?,
-        Plain::MemoryGrow => unreachable!(),
-        Plain::I32Const(number) => operands.push(Value::I32(number))?,
-        Plain::I64Const(number) => operands.push(Value::I64(number))?,
-        Plain::Numeric(operation) => return apply_numeric(operation, operands),
+        Op::Load(kind, argument) => return apply_load(kind, argument, operands, store),
+        Op::Store(kind, argument) => return Ok(apply_store(kind, argument, operands, store)),
+        Op::MemorySize => operands.push(Value::I32(store.pages()))?,
+        Op::I32Const(number) => operands.push(Value::I32(number))?,
+        Op::I64Const(number) => operands.push(Value::I64(number))?,
+        Op::Test(operand) => return apply_test(operand, operands),
+        Op::Compare(operand, operation) => return apply_comparison(operand, operation, operands),
+        Op::Unary(operand, operation) => return apply_unary(operand, operation, operands),
+        Op::Binary(operand, operation) => return apply_binary(operand, operation, operands),
+        Op::Convert(operation) => return apply_conversion(
+            operation,
+            converted_from(operation),
+            converted_to(operation),
+            operands,
+        ),
+        _ => unreachable!(),
     }
     Ok(None)
 }

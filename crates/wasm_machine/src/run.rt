@@ -7,8 +7,9 @@ ghost use Rattle.wasm_machine.specs.MachineState.{machine_of};
 ghost use Rattle.wasm_machine.specs.Says.{Says, IsLess};
 ghost use Rattle.wasm_machine.specs.Spending.{IsLater};
 
-use crate::machine::{MachineState, Outcome};
-use crate::step::step;
+use crate::machine::{MachineState, Outcome, Quick};
+use crate::quick::{is_quick, take_quick};
+use crate::step::{next_step, take};
 use budget_meter::Budget;
 use std::alloc::AllocError;
 use wasm_code::FlatCode;
@@ -40,16 +41,26 @@ pub fn run(
     ensures less { IfOk result (λ p. IsLess code.now p (machine_of machine.old budget.old) (machine_of machine.new budget.new)) }
 {
     loop {
-        match step(source, code, machine, budget)? {
-            Outcome::Goes => {}
-            Outcome::Ends => return Ok(Paused::Done(machine.operands.top())),
-            Outcome::Traps(kind) => return Ok(Paused::Trap(kind)),
-            Outcome::RunsOut => return Ok(Paused::Spent),
-            Outcome::Asks(function_index, args, result) => return Ok(Paused::HostCall(
-                function_index,
-                args,
-                result,
-            )),
+        let next = next_step(source, code, machine, budget);
+        if is_quick(next) {
+            match take_quick(source, code, machine, budget, next) {
+                Quick::Goes => {}
+                Quick::Traps(kind) => return Ok(Paused::Trap(kind)),
+                Quick::RunsOut => return Ok(Paused::Spent),
+                Quick::NoMemory => return Err(AllocError),
+            }
+        } else {
+            match take(source, code, machine, budget, next)? {
+                Outcome::Goes => {}
+                Outcome::Ends => return Ok(Paused::Done(machine.operands.top())),
+                Outcome::Traps(kind) => return Ok(Paused::Trap(kind)),
+                Outcome::RunsOut => return Ok(Paused::Spent),
+                Outcome::Asks(function_index, args, result) => return Ok(Paused::HostCall(
+                    function_index,
+                    args,
+                    result,
+                )),
+            }
         }
     }
 }

@@ -1,6 +1,7 @@
 //! The memory, globals and table of an instance.
 
-ghost use Rattle.std.specs.Prelude.{◌≡◌, ◌≤◌, ◌<◌, ◌+◌, ◌*◌, ◌%◌, ◌++◌, length, replicate, slice_get, slice_set, IsSome, Some, None, IfSome, IfNone, MatchOption, OnOk, OnErr, option_copied};
+ghost use Rattle.std.specs.Prelude.{◌≡◌, ◌≤◌, ◌<◌, ◌+◌, ◌*◌, ◌%◌, ◌++◌, length, replicate, slice_get, slice_set, IsSome, Some};
+ghost use Rattle.std.specs.Prelude.{None, IfSome, IfNone, MatchOption, OnOk, OnErr, option_copied};
 ghost use Rattle.wasm_spec.specs.Memory.{loaded, stored};
 ghost use Rattle.wasm_spec.specs.Stores.{PAGE, pages, with_bytes};
 ghost use Rattle.std.specs.Borrow.{sem};
@@ -30,7 +31,11 @@ impl Model for Store {
     ghost use Rattle.std.specs.Prelude.{◌≡◌, ◌≤◌, ◌*◌, ◌%◌, length};
     ghost use Rattle.wasm_spec.specs.Stores.{PAGE};
 
-    ghost view = { λ s. record { memory = record { bytes = s.memory.items; most_pages = s.most_pages }; globals = s.globals.items; table = s.table.items } };
+    ghost view = { λ s. record {
+      memory = record { bytes = s.memory.items; most_pages = s.most_pages };
+      globals = s.globals.items;
+      table = s.table.items;
+    } };
 
     ghost invariant = { λ s. (s.most_pages ≤ 64) × (length s.memory.items ≤ 64 * 65536) × (length s.memory.items % 65536 ≡ 0) };
 }
@@ -46,7 +51,11 @@ impl Store {
         requires few { most_pages ≤ 64 }
         requires small { length memory.items ≤ 64 * 65536 }
         requires whole { length memory.items % 65536 ≡ 0 }
-        ensures { result ≡ record { memory = record { bytes = memory.items; most_pages = most_pages }; globals = globals.items; table = table.items } }
+        ensures { result ≡ record {
+          memory = record { bytes = memory.items; most_pages = most_pages };
+          globals = globals.items;
+          table = table.items;
+        } }
     {
         Store {
             memory,
@@ -98,7 +107,8 @@ impl Store {
     ) -> Option<()>
         ensures { MatchOption result
             ((stored self.old.memory.bytes kind address offset number ≡ None) × (self.new ≡ self.old))
-            (λ _. (stored self.old.memory.bytes kind address offset number ≡ Some self.new.memory.bytes) × (self.new ≡ with_bytes self.new.memory.bytes self.old)) }
+            (λ _. (stored self.old.memory.bytes kind address offset number ≡ Some self.new.memory.bytes)
+            × (self.new ≡ with_bytes self.new.memory.bytes self.old)) }
     {
         wasm_num::store(kind, &mut self.memory, address, offset, number)
     }

@@ -1,7 +1,7 @@
-pub mod BitLaws
-pub mod ByteLaws
-pub mod CountLaws
-pub mod SignLaws
-pub mod SumLaws
-pub mod TurnLaws
-pub mod WidthLaws
+mod BitLaws
+mod ByteLaws
+mod CountLaws
+mod SignLaws
+mod SumLaws
+mod TurnLaws
+mod WidthLaws

@@ -13,4 +13,7 @@ mod two_operands;
 mod widths;
 
 pub use bytes::{load, store};
-pub use operations::numeric;
+pub use conversions::convert;
+pub use counts::unary;
+pub use operations::{compared, tested};
+pub use two_operands::binary;

@@ -1,34 +1,31 @@
-//! Numeric instructions (core section 4.4.1).
+//! Numeric instructions with a result of type `i32` (core section 4.4.1).
 
-ghost use Rattle.std.specs.Prelude.{◌≡◌, ◌<◌, ◌^◌, IfSome};
+ghost use Rattle.std.specs.Prelude.{◌≡◌, ◌<◌, ◌^◌, Some};
 ghost use Rattle.wasm_spec.specs.Integers.{numeric_result, width};
-ghost use Rattle.wasm_spec.specs.Typing.{numeric_signature};
-ghost use Rattle.wasm_num.specs.Operands.{operand_type, FitsResult};
+ghost use Rattle.wasm_spec.specs.declared.instructions.Numeric.TheVariants as numeric;
 
 use crate::comparisons::compare;
-use crate::conversions::convert;
-use crate::counts::unary;
-use crate::two_operands::binary;
-use wasm_spec::Numeric;
+use wasm_spec::{Comparison, ValueType};
 
-/// Returns the result of a numeric instruction on integers of its operands' type, or `None` if it traps.
-///
-/// The second operand is the topmost. An instruction with one operand ignores it.
+/// Returns the result of a test of an integer of the type: 1 if it is 0.
 #[inline]
 #[tactic(auto, unfolding(wasm_spec::specs::Integers::numeric_result))]
-pub fn numeric(operation: Numeric, first: u64, second: u64) -> Option<u64>
-    requires first { first < 2 ^ width (operand_type operation) }
-    requires second { second < 2 ^ width (operand_type operation) }
-    ensures value { result ≡ numeric_result operation first second }
-    ensures fits { IfSome result (FitsResult (numeric_signature operation).gives) }
+pub fn tested(value_type: ValueType, operand: u64) -> u64
+    requires { operand < 2 ^ width value_type }
+    ensures value { Some result ≡ numeric_result (numeric.Eqz value_type) operand 0 }
+    ensures fits { result < 2 ^ 32 }
 {
-    match operation {
-        Numeric::Eqz(_) => Some(u64::from(first == 0)),
-        Numeric::Compare(value_type, operation) => Some(u64::from(compare(
-            value_type, operation, first, second,
-        ))),
-        Numeric::Unary(value_type, operation) => Some(unary(value_type, operation, first)),
-        Numeric::Binary(value_type, operation) => binary(value_type, operation, first, second),
-        Numeric::Convert(operation) => Some(convert(operation, first)),
-    }
+    u64::from(operand == 0)
+}
+
+/// Returns the result of a comparison of two integers of the type: 1 if it holds. The second operand is the topmost.
+#[inline]
+#[tactic(auto, unfolding(wasm_spec::specs::Integers::numeric_result))]
+pub fn compared(value_type: ValueType, operation: Comparison, first: u64, second: u64) -> u64
+    requires first { first < 2 ^ width value_type }
+    requires second { second < 2 ^ width value_type }
+    ensures value { Some result ≡ numeric_result (numeric.Compare value_type operation) first second }
+    ensures fits { result < 2 ^ 32 }
+{
+    u64::from(compare(value_type, operation, first, second))
 }

@@ -6,8 +6,7 @@ use Rattle.wasm_spec.specs.Runs.{Run, Normal, Branch, Return, Trap, Spent, Stuck
 use Rattle.wasm_spec.specs.Meaning.{MOST_CALLS, call_of, beginning, meaning}
 use Rattle.wasm_spec.specs.Worlds.{Reply, Answers, Quits, Host, End, after_reply, interp}
 use Rattle.wasm_machine.specs.Spending.{IsLater}
-use Rattle.wasm_machine.proofs.LeftLaws.{begins_enough}
-use Rattle.wasm_machine.proofs.Counts.{Twins, Alike, call_alike}
+use Rattle.wasm_machine.proofs.Lemmas.{Alike, Twins, begins_enough, call_alike}
 use Rattle.wasm_run.specs.Laws.{IsLaterReply, NeverLowers, SameWithMore}
 
 module _ {W Q : Type 0} (host : Host W Q) (never : NeverLowers host) where

@@ -8,8 +8,7 @@ use Rattle.wasm_spec.specs.declared.values.TrapKind.{TrapKind}
 use Rattle.wasm_spec.specs.Runs.{Normal, Branch, Return, Trap, Spent, Stuck, Ask}
 use Rattle.wasm_spec.specs.Meaning.{meaning}
 use Rattle.wasm_spec.specs.Worlds.{Host, End, Returned, Trapped, Exhausted, Broken, after_reply, interp}
-use Rattle.wasm_spec.proofs.RunLaws.{IsWhole, interp_whole}
-use Rattle.wasm_spec.proofs.SoundStart.{begins, meaning_good}
+use Rattle.wasm_spec.proofs.Lemmas.{IsWhole, begins, interp_whole, meaning_good}
 use Rattle.wasm_run.specs.declared.instance.Event.TheVariants as event
 use Rattle.wasm_run.specs.Laws.{EventsFold, NeverBreaks}
 

@@ -1,7 +1,8 @@
-pub mod Counts
-pub mod Expressions
-pub mod Fold
-pub mod Starts
-pub mod Sums
-pub mod Suspends
-pub mod Walks
+mod Counts
+mod Expressions
+mod Fold
+pub mod Lemmas
+mod Starts
+mod Sums
+mod Suspends
+mod Walks

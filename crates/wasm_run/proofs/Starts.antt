@@ -8,11 +8,10 @@ use Rattle.wasm_spec.specs.declared.module.Module.{Module}
 use Rattle.wasm_spec.specs.Stores.{Store}
 use Rattle.wasm_spec.specs.Meaning.{is_import}
 use Rattle.wasm_spec.specs.Instances.{Ready, start_of}
-use Rattle.wasm_spec.proofs.SoundCalls.{own_function}
-use Rattle.wasm_spec.proofs.SoundStart.{begins}
+use Rattle.wasm_spec.proofs.Lemmas.{begins, own_function}
 use Rattle.wasm_code.specs.declared.step.FlatCode.{FlatCode}
 use Rattle.wasm_code.specs.Placed.{IsCompiled}
-use Rattle.wasm_machine.proofs.SimCalls.{function_at}
+use Rattle.wasm_machine.proofs.Lemmas.{function_at}
 use Rattle.wasm_run.specs.Suspended.{Suspended}
 use Rattle.wasm_run.specs.Able.{BeginsAt, BeginsIn, BeginsAs, Begins}
 

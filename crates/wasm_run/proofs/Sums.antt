@@ -21,7 +21,7 @@ use Rattle.wasm_spec.specs.Runs.{State, Run, Normal, Branch, Return, Trap, Spent
 use Rattle.wasm_spec.specs.Meaning.{Calls, at_zero, label_for, same_function_type, matching_call, typed_call, element_call, indirect_call, control_run, exec, arguments, with_arguments, back_in, finish, start_locals, enter, too_deep, ask, own_call, is_import, any_call, call_of, MOST_CALLS, beginning, meaning}
 use Rattle.wasm_spec.specs.Worlds.{Reply, Answers, Quits, Host, End, Returned, Trapped, Exhausted, Quit, Broken, after_reply, interp}
 use Rattle.wasm_machine.specs.Spending.{IsLater}
-use Rattle.wasm_machine.proofs.Spends.{same, later}
+use Rattle.wasm_machine.proofs.Lemmas.{later, same}
 use Rattle.wasm_run.specs.Laws.{IsLaterReply, NeverLowers, QuitsLater, EndsLater, SumsGrow}
 
 -- The sums at each end and call of the run are no lower than those of b. An answer that lowers none leads to such a run again.

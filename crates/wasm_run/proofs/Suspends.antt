@@ -15,15 +15,14 @@ use Rattle.wasm_spec.specs.Stores.{zero_of, Store}
 use Rattle.wasm_spec.specs.Runs.{Run, Normal, Branch, Return, Trap, Spent, Stuck, Ask}
 use Rattle.wasm_spec.specs.Meaning.{NamesImport, start_locals, is_import, meaning}
 use Rattle.wasm_spec.specs.Instances.{Ready, start_of}
-use Rattle.wasm_spec.proofs.Sound.{HasTypes, CallGood}
-use Rattle.wasm_spec.proofs.SoundStart.{begins, meaning_good}
+use Rattle.wasm_spec.proofs.Lemmas.{CallGood, HasTypes, begins, meaning_good}
 use Rattle.wasm_code.specs.declared.step.FlatCode.{FlatCode}
 use Rattle.wasm_code.specs.Placed.{IsCompiled}
 use Rattle.wasm_machine.specs.declared.run.Paused.TheVariants as paused
 use Rattle.wasm_machine.specs.Machine.{Frame, Machine}
 use Rattle.wasm_machine.specs.Behaves.{Behaves}
 use Rattle.wasm_machine.specs.Says.{Says}
-use Rattle.wasm_machine.proofs.SimStart.{own_starts, import_starts}
+use Rattle.wasm_machine.proofs.Lemmas.{import_starts, own_starts}
 use Rattle.wasm_run.specs.declared.instance.CallPhase.{CallPhase}
 use Rattle.wasm_run.specs.declared.instance.CallPhase.TheVariants as phase
 use Rattle.wasm_run.specs.declared.instance.Event.TheVariants as event

@@ -1,5 +1,6 @@
 -- The invariant of an instance (own).
-use Rattle.std.specs.Prelude.{◌≡◌, ℕ, ◌-◌, ◌*◌, ◌^◌, ◌<◌, Bool, List, [], length, map, reverse, replicate, true, false, Some, slice_get}
+use Rattle.std.specs.Prelude.{◌≡◌, ℕ, ◌-◌, ◌*◌, ◌^◌, ◌<◌, Bool, List, [], length, map, reverse, replicate, true, false, Some}
+use Rattle.std.specs.Prelude.{slice_get}
 use Rattle.budget_meter.specs.Meter.{Meter}
 use Rattle.wasm_spec.specs.declared.values.Value.{Value}
 use Rattle.wasm_spec.specs.declared.values.Value.TheVariants as value
@@ -24,7 +25,8 @@ pub record BeginsAt (i : Suspended) (pc : ℕ) (operands locals : List Value) : 
 -- at the start of a function of the module, with these values as its arguments
 abbrev pub BeginsIn : Suspended → ℕ → List Value → Type 0
 BeginsIn i index args =
-    (own : Function) × (entry : ℕ) × (slice_get i.source.functions index ≡ Some own) × (slice_get i.flat.entries index ≡ Some entry)
+    (own : Function) × (entry : ℕ) × (slice_get i.source.functions index ≡ Some own)
+    × (slice_get i.flat.entries index ≡ Some entry)
     × BeginsAt i entry [] (start_locals own args)
 
 -- before the call of an import that the module exports, or at the start of a function of the module
@@ -37,7 +39,9 @@ abbrev pub Begins : Suspended → ℕ → List ℕ → Type 0
 Begins i f args = BeginsAs (is_import i.source f) i f args
 
 abbrev pub Able : CallPhase → Suspended → Type 0
-Able (phase.Fresh f n) i = Typed i.source × IsCompiled i.source i.flat × ((export : List ℕ) × (start_of i.source export n ≡ Ready f i.store)) × Begins i f (replicate n 0)
+Able (phase.Fresh f n) i =
+    Typed i.source × IsCompiled i.source i.flat × ((export : List ℕ) × (start_of i.source export n ≡ Ready f i.store))
+    × Begins i f (replicate n 0)
 Able phase.Ready i = (go : Meter → Run) × ((b : Meter) → Goes i.source i.flat (standing i b) (go b))
 Able (phase.Waiting r) i = (0 < length i.operands) × ((on : (ℕ → List ℕ → Meter → Run)) × GoesOnWith r i on)
 Able phase.Over i = Unit {0}

@@ -20,7 +20,8 @@ use Rattle.wasm_run.specs.declared.instance.CallPhase.TheVariants as phase
 use Rattle.wasm_run.specs.declared.instance.Event.{Event}
 use Rattle.wasm_run.specs.declared.instance.Event.TheVariants as event
 
--- An instance: its module and code, and the machine's state. While the instance waits for an import's result, the topmost operand is reserved for it.
+-- An instance: its module and code, and the machine's state. While the instance waits for an import's result, the topmost
+-- operand is reserved for it.
 pub record Suspended : Type 0 where
   pub source : Module
   pub flat : FlatCode
@@ -33,17 +34,33 @@ pub record Suspended : Type 0 where
   pub left : ℕ
 
 abbrev pub suspended : Module → FlatCode → CallPhase → MachineState → Suspended
-suspended source flat phase r = record { source = source; flat = flat; phase = phase; pc = r.pc; operands = r.operands; locals = r.locals.items; frames = r.frames; store = r.store; left = r.left }
+suspended source flat phase r = record {
+  source = source;
+  flat = flat;
+  phase = phase;
+  pc = r.pc;
+  operands = r.operands;
+  locals = r.locals.items;
+  frames = r.frames;
+  store = r.store;
+  left = r.left;
+}
 
 -- the machine, with this budget
 abbrev pub standing : Suspended → Meter → Machine
-standing i b = record { pc = i.pc; operands = i.operands; state = record { locals = i.locals; store = i.store; left = i.left; meter = b }; frames = i.frames }
+standing i b = record {
+  pc = i.pc;
+  operands = i.operands;
+  state = record { locals = i.locals; store = i.store; left = i.left; meter = b };
+  frames = i.frames;
+}
 
 -- the machine without the operand that is reserved for an import's result
 abbrev pub behind : Suspended → Meter → Machine
 behind i b = standing (record i { operands = drop 1 i.operands }) b
 
--- a run of the module that returns one i64 where it ends normally, and calls imports with as many arguments as they have parameters
+-- a run of the module that returns one i64 where it ends normally, and calls imports with as many arguments as they have
+-- parameters
 abbrev pub GivesWord : Module → Run → Type 0
 GivesWord m (Normal ops s) = (n : ℕ) × (ops ≡ value.I64 n ∷ [])
 GivesWord m (Branch k ops s) = ⊥
@@ -51,7 +68,8 @@ GivesWord m (Return ops s) = ⊥
 GivesWord m (Trap kind meter) = Unit {0}
 GivesWord m (Spent meter) = Unit {0}
 GivesWord m Stuck = ⊥
-GivesWord m (Ask f args memory meter on) = NamesImport m f args × ((v : ℕ) (bytes : List ℕ) (b : Meter) → GivesWord m (on v bytes b))
+GivesWord m (Ask f args memory meter on) =
+    NamesImport m f args × ((v : ℕ) (bytes : List ℕ) (b : Meter) → GivesWord m (on v bytes b))
 
 -- from m the machine behaves as the run, which returns one i64
 abbrev pub Goes : Module → FlatCode → Machine → Run → Type 0
@@ -77,7 +95,8 @@ Tells (Trap kind meter) (event.Trap k) b i = (k ≡ kind) × (b ≡ meter)
 Tells (Trap kind meter) _ b i = ⊥
 Tells (Spent meter) event.Spent b i = b ≡ meter
 Tells (Spent meter) _ b i = ⊥
-Tells (Ask f args memory meter on) (event.HostCall g words) b i = (g ≡ f) × (words ≡ args) × (i.store.memory.bytes ≡ memory) × (b ≡ meter) × Awaits i on
+Tells (Ask f args memory meter on) (event.HostCall g words) b i =
+    (g ≡ f) × (words ≡ args) × (i.store.memory.bytes ≡ memory) × (b ≡ meter) × Awaits i on
 Tells (Ask f args memory meter on) _ b i = ⊥
 Tells (Branch k ops s) _ b i = ⊥
 Tells (Return ops s) _ b i = ⊥

@@ -1,8 +1,10 @@
 -- The errors of traps (own).
 use Rattle.wasm_spec.specs.declared.values.TrapKind.{TrapKind}
-use Rattle.wasm_spec.specs.declared.values.TrapKind.TheVariants.{Unreachable, OutOfBounds, Arithmetic, IndirectType, EmptyElement, CallDepth}
+use Rattle.wasm_spec.specs.declared.values.TrapKind.TheVariants.{Unreachable, OutOfBounds, Arithmetic, IndirectType}
+use Rattle.wasm_spec.specs.declared.values.TrapKind.TheVariants.{EmptyElement, CallDepth}
 use Rattle.value_types.specs.declared.error.ScErrorCode.{ScErrorCode}
-use Rattle.value_types.specs.declared.error.ScErrorCode.TheVariants.{InvalidAction, IndexBounds, ArithDomain, UnexpectedType, MissingValue, ExceededLimit}
+use Rattle.value_types.specs.declared.error.ScErrorCode.TheVariants.{InvalidAction, IndexBounds, ArithDomain, UnexpectedType}
+use Rattle.value_types.specs.declared.error.ScErrorCode.TheVariants.{MissingValue, ExceededLimit}
 use Rattle.value_types.specs.declared.error.ScError.{ScError}
 use Rattle.value_types.specs.declared.error.ScError.TheVariants.{WasmVm}
 

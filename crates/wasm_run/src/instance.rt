@@ -1,6 +1,7 @@
 //! Calls of exports, which pause at each call of an import.
 
-ghost use Rattle.std.specs.Prelude.{◌≡◌, ◌≤◌, ◌<◌, ◌*◌, ◌++◌, ℕ, List, drop, length, replicate, slice_get, Option, Some, Ok, Err, IfOk, OnOk, OnErr};
+ghost use Rattle.std.specs.Prelude.{◌≡◌, ◌≤◌, ◌<◌, ◌*◌, ◌++◌, ℕ, List, drop, length, replicate, slice_get, Option, Some, Ok};
+ghost use Rattle.std.specs.Prelude.{Err, IfOk, OnOk, OnErr};
 ghost use Rattle.budget_meter.specs.Meter.{Meter};
 ghost use Rattle.wasm_spec.specs.declared.values.Value.TheVariants as value;
 ghost use Rattle.wasm_spec.specs.Stores.{answered};
@@ -145,7 +146,8 @@ impl<'a> Instance<'a> {
     /// is over.
     pub fn step_to(&mut self, budget: &mut Budget) -> Result<Event, AllocError>
         requires { self.old.phase ≡ CallPhase.Ready }
-        ensures tells { IfOk result (λ event. (go : Meter → Run) → Does self.old go → Tells (go budget.old) event budget.new self.new) }
+        ensures tells { IfOk result (λ event. (go : Meter → Run) → Does self.old go →
+            Tells (go budget.old) event budget.new self.new) }
         ensures stands { IfOk result (λ event. StandsAfter event self.new) }
         ensures names { IfOk result (EventNames self.old.source) }
         ensures spends { IsLater budget.old budget.new }
@@ -171,7 +173,8 @@ impl<'a> Instance<'a> {
     pub fn give(&mut self, answer: u64)
         requires { (r : BlockType) × (self.old.phase ≡ CallPhase.Waiting r) }
         ensures ready { self.new.phase ≡ CallPhase.Ready }
-        ensures goes_on { (on : (ℕ → List ℕ → Meter → Run)) → Awaits self.old on → Does self.new (on answer self.old.store.memory.bytes) }
+        ensures goes_on { (on : (ℕ → List ℕ → Meter → Run)) → Awaits self.old on →
+            Does self.new (on answer self.old.store.memory.bytes) }
         ensures work { work self.new ≡ work self.old }
         ensures store { self.new.store ≡ self.old.store }
         ensures source { self.new.source ≡ self.old.source }

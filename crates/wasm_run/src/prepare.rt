@@ -2,7 +2,8 @@
 
 ghost use Rattle.std.specs.Prelude.{◌≡◌, ◌≤◌, Some, IfOk};
 ghost use Rattle.wasm_spec.specs.Typing.{Typed};
-ghost use Rattle.wasm_spec.specs.Instances.{table_of, memory_of, empty_store, segments_fit, start_filled, start_function, start_of};
+ghost use Rattle.wasm_spec.specs.Instances.{table_of, memory_of, empty_store, segments_fit, start_filled, start_function};
+ghost use Rattle.wasm_spec.specs.Instances.{start_of};
 ghost use Rattle.wasm_run.specs.Begun.{IsStart, IsFirstStore};
 
 use crate::constants::first_values;
@@ -59,7 +60,8 @@ fn most_pages(limits: Option<ResizableLimits>) -> u32
 
 /// Returns whether all segments fit.
 fn segments_fit(source: &Module, globals: &[Value], table: &[Option<u32>], memory: &[u8]) -> bool
-    ensures { result ≡ segments_fit source.now (record { memory = record { bytes = memory.now; most_pages = 0 }; globals = globals.now; table = table.now }) }
+    ensures { result ≡ segments_fit source.now
+        (record { memory = record { bytes = memory.now; most_pages = 0 }; globals = globals.now; table = table.now }) }
 {
     elements_fit(globals, table, source.elements.as_slice())
         && data_fit(globals, memory, source.data.as_slice())

@@ -31,7 +31,8 @@ pub fn element_fits(globals: &[Value], table: &[Option<u32>], element: &Element)
 
 /// Returns whether all element segments fit.
 pub fn elements_fit(globals: &[Value], table: &[Option<u32>], elements: &[Element]) -> bool
-    ensures { result ≡ list_all (λ (e : Element_). fits table.now (offset_of globals.now e.offset) (length e.functions)) elements.now }
+    ensures { result ≡ list_all (λ (e : Element_). fits table.now (offset_of globals.now e.offset) (length e.functions))
+        elements.now }
 {
     elements
         .iter()
@@ -75,7 +76,8 @@ fn put_element(
     element: &Element,
 ) -> Result<(), AllocError>
     requires { fits table.old (offset_of globals.now element.now.offset) (length element.now.functions) ≡ true }
-    ensures { OnOk result (table.new ≡ put table.old (offset_of globals.now element.now.offset) (map Some element.now.functions)) }
+    ensures { OnOk result (table.new ≡ put table.old (offset_of globals.now element.now.offset)
+        (map Some element.now.functions)) }
 {
     match offset_of(globals, &element.offset) {
         None => unreachable!(),
@@ -94,7 +96,8 @@ pub fn put_elements(
     table: &mut [Option<u32>],
     elements: &[Element],
 ) -> Result<(), AllocError>
-    requires { list_all (λ (e : Element_). fits table.old (offset_of globals.now e.offset) (length e.functions)) elements.now ≡ true }
+    requires { list_all (λ (e : Element_). fits table.old (offset_of globals.now e.offset) (length e.functions)) elements.now
+        ≡ true }
     ensures { OnOk result (table.new ≡ with_elements globals.now table.old elements.now) }
 {
     for element in elements {

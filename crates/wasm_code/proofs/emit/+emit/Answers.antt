@@ -63,7 +63,7 @@ emit_one-returns-in_ok-emit_all-in-Loop-clause-placed t c =
     let inner = subst (λ x. EmittedAll m c.open_label-in-Loop.new.out c.emit_all-in-Loop.new.out h x) c.as_slice-in-Loop.ensures c.in_ok-emit_all-in-Loop.ensures in
     emitted_same m a e h h' (loop r body) (before c.args.instruction.now) (λ rest. ap (λ i. before i rest) c.in-Loop.is)
     (emitted_loop m a c.put-in-Loop.new.out c.open_label-in-Loop.new.out c.emit_all-in-Loop.new.out e r body c.len-start.result h h' c.in_ok-open_label-in-Loop.field-0
-    c.in_ok-put-in-Loop.ensures (c.len-start.ensures ∙ c.put-in-Loop.new.out.steps.ok.0) c.in_ok-open_label-in-Loop.ensures inner c.forget_label.ensures (c.higher-in-Loop.ensures ∙ ap (λ n. h + n) c.arity-in-Loop.ensures.value))
+    c.in_ok-put-in-Loop.ensures c.len-start.ensures c.in_ok-open_label-in-Loop.ensures inner c.forget_label.ensures (c.higher-in-Loop.ensures ∙ ap (λ n. h + n) c.arity-in-Loop.ensures.value))
 
 pub emit_one-returns-in_ok-emit_all-in-If-2-clause-placed :
     goal.emit_one-returns-in_ok-emit_all-in-If-2-clause-placed
@@ -78,4 +78,4 @@ emit_one-returns-in_ok-emit_all-in-If-2-clause-placed t c =
     let no = subst (λ x. EmittedAll m c.put-in-If-2.new.out c.emit_all-in-If-2.new.out below x) c.as_slice-in-If-2.ensures c.in_ok-emit_all-in-If-2.ensures in
     emitted_same m a c.close_label-in-If.new.out h h' (choose r c.in-If.yes c.in-If.no) (before c.args.instruction.now) (λ rest. ap (λ i. before i rest) c.in-If.is)
     (emitted_if m a c.put-in-If.new.out c.open_label-in-If.new.out c.emit_all-in-If.new.out c.put-in-If-2.new.out c.emit_all-in-If-2.new.out c.patch.new.out c.close_label-in-If.new.out r c.in-If.yes c.in-If.no c.len-test.result c.len-skip.result h below h' c.in_ok-target-in-If.target
-    c.saturating_sub-below-in-If.ensures (c.len-test.ensures ∙ a.steps.ok.0) c.in_ok-put-in-If.ensures c.in_ok-target-in-If.ensures yes (c.len-skip.ensures ∙ c.emit_all-in-If.new.out.steps.ok.0) c.in_ok-put-in-If-2.ensures no c.patch.ensures c.close_label-in-If.ensures (c.higher-in-If.ensures ∙ ap (λ n. below + n) c.arity-in-If.ensures.value))
+    c.saturating_sub-below-in-If.ensures c.len-test.ensures c.in_ok-put-in-If.ensures c.in_ok-target-in-If.ensures yes c.len-skip.ensures c.in_ok-put-in-If-2.ensures no c.patch.ensures c.close_label-in-If.ensures (c.higher-in-If.ensures ∙ ap (λ n. below + n) c.arity-in-If.ensures.value))

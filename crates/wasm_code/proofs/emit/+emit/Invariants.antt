@@ -15,5 +15,5 @@ decreases-emit_all l = 2 * size_of (code_of l.instructions.now) + 1
 abbrev pub invariant-emit_all-loop-instruction : goal.invariant-emit_all-loop-instruction
 invariant-emit_all-loop-instruction l = record {
   placed : Emitted l.module l.fn.out l.out l.height l.current_height (all_before (take l.instruction-index l.instructions));
-  bound : l.current_height ≤ length l.out.steps.items;
+  bound : l.current_height ≤ length l.out.steps;
 }

@@ -1,4 +1,4 @@
-use Rattle.std.proofs.Common.{◌≡◌, ◌+◌, [], ◌∷◌, ◌++◌, take, sym, ap, ◌∙◌, subst, arith}
+use Rattle.std.proofs.Common.{◌≡◌, ◌+◌, [], ◌∷◌, ◌++◌, take, refl, sym, ap, ◌∙◌, subst, arith}
 use Rattle.std.specs.List.{AllByRecursion}
 use Rattle.std.proofs.lemmas.List.{take_more, take_all}
 use Rattle.wasm_spec.specs.Typing.{FunctionTyped}
@@ -38,4 +38,4 @@ returns c =
     let es = c.loop-function.entries.items in
     let fs = c.as_slice-function-items.result.now in
     let all = subst (λ xs. Compiling m out xs es) (take_all c.loop-function.function-index fs (omega arith) ∙ c.as_slice-function-items.ensures) c.loop-function.invariant in
-    compiled m out es _ all c.from_vec.ensures c.from_vec-2.ensures c.from_vec-3.ensures
+    compiled m out es _ all refl c.from_vec.ensures c.from_vec-2.ensures

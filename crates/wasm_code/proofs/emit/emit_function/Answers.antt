@@ -1,4 +1,4 @@
-use Rattle.std.proofs.Common.{sym, ◌∙◌, subst}
+use Rattle.std.proofs.Common.{sym, subst}
 use Rattle.wasm_code.specs.Emitted.{EmittedAll, Opens, Closes}
 use Rattle.wasm_code.proofs.EmitLaws.{function_emitted}
 use Rattle.wasm_code.proofs.emit.emit_function.Goals as goal
@@ -18,4 +18,4 @@ returns c =
     (subst (λ x. Opens a b 0 x 0 id) r c.in_ok-target.ensures)
     (subst (λ x. EmittedAll m (record b { home = record { target = id; result = x; height = 0 } }) d 0 f.body) r body)
     (subst (λ x. Closes d c.close_label.new.out id x) r c.close_label.ensures)
-    c.in_ok-put.ensures (c.len-pc.ensures ∙ a.steps.ok.0)
+    c.in_ok-put.ensures c.len-pc.ensures

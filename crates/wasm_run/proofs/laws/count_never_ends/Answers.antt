@@ -1,5 +1,5 @@
 use Rattle.wasm_spec.specs.Runs.{Spent}
-use Rattle.wasm_machine.proofs.LeftLaws.{begins_enough, executed_is, executed_paid, later_enough}
+use Rattle.wasm_machine.proofs.Lemmas.{begins_enough, executed_is, executed_paid, later_enough}
 use Rattle.wasm_run.proofs.laws.count_never_ends.Goals as goal
 
 pub returns : goal.returns

@@ -1,4 +1,4 @@
-use Rattle.wasm_spec.proofs.RunLaws.{executed_spends}
+use Rattle.wasm_spec.proofs.Lemmas.{executed_spends}
 use Rattle.wasm_run.proofs.laws.each_spends.Goals as goal
 
 pub returns : goal.returns
