@@ -1,7 +1,8 @@
 -- The deepest record of each entry, as the program finds it.
-use Rattle.std.proofs.Common.{◌≡◌, ◌≢◌, ℕ, ◌+◌, ◌<◌, Bool, true, false, cond, ◌&&◌, eqb, List, [], ◌∷◌, ◌++◌, length, map, take, set, get_or, filter, fold, Option, Some, None, option_map, nat_lt, ◌⊎◌, inl, inr, refl, sym, ap, ◌∙◌, get_or-set_other, get_or-set_same}
+use Rattle.std.proofs.Common.{◌≡◌, ◌≢◌, ℕ, ◌+◌, ◌<◌, Bool, true, false, cond, ◌&&◌, eqb, List, [], ◌∷◌, ◌++◌, length, map, take, set, get_or, filter, fold, Option, Some, None, option_map, nat_lt, ◌⊎◌, inl, inr, refl, sym, ap, ◌∙◌, arith, get_or-set_other, get_or-set_same}
+use Rattle.std.specs.List.{starts_with}
 use Rattle.std.proofs.lemmas.List.{map_push, take_more, length-set}
-use Rattle.std.proofs.lemmas.Bool.Decides.{Decides-eqb}
+use Rattle.std.proofs.lemmas.Bool.Decides.{Decides-eqb, Decides-ltb}
 use Rattle.auth_trees.specs.declared.records.Record.{Record}
 use Rattle.auth_trees.specs.declared.tables.Deepest.{Deepest}
 use Rattle.auth_trees.specs.Pairs.{Pair, is_below, deeper}
@@ -86,3 +87,31 @@ deepest_more old new rs k r path e lt is within made had =
 pub as_long : (b : Bool) (old new : List (Option Deepest)) (i : ℕ) (v : Option Deepest) → new ≡ cond b (set old i v) old → length new ≡ length old
 as_long true old new i v e = ap length e ∙ length-set old i v
 as_long false old new i v e = ap length e
+
+-- ---- a record of the path itself, which is not above it
+
+and_false : (b : Bool) → (b && false) ≡ false
+and_false true = refl
+and_false false = refl
+
+not_less : (n : ℕ) → nat_lt n n ≡ false
+not_less n =
+    elim (true_or_false (nat_lt n n)) [
+      | inl t ↦ absurd (let less : n < n = (Decides-ltb n n).0 t in omega (arith, less))
+      | inr f ↦ f
+    ]
+
+pub own_path : (rs : List Record) (r : Record) (e : ℕ) → deepest_record (rs ++ r ∷ []) r.path e ≡ deepest_record rs r.path e
+own_path rs r e =
+    let above : is_below r.path r.path ≡ false =
+    ap (λ b. starts_with eqb r.path r.path && b) (not_less (length r.path)) ∙ and_false (starts_with eqb r.path r.path) in
+    let old = deepest_record rs r.path e in
+    step rs r r.path e
+    ∙ ap (λ b. cond (eqb r.entry e && b) (deeper_known old (known (flat r))) old) above
+    ∙ ap (λ b. cond b (deeper_known old (known (flat r))) old) (and_false (eqb r.entry e))
+
+-- ---- whether any entry has a deepest node
+
+pub none_of_none : (ds : List (Option Deepest)) (b : Bool) (i : ℕ) (v : Option Deepest) (new : List (Option Deepest)) (e : ℕ) → b ≡ false → new ≡ cond b (set ds i v) ds
+    → get_or ds e None ≡ None → get_or new e None ≡ None
+none_of_none ds b i v new e f made none = ap (λ (xs : List (Option Deepest)). get_or xs e None) (made ∙ ap (λ b. cond b (set ds i v) ds) f) ∙ none

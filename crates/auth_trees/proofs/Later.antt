@@ -10,7 +10,7 @@ use Rattle.auth_types.specs.Views.{tree_of}
 use Rattle.auth_types.specs.declared.auth_entry.AuthEntry.{AuthEntry}
 use Rattle.auth_trees.specs.declared.demand.Demand.TheVariants as demands
 use Rattle.auth_trees.specs.Pairs.{Pair, has_pair, deepest}
-use Rattle.auth_trees.specs.Demands.{Marked, same_function, authorises, first_from, open_below, by_child, by_root, chosen, may_authorise, is_caller, Choice, ByNode, ByCaller, ByNothing, choice_of, choice, answer, demand, paired, after_demand, restored, IsLater}
+use Rattle.auth_trees.specs.Demands.{Marked, same_function, authorises, first_from, open_below, by_child, by_root, chosen, may_authorise, is_caller, Choice, ByNode, ByCaller, ByNothing, ByNote, choice_of, choice, answer, demand, paired, after_demand, restored, IsLater}
 
 -- ---- the entry of an answer
 
@@ -106,11 +106,12 @@ later_choice : (s : Marked) (path : List ℕ) (c : Choice) → IsLater s (record
 later_choice s path (ByNode entry place) = (record { entry = entry; node = place; path = path } ∷ [], refl)
 later_choice s path ByCaller = later_itself s
 later_choice s path ByNothing = later_itself s
+later_choice s path (ByNote tree place) = later_itself s
 
 pub later_demand : (s : Marked) (path : List ℕ) (caller : Option ScAddress) (address : ScAddress) (f : Function) → IsLater s (after_demand s path caller address f)
 later_demand s path caller address f = later_choice s path (choice s path caller address f)
 
-take_past : (xs ys : List Pair) (n : ℕ) → length xs ≤ n → take n (xs ++ ys) ≡ xs ++ take (n - length xs) ys
+pub take_past : (xs ys : List Pair) (n : ℕ) → length xs ≤ n → take n (xs ++ ys) ≡ xs ++ take (n - length xs) ys
 take_past [] ys n h = let e : n ≡ n - 0 = omega arith in ap (λ k. take k ys) e
 take_past (x ∷ xs) ys zero h = absurd (omega arith)
 take_past (x ∷ xs) ys (suc n) h =

@@ -1,8 +1,12 @@
-pub mod Lists
-pub mod Listing
-pub mod Spots
-pub mod Walking
-pub mod Deepest
-pub mod Choosing
-pub mod Keeping
-pub mod Later
+mod Addresses
+mod Authorities
+mod Choosing
+mod Deepest
+mod Finding
+mod Keeping
+mod Later
+pub mod Lemmas
+mod Listing
+mod Lists
+mod Spots
+mod Walking

@@ -1,5 +1,5 @@
 -- The steps of the program's walks over rows of nodes and over entries.
-use Rattle.std.proofs.Common.{◌≡◌, ℕ, suc, ◌+◌, ◌<◌, ◌≤◌, Bool, true, false, cond, not, ◌&&◌, List, [], ◌∷◌, length, map, drop, get_or, Option, Some, None, slice_get, sym, ap, ap₂, ◌∙◌, subst, arith}
+use Rattle.std.proofs.Common.{◌≡◌, ℕ, suc, ◌+◌, ◌<◌, ◌≤◌, Bool, true, false, cond, not, ◌&&◌, List, [], ◌∷◌, length, map, drop, get_or, Option, Some, None, slice_get, refl, sym, ap, ap₂, ◌∙◌, subst, arith}
 use Rattle.std.specs.Option.{option_or, option_map, option_and_then}
 use Rattle.std.proofs.lemmas.Option.{same_Some, slice_get_within, slice_get-get_or}
 use Rattle.std.proofs.lemmas.List.{drop_more, drop_all, get_or-map, get_or_default, length-map}
@@ -120,6 +120,27 @@ unfolding child_in
 known_in nodes taken deepest address f entry known best e d =
     ap (λ (o : Option Deepest). option_map (λ id. record { entry = entry; node = id; first = false }) (option_and_then (open_below nodes taken f) o)) (sym d)
     ∙ sym (ap (λ b. cond b (option_map (λ id. record { entry = entry; node = id; first = false }) (option_and_then (open_below nodes taken f) (get_or deepest entry None))) None) e)
+
+nothing_of : (b : Bool) (o : Option Found) → o ≡ None → cond b o None ≡ None
+nothing_of true o e = e
+nothing_of false o e = refl
+
+pub no_deepest : (nodes : List Kept) (taken : List Bool) (deepest : List (Option Deepest)) (address : ScAddress) (f : Function) (entry : ℕ) (known : Option ScAddress)
+    → get_or deepest entry None ≡ None → child_in nodes taken deepest address f entry known ≡ None
+unfolding child_in
+no_deepest nodes taken deepest address f entry known none =
+    nothing_of (is_known address known) (option_map (λ id. record { entry = entry; node = id; first = false }) (option_and_then (open_below nodes taken f) (get_or deepest entry None)))
+    (ap (λ (o : Option Deepest). option_map (λ id. record { entry = entry; node = id; first = false }) (option_and_then (open_below nodes taken f) o)) none)
+
+pub no_child : (nodes : List Kept) (taken : List Bool) (deepest : List (Option Deepest)) (address : ScAddress) (f : Function) (j : ℕ) (xs : List (Option ScAddress))
+    → ((k : ℕ) → k < length xs → get_or deepest (j + k) None ≡ None) → first_from (child_in nodes taken deepest address f) j xs ≡ None
+no_child nodes taken deepest address f j [] none = refl
+no_child nodes taken deepest address f j (x ∷ xs) none =
+    let now : j + 0 ≡ j = omega arith in
+    let here : get_or deepest j None ≡ None = subst (λ n. get_or deepest n None ≡ None) now (none 0 (omega arith)) in
+    ap (λ (o : Option Found). option_or o (first_from (child_in nodes taken deepest address f) (suc j) xs)) (no_deepest nodes taken deepest address f j x here)
+    ∙ no_child nodes taken deepest address f (suc j) xs (λ k lt.
+    let later : j + suc k ≡ suc j + k = omega arith in subst (λ n. get_or deepest n None ≡ None) later (none (suc k) (omega (arith, lt))))
 
 -- ---- the first of all
 

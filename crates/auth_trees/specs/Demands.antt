@@ -147,11 +147,12 @@ abbrev pub is_caller : ScAddress → Option ScAddress → Bool
 is_caller address None = false
 is_caller address (Some caller) = same_address caller address
 
--- what meets a demand: a node of an entry, the direct caller, or nothing
+-- What meets a demand: a node of an entry, the direct caller, or nothing. A recorder notes it as a new node of one of its trees.
 pub data Choice : Type 0 where
   ByNode : (entry : ℕ) (place : List ℕ) → Choice
   ByCaller : Choice
   ByNothing : Choice
+  ByNote : (tree : ℕ) (place : List ℕ) → Choice
 
 abbrev pub choice_of : Option (ℕ × List ℕ) → Choice
 choice_of None = ByNothing
@@ -175,6 +176,7 @@ abbrev pub answer : Choice → Demand
 answer (ByNode entry place) = demands.Matched entry (is_root place)
 answer ByCaller = demands.ByInvoker
 answer ByNothing = demands.Denied
+answer (ByNote tree place) = demands.Noted
 
 abbrev pub demand : Marked → List ℕ → Option ScAddress → ScAddress → Function → Demand
 demand s path caller address function = answer (choice s path caller address function)
@@ -184,6 +186,7 @@ abbrev pub paired : List Pair → List ℕ → Choice → List Pair
 paired pairs path (ByNode entry place) = pairs ++ record { entry = entry; node = place; path = path } ∷ []
 paired pairs path ByCaller = pairs
 paired pairs path ByNothing = pairs
+paired pairs path (ByNote tree place) = pairs
 
 -- the state after the demand
 abbrev pub after_demand : Marked → List ℕ → Option ScAddress → ScAddress → Function → Marked

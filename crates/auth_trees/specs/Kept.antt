@@ -11,7 +11,7 @@ use Rattle.auth_trees.specs.Pairs.{Pair}
 use Rattle.auth_trees.specs.Demands.{Marked}
 use Rattle.auth_trees.specs.Listed.{Spot, spots}
 use Rattle.auth_trees.specs.Flat.{authoriser}
-use Rattle.auth_trees.specs.Ready.{IsReady}
+use Rattle.auth_trees.specs.Ready.{IsReady, IsCurrent}
 
 -- ---- how the logic stores pairs and the state
 
@@ -48,9 +48,11 @@ marked t source records = record { entries = t.entries.now; source = source; pai
 abbrev pub IsFit : List Spot → Record → Type 0
 IsFit nodes r = option_map (λ spot. spot.entry) (slice_get nodes r.node) ≡ Some r.entry
 
--- The tables are those of the entries. No node has two records, and there is room for a record of each node.
+-- The tables are those of the entries, and are marked for their path. No node has two records, and there is room for a record of
+-- each node.
 pub record IsKept (t : Tables) (source : AccountId) (records : List Record) (capacity : ℕ) : Type 0 where
   pub ready : IsReady t
+  pub current : IsCurrent records t
   pub addresses : t.addresses.items ≡ map (authoriser source) t.entries.now
   pub fits : AllByRecursion (IsFit (spots t.entries.now)) records
   pub distinct : IsDistinct nat_eq (map (λ r. r.node) records)

@@ -4,3 +4,6 @@ pub mod Listed
 pub mod Flat
 pub mod Ready
 pub mod Kept
+pub mod Noted
+pub mod Authorities
+pub mod Recording

@@ -21,12 +21,22 @@ pub record IsReady (t : Tables) : Type 0 where
   pub used : length t.used.items ≡ length t.entries.now
   pub deepest : length t.deepest.items ≡ length t.entries.now
 
+-- no entry has a deepest node if the tables say so
+abbrev pub KnowsNone : Tables → Type 0
+KnowsNone t =
+    t.any ≡ false → (entry : ℕ) → entry < length t.deepest.items → slice_index_or t.deepest.items entry None ≡ None
+
 -- the tables say which nodes and entries have records, and which nodes are the deepest above a path
 pub record IsMarked (records : List Record) (path : List ℕ) (t : Tables) : Type 0 where
   pub taken : (id : ℕ) → id < length t.taken.items → slice_index_or t.taken.items id false ≡ has_record records id
   pub used : (entry : ℕ) → entry < length t.used.items → slice_index_or t.used.items entry false ≡ has_entry records entry
   pub deepest : (entry : ℕ) → entry < length t.deepest.items
       → slice_index_or t.deepest.items entry None ≡ deepest_record records path entry
+  pub none : KnowsNone t
+
+-- the tables say so for the path that they have, if they have one
+abbrev pub IsCurrent : List Record → Tables → Type 0
+IsCurrent records t = (path : List ℕ) → t.path ≡ Some path → IsMarked records path t
 
 -- the deepest nodes are nodes
 abbrev pub AreWithin : Tables → Type 0

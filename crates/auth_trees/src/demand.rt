@@ -9,4 +9,8 @@ pub enum Demand {
     ByInvoker,
     /// Nothing.
     Denied,
+    /// Nothing, but a recorder noted that it has to be authorised. Only a recorder answers so.
+    Noted,
+    /// A recorder ran out of memory. Only a recorder answers so.
+    NoMemory,
 }

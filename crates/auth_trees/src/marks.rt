@@ -4,24 +4,18 @@ ghost use Rattle.std.specs.Prelude.{◌≡◌, ◌≤◌, [], length, IfOk, opti
 ghost use Rattle.std.specs.List.{slice_get};
 ghost use Rattle.auth_trees.specs.Demands.{demand, after_demand, restored};
 
+use crate::authority::Point;
 use crate::demand::Demand;
 use crate::entries::{is_caller, may_authorise};
 use crate::records::{Record, add};
 use crate::search::find;
-use crate::tables::{Tables, mark, prepare};
+use crate::tables::{Tables, mark, prepare, take};
 use auth_types::AuthEntry;
 use invoke_types::Function;
 use std::alloc::Global;
 use std::marker::Model;
 use value_types::{AccountId, ScAddress};
 use xdr_core::NoMemory;
-
-/// A snapshot of marks.
-#[derive(Clone, Copy, Debug, PartialEq, Eq)]
-pub struct Point {
-    /// The number of nodes that had met demands.
-    pub pairs: usize,
-}
 
 /// The authorisation entries of a transaction, and the nodes of their trees that met demands so far. Contracts see the entries,
 /// the source account, and the pairs of nodes and paths in the order in which they were made.
@@ -68,8 +62,10 @@ impl<'a> Marks<'a> {
     }
 
     /// Meets a demand for an address in the frame of a path, if anything does, and keeps the node that met it. The caller is the
-    /// contract that calls the frame directly; for a create it is the frame's own contract. Takes no memory, and time linear in
-    /// the nodes of all entries.
+    /// contract that calls the frame directly; for a create it is the frame's own contract. Takes no memory.
+    ///
+    /// The first demand of a frame, and the first one after a `restore`, takes time linear in the nodes of all entries and in
+    /// those that met demands. A later one of the frame goes through the entries.
     pub fn demand(
         &mut self,
         path: &[u64],
@@ -92,6 +88,7 @@ impl<'a> Marks<'a> {
             None => Demand::Denied,
             Some(found) => {
                 add(&mut self.records, found.entry, found.node, path);
+                take(&mut self.tables, found.entry, found.node);
                 Demand::Matched {
                     entry: found.entry,
                     first: found.first,
@@ -109,10 +106,12 @@ impl<'a> Marks<'a> {
 
     /// Takes a snapshot, in O(1). `restore` goes back to it.
     pub fn snapshot(&self) -> Point
-        ensures { result.pairs ≡ length self.now.pairs }
+        ensures pairs { result.pairs ≡ length self.now.pairs }
+        ensures demands { result.demands ≡ 0 }
     {
         Point {
             pairs: self.records.len(),
+            demands: 0,
         }
     }
 
@@ -121,6 +120,7 @@ impl<'a> Marks<'a> {
         requires { to.pairs ≤ length self.old.pairs }
         ensures { self.new ≡ restored to.pairs self.old }
     {
+        self.tables.path = None;
         self.records.truncate(to.pairs);
     }
 }

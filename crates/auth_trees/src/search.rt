@@ -6,7 +6,7 @@ ghost use Rattle.auth_trees.specs.Demands.{same_function};
 ghost use Rattle.auth_types.specs.Views.{forest_of};
 ghost use Rattle.auth_trees.specs.Listed.{kept};
 ghost use Rattle.auth_trees.specs.Flat.{IsRowAt, first_open, open_below, child_in, is_known};
-ghost use Rattle.auth_trees.specs.Ready.{IsReady, AreWithin, HaveChildren, child_found, root_found, found};
+ghost use Rattle.auth_trees.specs.Ready.{IsReady, AreWithin, KnowsNone, HaveChildren, child_found, root_found, found};
 
 use crate::entries::is_known;
 use crate::nodes::Node;
@@ -36,14 +36,14 @@ fn is_open(taken: bool, tree: &Invocation, function: &Function) -> bool
 /// Whether the root of an entry, which may meet demands for the known address, is unused and has this function.
 fn is_open_root(
     used: bool,
-    known: Option<ScAddress>,
+    known: &Option<ScAddress>,
     address: ScAddress,
     entry: &AuthEntry,
     function: &Function,
 ) -> bool
-    ensures { result ≡ (not used && is_known address known && same_function entry.now.root_invocation.function function.now) }
+    ensures { result ≡ (not used && is_known address known.now && same_function entry.now.root_invocation.function function.now) }
 {
-    !used && is_known(known, address) && entry.root_invocation.function == *function
+    !used && is_known(*known, address) && entry.root_invocation.function == *function
 }
 
 /// Finds the first tree in a row that is not taken and has this function. The nodes of the row stand from an index on.
@@ -113,20 +113,22 @@ fn child_in(
     ensures { result ≡ child_in
         (map kept tables.now.nodes.items) tables.now.taken.items tables.now.deepest.items address function.now entry known }
 {
-    if !is_known(known, address) {
-        return None;
-    }
     match tables.deepest[entry] {
         None => None,
-        Some(best) => child_of(
-            entry,
-            open_below(
-                tables.nodes.as_slice(),
-                tables.taken.as_slice(),
-                best,
-                function,
-            ),
-        ),
+        Some(best) => {
+            if !is_known(known, address) {
+                return None;
+            }
+            child_of(
+                entry,
+                open_below(
+                    tables.nodes.as_slice(),
+                    tables.taken.as_slice(),
+                    best,
+                    function,
+                ),
+            )
+        }
     }
 }
 
@@ -134,8 +136,12 @@ fn child_in(
 fn find_child(tables: &Tables<'_>, address: ScAddress, function: &Function) -> Option<Found>
     requires ready { IsReady tables.now }
     requires within { AreWithin tables.now }
+    requires none { KnowsNone tables.now }
     ensures { result ≡ child_found tables.now address function.now }
 {
+    if !tables.any {
+        return None;
+    }
     for (entry, known) in tables.addresses.iter().enumerate() {
         match child_in(tables, address, function, entry, *known) {
             None => (),
@@ -153,7 +159,7 @@ fn find_root(tables: &Tables<'_>, address: ScAddress, function: &Function) -> Op
     let mut id = 0;
     for (entry, item) in tables.entries.iter().enumerate() {
         let used = tables.used[entry];
-        let known = tables.addresses[entry];
+        let known = &tables.addresses[entry];
         if is_open_root(used, known, address, item, function) {
             return Some(Found {
                 entry,
@@ -170,6 +176,7 @@ fn find_root(tables: &Tables<'_>, address: ScAddress, function: &Function) -> Op
 pub(crate) fn find(tables: &Tables<'_>, address: ScAddress, function: &Function) -> Option<Found>
     requires ready { IsReady tables.now }
     requires within { AreWithin tables.now }
+    requires none { KnowsNone tables.now }
     ensures { result ≡ found tables.now address function.now }
 {
     match find_child(tables, address, function) {

@@ -1,14 +1,15 @@
 //! What is known of the entries, and of their nodes that met demands.
 
-ghost use Rattle.std.specs.Prelude.{◌≡◌, ℕ, ◌<◌, length, map, slice_set, All, IfOk, None, false, if◌then◌else◌};
+ghost use Rattle.std.specs.Prelude.{◌≡◌, ℕ, ◌<◌, ◌≤◌, length, map, slice_set, All, IfOk, Decides, Some, None, true, false};
+ghost use Rattle.std.specs.Prelude.{if◌then◌else◌};
 ghost use Rattle.std.specs.List.{slice_index_or};
 ghost use Rattle.auth_trees.specs.Pairs.{is_below};
 ghost use Rattle.auth_trees.specs.Flat.{has_record, has_entry, deepest_record, deeper_known, known, flat, authoriser};
-ghost use Rattle.auth_trees.specs.Ready.{IsReady, IsMarked};
+ghost use Rattle.auth_trees.specs.Ready.{IsReady, IsMarked, IsCurrent};
 
 use crate::entries::authorisers;
 use crate::nodes::{Node, list_entries};
-use crate::records::{Record, is_below};
+use crate::records::{Path, Record, is_below};
 use auth_types::AuthEntry;
 use std::alloc::Global;
 use value_types::{AccountId, ScAddress};
@@ -22,12 +23,16 @@ pub(crate) struct Tables<'a> {
     pub addresses: Vec<Option<ScAddress>>,
     /// The nodes of all entries: each before its children, these in order.
     pub nodes: Vec<Node<'a>>,
-    /// Whether each node has a record. Only a demand needs it, which computes it first, as the next two.
+    /// The path for which the rest is that of the records. It is `None` if the rest has to be computed anew.
+    pub path: Option<Path>,
+    /// Whether each node has a record.
     pub taken: Vec<bool>,
     /// Whether each entry has a record.
     pub used: Vec<bool>,
-    /// The deepest node of each entry above the demand's path.
+    /// The deepest node of each entry above the path.
     pub deepest: Vec<Option<Deepest>>,
+    /// Whether some entry may have a deepest node.
+    pub any: bool,
 }
 
 /// The deepest node of an entry that met a demand.
@@ -80,36 +85,46 @@ fn deeper(best: Option<Deepest>, later: Deepest) -> Option<Deepest>
     }
 }
 
-/// Keeps a record as the deepest of its entry, if it is above the path and not less deep than the one so far.
-fn note(deepest: &mut Vec<Option<Deepest>>, record: &Record, path: &[u64])
+/// Keeps a record as the deepest of its entry, if it is above the path and not less deep than the one so far. Returns whether it
+/// is above the path.
+fn note(deepest: &mut Vec<Option<Deepest>>, record: &Record, path: &[u64]) -> bool
     requires { record.now.entry < length deepest.old.items }
-    ensures { deepest.new.items ≡ (if is_below path.now record.now.path
+    ensures above { result ≡ is_below path.now record.now.path }
+    ensures deepest { deepest.new.items ≡ (if is_below path.now record.now.path
         then slice_set deepest.old.items record.now.entry
         (deeper_known (slice_index_or deepest.old.items record.now.entry None) (known (flat record.now)))
         else deepest.old.items) }
 {
     let above = record.path.as_slice();
-    if is_below(path, above) {
-        let later = Deepest {
-            node: record.node,
-            length: above.len(),
-        };
-        let entry = record.entry;
-        deepest[entry] = deeper(deepest[entry], later);
+    if !is_below(path, above) {
+        return false;
     }
+    let later = Deepest {
+        node: record.node,
+        length: above.len(),
+    };
+    let entry = record.entry;
+    deepest[entry] = deeper(deepest[entry], later);
+    true
 }
 
-/// Finds the deepest node of each entry above a path.
-fn find_deepest(deepest: &mut Vec<Option<Deepest>>, records: &[Record], path: &[u64])
+/// Finds the deepest node of each entry above a path. Returns whether some entry may have one.
+fn find_deepest(deepest: &mut Vec<Option<Deepest>>, records: &[Record], path: &[u64]) -> bool
     requires { All (λ r. r.entry < length deepest.old.items) records.now }
     ensures len { length deepest.new.items ≡ length deepest.old.items }
     ensures each { (entry : ℕ) → entry < length deepest.old.items
         → slice_index_or deepest.new.items entry None ≡ deepest_record records.now path.now entry }
+    ensures any { result ≡ false → (entry : ℕ) → entry < length deepest.old.items
+        → slice_index_or deepest.new.items entry None ≡ None }
 {
     deepest.fill(None);
+    let mut any = false;
     for record in records {
-        note(deepest, record, path);
+        if note(deepest, record, path) {
+            any = true;
+        }
     }
+    any
 }
 
 /// Makes the tables of entries.
@@ -121,6 +136,7 @@ pub(crate) fn prepare<'a>(
     ensures entries { IfOk result (λ tables. tables.entries.now ≡ entries.now) }
     ensures addresses { IfOk result (λ tables. tables.addresses.items ≡ map (authoriser source) entries.now) }
     ensures ready { IfOk result IsReady }
+    ensures unmarked { IfOk result (λ tables. tables.path ≡ None) }
 {
     let addresses = authorisers(alloc, entries, source)?;
     let nodes = list_entries(alloc, entries)?;
@@ -131,24 +147,75 @@ pub(crate) fn prepare<'a>(
         entries,
         addresses,
         nodes,
+        path: None,
         taken,
         used,
         deepest,
+        any: false,
     })
 }
 
 /// Marks what has a record, and finds the deepest node of each entry above a path.
-pub(crate) fn mark(tables: &mut Tables<'_>, records: &[Record], path: &[u64])
+fn mark_anew(tables: &mut Tables<'_>, records: &[Record], path: &[u64])
+    requires path { length path.now ≤ 130 }
     requires ready { IsReady tables.old }
     requires nodes { All (λ r. r.node < length tables.old.taken.items) records.now }
     requires entries { All (λ r. r.entry < length tables.old.used.items) records.now }
     ensures ready { IsReady tables.new }
     ensures marked { IsMarked records.now path.now tables.new }
+    ensures path { tables.new.path ≡ Some path.now }
     ensures entries { tables.new.entries.now ≡ tables.old.entries.now }
     ensures addresses { tables.new.addresses.items ≡ tables.old.addresses.items }
     ensures nodes { tables.new.nodes.items ≡ tables.old.nodes.items }
 {
     mark_nodes(&mut tables.taken, records);
     mark_entries(&mut tables.used, records);
-    find_deepest(&mut tables.deepest, records, path);
+    tables.any = find_deepest(&mut tables.deepest, records, path);
+    tables.path = Some(Path::new(path));
+}
+
+/// Whether tables are marked for a path.
+fn is_marked(known: &Option<Path>, path: &[u64]) -> bool
+    ensures { Decides result (known.now ≡ Some path.now) }
+{
+    match known {
+        None => false,
+        Some(known) => known.as_slice() == path,
+    }
+}
+
+/// Marks what has a record, and finds the deepest node of each entry above a path, unless the tables are marked for it.
+pub(crate) fn mark(tables: &mut Tables<'_>, records: &[Record], path: &[u64])
+    requires path { length path.now ≤ 130 }
+    requires ready { IsReady tables.old }
+    requires current { IsCurrent records.now tables.old }
+    requires nodes { All (λ r. r.node < length tables.old.taken.items) records.now }
+    requires entries { All (λ r. r.entry < length tables.old.used.items) records.now }
+    ensures ready { IsReady tables.new }
+    ensures marked { IsMarked records.now path.now tables.new }
+    ensures path { tables.new.path ≡ Some path.now }
+    ensures entries { tables.new.entries.now ≡ tables.old.entries.now }
+    ensures addresses { tables.new.addresses.items ≡ tables.old.addresses.items }
+    ensures nodes { tables.new.nodes.items ≡ tables.old.nodes.items }
+{
+    if !is_marked(&tables.path, path) {
+        mark_anew(tables, records, path);
+    }
+}
+
+/// Marks one node more, and its entry. The deepest nodes above the path stay, since a record of the path is not above it.
+pub(crate) fn take(tables: &mut Tables<'_>, entry: usize, node: usize)
+    requires entry { entry < length tables.old.used.items }
+    requires node { node < length tables.old.taken.items }
+    ensures taken { tables.new.taken.items ≡ slice_set tables.old.taken.items node true }
+    ensures used { tables.new.used.items ≡ slice_set tables.old.used.items entry true }
+    ensures deepest { tables.new.deepest.items ≡ tables.old.deepest.items }
+    ensures any { tables.new.any ≡ tables.old.any }
+    ensures path { tables.new.path ≡ tables.old.path }
+    ensures entries { tables.new.entries.now ≡ tables.old.entries.now }
+    ensures addresses { tables.new.addresses.items ≡ tables.old.addresses.items }
+    ensures nodes { tables.new.nodes.items ≡ tables.old.nodes.items }
+{
+    tables.taken[node] = true;
+    tables.used[entry] = true;
 }

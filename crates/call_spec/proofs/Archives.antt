@@ -19,7 +19,7 @@ use Rattle.ledger_spec.specs.LedgerMap.{LedgerMap, key_bytes}
 use Rattle.ledger_spec.specs.Seen.{live, absent, archived, seen, seen_of, is_temporary}
 use Rattle.ledger_spec.specs.Changes.{longer}
 use Rattle.stage_runs.specs.Maps.{has_bytes}
-use Rattle.stage_runs.proofs.Points.{left_false, right_false}
+use Rattle.stage_runs.proofs.Lemmas.{left_false, right_false}
 use Rattle.call_spec.specs.World.{Read, Judge, World, next_seq}
 use Rattle.call_spec.specs.Acts.{Archived, Out, Bad, world_of}
 use Rattle.call_spec.specs.Accesses.{put_kept}

@@ -9,9 +9,9 @@ use Rattle.wasm_spec.specs.Runs.{Run, Normal, Branch, Return, Trap, Spent as Spe
 use Rattle.wasm_spec.specs.Meaning.{meaning}
 use Rattle.wasm_spec.specs.Worlds.{Reply, Answers, Quits, Host, after_reply, interp}
 use Rattle.wasm_machine.specs.Spending.{IsLater}
-use Rattle.wasm_machine.proofs.Spends.{same, later}
+use Rattle.wasm_machine.proofs.Lemmas.{later, same}
 use Rattle.wasm_run.specs.Laws.{IsLaterReply, NeverLowers, QuitsLater, EndsLater}
-use Rattle.wasm_run.proofs.Sums.{sums_grow}
+use Rattle.wasm_run.proofs.Lemmas.{sums_grow}
 use Rattle.call_spec.specs.World.{World}
 use Rattle.call_spec.specs.Acts.{Out, Good, Bad, Undeclared, world_of, then_do}
 use Rattle.call_spec.specs.Frames.{HostCalls, asking, returned, runs}

@@ -34,6 +34,7 @@ use Rattle.host_spec.specs.Errors.{OTHER_TYPE}
 use Rattle.xdr_core.specs.Sizes.{capped}
 use Rattle.call_spec.specs.Acts.{Failed, Spent, Archived, Good, Bad, Undeclared, Act, fails}
 use Rattle.call_spec.specs.Errors.{NO_ENTRY, EXISTS, INVALID_EXTENSION, INVALID_STORAGE_INPUT, HIDDEN_ERROR, TOO_MANY_FRAMES, RESERVED_NAME, REENTERED, NO_FUNCTION, OTHER_SIZE}
+use Rattle.auth_trees.specs.Authorities.{demands_of, noted_back}
 use Rattle.call_spec.specs.World.{Access, outside, World, Env}
 use Rattle.call_spec.specs.Accesses.{leaves, refuses, by_seen, put_kept, entry_size}
 use Rattle.call_spec.specs.Keys.{data_key, data_entry, instance_key, instance_entry, code_entry}
@@ -132,6 +133,7 @@ bare instructions used = record {
   entries = empty;
   events = [];
   pairs = [];
+  noted = None;
   frame = outside;
   contracts = [];
   trace = [];
@@ -226,13 +228,13 @@ module _ (enter : Entered → Act Datum) (w : World) where
 
   -- ---- failures that leave the world as it was
 
-  failed-undone : (u : World) (e : ScError) → undone {A = Datum} w (Bad (Failed e) u) ≡ Bad (Failed e) (record u { entries = w.entries; events = w.events; pairs = w.pairs })
+  failed-undone : (u : World) (e : ScError) → undone {A = Datum} w (Bad (Failed e) u) ≡ Bad (Failed e) (record u { entries = w.entries; events = w.events; pairs = w.pairs; noted = noted_back (demands_of w.noted) u.noted })
   failed-undone u e = refl
 
   -- ---- caught calls
 
   -- of the failed call the budget, the accesses and the numbers stay
-  caught-hidden : (u : World) → caught w (Bad (Failed (errors.Storage codes_of.MissingValue)) u) ≡ Good (error HIDDEN_ERROR) (record u { entries = w.entries; events = w.events; pairs = w.pairs })
+  caught-hidden : (u : World) → caught w (Bad (Failed (errors.Storage codes_of.MissingValue)) u) ≡ Good (error HIDDEN_ERROR) (record u { entries = w.entries; events = w.events; pairs = w.pairs; noted = noted_back (demands_of w.noted) u.noted })
   caught-hidden u = refl
 
   spent-stays : (u : World) → caught w (Bad Spent u) ≡ Bad Spent u

@@ -30,7 +30,7 @@ use Rattle.ledger_spec.specs.Seen.{Seen, live, absent, archived, seen, seen_of}
 use Rattle.stage_runs.specs.Maps.{Bytes, has_bytes}
 use Rattle.stage_runs.specs.Whole.{nothing_used}
 use Rattle.call_spec.specs.Accesses.{entry_size}
-use Rattle.stage_runs.proofs.Points.{left_true, right_true}
+use Rattle.stage_runs.proofs.Lemmas.{left_true, right_true}
 use Rattle.call_spec.specs.World.{Read, Judge, Access, World, next_seq, Authority}
 use Rattle.call_spec.specs.Acts.{Failure, Failed, Spent, Archived, Out, Good, Bad, Undeclared, world_of}
 use Rattle.call_spec.specs.Footprints.{by_footprint, first_rejected}

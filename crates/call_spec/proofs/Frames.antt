@@ -15,6 +15,7 @@ use Rattle.wasm_spec.specs.Runs.{Run, Normal, Branch, Return, Trap, Spent as Spe
 use Rattle.wasm_spec.specs.Meaning.{meaning}
 use Rattle.host_spec.specs.Words.{meaning as word_meaning}
 use Rattle.host_spec.specs.VecRows.{all_given}
+use Rattle.auth_trees.specs.Authorities.{demands_of, noted_back}
 use Rattle.call_spec.specs.World.{Write, Judge, Frame, World, Authority}
 use Rattle.call_spec.specs.Acts.{Failure, Failed, Spent, Archived, Out, Good, Bad, Undeclared, Act, world_of, after, fails, lift}
 use Rattle.call_spec.specs.Accesses.{puts}
@@ -56,7 +57,7 @@ undone_quiet w (Undeclared a u) key h none = h none
 
 module _ (may : Judge) (m n : LedgerMap) (P : Watch) where
   undone_bad : (A : Type 0) (w : World) (q : LedgerMap) → Maps may m n w.entries q → (d : Failure) (u v : World) → Alike may m n u v → Same {A = A} may m n (undone w (Bad d u)) (undone (record w { entries = q }) (Bad d v))
-  undone_bad A w q maps (Failed e) u v h = (refl, (ap (λ (x : World). record x { entries = q; events = w.events; pairs = w.pairs }) h.0, maps, h.2))
+  undone_bad A w q maps (Failed e) u v h = (refl, (ap (λ (x : World). record x { entries = q; events = w.events; pairs = w.pairs; noted = noted_back (demands_of w.noted) x.noted }) h.0, maps, h.2))
   undone_bad A w q maps Spent u v h = (refl, h)
   undone_bad A w q maps (Archived key) u v h = (refl, h)
 
@@ -153,7 +154,7 @@ caught_quiet w (Undeclared a u) key h none = h none
 
 module _ (may : Judge) (m n : LedgerMap) (P : Watch) where
   caught_bad : (w : World) (q : LedgerMap) → Maps may m n w.entries q → (d : Failure) (u v : World) → Alike may m n u v → Same may m n (caught w (Bad d u)) (caught (record w { entries = q }) (Bad d v))
-  caught_bad w q maps (Failed e) u v h = (refl, (ap (λ (x : World). record x { entries = q; events = w.events; pairs = w.pairs }) h.0, maps, h.2))
+  caught_bad w q maps (Failed e) u v h = (refl, (ap (λ (x : World). record x { entries = q; events = w.events; pairs = w.pairs; noted = noted_back (demands_of w.noted) x.noted }) h.0, maps, h.2))
   caught_bad w q maps Spent u v h = (refl, h)
   caught_bad w q maps (Archived key) u v h = (refl, h)
 

@@ -1,18 +1,19 @@
-pub mod Sums
-pub mod Cuts
-pub mod Acts
-pub mod Accesses
-pub mod Frames
-pub mod Rows
-pub mod HostFunctions
-pub mod Stopping
-pub mod Framed
-pub mod Examples
-pub mod Each
-pub mod Written
-pub mod Kept
-pub mod Archives
-pub mod Growing
-pub mod Folding
-pub mod Changed
+mod Accesses
+mod Acts
+mod Archives
+mod Changed
+mod Cuts
+mod Each
+mod Examples
+mod Folding
+mod Framed
+mod Frames
+mod Growing
+mod HostFunctions
+mod Kept
+pub mod Lemmas
 mod Ran
+mod Rows
+mod Stopping
+mod Sums
+mod Written

@@ -45,8 +45,8 @@ use Rattle.call_spec.specs.Keys.{data_key, data_entry, instance_key, instance_en
 use Rattle.call_spec.specs.Rules.{Rule, applied, charged_then, answered, call_of, nothing, returning}
 use Rattle.call_spec.specs.Storage.{let_in, value_in, lengthens, extends, members, has, gets, deletes, by_storage, with_storage, put_in_copy, has_in_copy, found_in_copy, get_in_copy, del_in_copy, unless_backward, extending, put_contract_data, has_contract_data, get_contract_data, del_contract_data, extend_contract_data_ttl, extend_current_contract_instance_and_code_ttl}
 use Rattle.call_spec.specs.Events.{with_event, emits, update_event, contract_event, fail_with_error}
-use Rattle.auth_trees.specs.Pairs.{Pair}
-use Rattle.auth_trees.specs.Demands.{Choice, ByNode, ByCaller, ByNothing, choice}
+use Rattle.auth_trees.specs.Demands.{Choice, ByNode, ByCaller, ByNothing, ByNote}
+use Rattle.auth_trees.specs.Authorities.{choice_by}
 use Rattle.auth_types.specs.declared.credentials.AddressCredentials.{AddressCredentials}
 use Rattle.auth_types.specs.declared.credentials.Credentials.{Credentials}
 use Rattle.auth_types.specs.declared.credentials.Credentials.TheVariants.{SourceAccount, Address}
@@ -54,7 +54,7 @@ use Rattle.auth_types.specs.declared.invocation.Invocation.{Invocation}
 use Rattle.auth_types.specs.declared.auth_entry.AuthEntry.{AuthEntry}
 use Rattle.call_spec.specs.Entering.{argument_entry, only_if_let_in, entering}
 use Rattle.call_spec.specs.Asking.{nonce_key, uses, is_valid_until, check_args, check_of, checks, asks, proves}
-use Rattle.call_spec.specs.Demands.{with_pair, uses_node, proves_entry, proves_root, met, demanded, invocation, requires, require_auth, require_auth_for_args}
+use Rattle.call_spec.specs.Demands.{with_choice, keeps, proves_entry, proves_root, owes, met, demanded, invocation, requires, require_auth, require_auth_for_args}
 use Rattle.call_spec.specs.Frames.{Entered, Opener, is_void}
 use Rattle.call_spec.specs.Found.{with_entered, instance_in, instance_of_data, finds_instance, code_of_data, finds_code, code_at, with_module, with_start}
 use Rattle.call_spec.specs.Calling.{with_contract, is_running, Call, enters, looks_up, admits, calls_if, calls, call_by, call, try_call}
@@ -62,7 +62,7 @@ use Rattle.call_spec.specs.Creating.{CONSTRUCTOR, new_instance, is_there, puts_c
 use Rattle.call_spec.specs.Laws.{IsExtended}
 use Rattle.call_spec.proofs.Acts.{Sound, Watch, Local, Besides, good_local, fails_local, after_local, where_local, if_local, with_local, frame_local, sets_local, begins_local, lift_local, paying_local}
 use Rattle.call_spec.proofs.Accesses.{free, held, IsFineAt, Puts, PutsFound, Fair, Still, Gentle, GentleUnless, access_local}
-use Rattle.wasm_machine.proofs.Spends.{same}
+use Rattle.wasm_machine.proofs.Lemmas.{same}
 use Rattle.call_spec.proofs.Sums.{dispatched_rises, given_rises}
 use Rattle.call_spec.proofs.Frames.{OpenersLocal, opener_local, denying_local, catching_local}
 
@@ -112,8 +112,8 @@ storage_besides storage = record { apart = λ w q. refl; map = λ w. refl; trace
 event_besides : (event : ContractEvent) → Besides (with_event event)
 event_besides event = record { apart = λ w q. refl; map = λ w. refl; trace = λ w. refl }
 
-pair_besides : (pair : Pair) → Besides (with_pair pair)
-pair_besides pair = record { apart = λ w q. refl; map = λ w. refl; trace = λ w. refl }
+choice_besides : (path : List ℕ) (address : ScAddress) (function : Function) (c : Choice) → Besides (with_choice path address function c)
+choice_besides path address function c = record { apart = λ w q. refl; map = λ w. refl; trace = λ w. refl }
 
 code_besides : (code : Hash) → Besides (with_code code)
 code_besides code = record { apart = λ w q. refl; map = λ w. refl; trace = λ w. refl }
@@ -393,19 +393,23 @@ module _ (may : Judge) (m n : LedgerMap) (P : Watch) (sound : Sound may) (header
     proves_root_local entry [] = proves_entry_local _
     proves_root_local entry (i ∷ more) = good_local may m n P tt
 
-    met_local : (path : List ℕ) (d : Choice) → Local may m n P (met (free header authority) opener path d) (met (held may header authority) opener' path d)
-    met_local path ByCaller = good_local may m n P tt
-    met_local path (ByNode entry node) =
-        let pair : Pair = record { entry = entry; node = node; path = path } in
-        after_local may m n P (uses_node pair) (uses_node pair) (λ _. proves_root (free header authority) opener entry node) (λ _. proves_root (held may header authority) opener' entry node)
-        (sets_local may m n P (with_pair pair) tt (pair_besides pair) (λ q w. same w.meter)) (λ _. proves_root_local entry node)
-    met_local path ByNothing = fails_local may m n P _
+    owes_local : (c : Choice) → Local may m n P (owes (free header authority) opener c) (owes (held may header authority) opener' c)
+    owes_local ByCaller = good_local may m n P tt
+    owes_local (ByNode entry node) = proves_root_local entry node
+    owes_local ByNothing = fails_local may m n P _
+    owes_local (ByNote tree place) = good_local may m n P tt
+
+    met_local : (path : List ℕ) (address : ScAddress) (function : Function) (c : Choice)
+        → Local may m n P (met (free header authority) opener path address function c) (met (held may header authority) opener' path address function c)
+    met_local path address function c =
+        after_local may m n P (keeps path address function c) (keeps path address function c) (λ _. owes (free header authority) opener c) (λ _. owes (held may header authority) opener' c)
+        (sets_local may m n P (with_choice path address function c) tt (choice_besides path address function c) (λ q w. same w.meter)) (λ _. owes_local c)
 
     demanded_local : (path : List ℕ) (caller : Option ScAddress) (address : ScAddress) (function : Function)
         → Local may m n P (demanded (free header authority) opener path caller address function) (demanded (held may header authority) opener' path caller address function)
     demanded_local path caller address function =
-        with_local may m n P (λ w. choice (record { entries = authority.entries; source = authority.source; pairs = w.pairs }) path caller address function)
-        (met (free header authority) opener path) (met (held may header authority) opener' path) (λ w q. refl) (met_local path)
+        with_local may m n P (λ w. choice_by w.noted (record { entries = authority.entries; source = authority.source; pairs = w.pairs }) path caller address function)
+        (met (free header authority) opener path address function) (met (held may header authority) opener' path address function) (λ w q. refl) (met_local path address function)
 
     requires_local : (address : ScAddress) (args : List Datum) (f : Frame) → Local may m n P (requires (free header authority) opener address args f) (requires (held may header authority) opener' address args f)
     requires_local address args f = after_local may m n P _ _ _ _ (demanded_local f.path f.caller address (invocation f args)) (λ _. good_local may m n P nothing)

@@ -6,7 +6,7 @@ use Rattle.value_types.specs.Datum.{Datum}
 use Rattle.tx_xdr.specs.declared.transaction.Footprint.{Footprint}
 use Rattle.ledger_spec.specs.LedgerMap.{LedgerMap}
 use Rattle.stage_runs.specs.Maps.{has_bytes}
-use Rattle.stage_runs.proofs.Points.{right_true}
+use Rattle.stage_runs.proofs.Lemmas.{right_true}
 use Rattle.call_spec.specs.World.{Read, Extend, Write, Judge, Access, World}
 use Rattle.call_spec.specs.Acts.{Out, Good, Bad, Undeclared, world_of}
 use Rattle.call_spec.specs.Footprints.{by_footprint, allows, first_rejected, unless_before, up_to}

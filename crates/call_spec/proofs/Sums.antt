@@ -9,7 +9,7 @@ use Rattle.budget_meter.specs.declared.kind.Kind.TheVariants.{VisitObject, Dispa
 use Rattle.budget_meter.specs.Meter.{Meter, used_after}
 use Rattle.wasm_spec.specs.Runs.{has_room}
 use Rattle.wasm_machine.specs.Spending.{IsLater}
-use Rattle.wasm_machine.proofs.Spends.{same, later, charged_later}
+use Rattle.wasm_machine.proofs.Lemmas.{charged_later, later, same}
 use Rattle.value_types.specs.Datum.{Datum, void, string, symbol}
 use Rattle.value_types.specs.declared.error.ScError.{ScError}
 use Rattle.value_types.specs.declared.value.ScVal.{ScVal}

@@ -7,7 +7,7 @@ use Rattle.std.proofs.lemmas.Slice.Eq.{bytes_eq-Decides}
 use Rattle.tx_xdr.specs.declared.transaction.Footprint.{Footprint}
 use Rattle.ledger_spec.specs.LedgerMap.{key_bytes}
 use Rattle.stage_runs.specs.Maps.{has_bytes}
-use Rattle.stage_runs.proofs.Points.{both_false}
+use Rattle.stage_runs.proofs.Lemmas.{both_false}
 use Rattle.call_spec.specs.World.{AccessKind, Read, Extend, Write, Judge, Access}
 use Rattle.call_spec.specs.Acts.{world_of}
 use Rattle.call_spec.specs.WholeRuns.{all_allowed, whole}

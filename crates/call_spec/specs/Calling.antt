@@ -11,6 +11,7 @@ use Rattle.wasm_spec.specs.Instances.{start_of}
 use Rattle.module_loader.specs.Loading.{module_of}
 use Rattle.host_spec.specs.Errors.{OTHER_TYPE}
 use Rattle.host_spec.specs.Answers.{Answer}
+use Rattle.auth_trees.specs.Authorities.{demands_of, noted_back}
 use Rattle.call_spec.specs.Errors.{RESERVED_NAME, REENTERED}
 use Rattle.call_spec.specs.World.{Copied, World, Env}
 use Rattle.call_spec.specs.Acts.{Failed, Spent, Archived, Out, Good, Bad, Undeclared}
@@ -88,9 +89,14 @@ calls_for_host env opener call = calls_if true env opener call
 
 -- ---- failures that leave the world as it was, and caught calls
 
--- entries, events and authorisations as they were
+-- Entries, events and authorisations as they were. What a recorder noted is kept.
 abbrev pub restored : World → World → World
-restored before w = record w { entries = before.entries; events = before.events; pairs = before.pairs }
+restored before w = record w {
+  entries = before.entries;
+  events = before.events;
+  pairs = before.pairs;
+  noted = noted_back (demands_of before.noted) w.noted;
+}
 
 -- A failure leaves entries, events and authorisations as they were. The accesses and the budget stay as they are then.
 abbrev pub undone : {A : Type 0} → World → Out A → Out A

@@ -1,5 +1,5 @@
 -- Module a: demands of authorisation (own, after CAP-0046-11).
-use Rattle.std.specs.Prelude.{ℕ, List, [], ◌∷◌, ◌++◌, map, slice_get, Option, Some, None}
+use Rattle.std.specs.Prelude.{ℕ, List, [], ◌∷◌, map, slice_get, Option, Some, None}
 use Rattle.value_types.specs.Datum.{Datum}
 use Rattle.value_types.specs.Views.{scval}
 use Rattle.value_types.specs.declared.address.ScAddress.{ScAddress}
@@ -7,8 +7,8 @@ use Rattle.value_types.specs.declared.address.ScAddress.TheVariants as addresses
 use Rattle.invoke_types.specs.declared.function.Function.{Function}
 use Rattle.invoke_types.specs.declared.function.Function.TheVariants.{ContractFn}
 use Rattle.auth_types.specs.declared.auth_entry.AuthEntry.{AuthEntry}
-use Rattle.auth_trees.specs.Pairs.{Pair}
-use Rattle.auth_trees.specs.Demands.{Choice, ByNode, ByCaller, ByNothing, choice}
+use Rattle.auth_trees.specs.Demands.{Choice, ByNode, ByCaller, ByNothing, ByNote, paired}
+use Rattle.auth_trees.specs.Authorities.{choice_by, noted_next}
 use Rattle.host_spec.specs.Answers.{Answer}
 use Rattle.call_spec.specs.Errors.{DENIED}
 use Rattle.call_spec.specs.World.{Frame, World, Env}
@@ -17,12 +17,13 @@ use Rattle.call_spec.specs.Asking.{proves}
 use Rattle.call_spec.specs.Frames.{Opener}
 use Rattle.call_spec.specs.Rules.{nothing}
 
--- the pair is one of those that were used
-abbrev pub with_pair : Pair → World → World
-with_pair pair w = record w { pairs = w.pairs ++ pair ∷ [] }
+-- what a demand leaves: a node that meets it is used, and a recorder notes it
+abbrev pub with_choice : List ℕ → ScAddress → Function → Choice → World → World
+with_choice path address function c w =
+    record w { pairs = paired w.pairs path c; noted = noted_next path address function c w.noted }
 
-abbrev pub uses_node : Pair → Act (Unit {0})
-uses_node pair = sets (with_pair pair) tt
+abbrev pub keeps : List ℕ → ScAddress → Function → Choice → Act (Unit {0})
+keeps path address function c = sets (with_choice path address function c) tt
 
 -- The root of an entry is used for the first time: its address proves that it authorises. A demand is met only by entries that
 -- are there.
@@ -35,20 +36,25 @@ abbrev pub proves_root : Env → Opener → ℕ → List ℕ → Act (Unit {0})
 proves_root env opener entry [] = proves_entry env opener (slice_get env.authority.entries entry)
 proves_root env opener entry (i ∷ more) = gives tt
 
--- What meets a demand, or its failure. A node that meets a demand is used before its entry is proved.
-abbrev pub met : Env → Opener → List ℕ → Choice → Act (Unit {0})
-met env opener path ByCaller = gives tt
-met env opener path (ByNode entry node) =
-    after (uses_node (record { entry = entry; node = node; path = path })) (λ _. proves_root env opener entry node)
-met env opener path ByNothing = fails DENIED
+-- what is owed to a choice, or its failure; for a demand that is noted nobody is asked
+abbrev pub owes : Env → Opener → Choice → Act (Unit {0})
+owes env opener ByCaller = gives tt
+owes env opener (ByNode entry node) = proves_root env opener entry node
+owes env opener ByNothing = fails DENIED
+owes env opener (ByNote tree place) = gives tt
+
+-- A node that meets a demand is used before its entry is proved.
+abbrev pub met : Env → Opener → List ℕ → ScAddress → Function → Choice → Act (Unit {0})
+met env opener path address function c = after (keeps path address function c) (λ _. owes env opener c)
 
 -- A demand for an address in the frame of a path, whose direct caller is given. For a create the path has the create's number
 -- behind it, and the caller is the frame's own contract.
 abbrev pub demanded : Env → Opener → List ℕ → Option ScAddress → ScAddress → Function → Act (Unit {0})
 demanded env opener path caller address function =
-    with_world (λ w. choice
-    (record { entries = env.authority.entries; source = env.authority.source; pairs = w.pairs }) path caller address function)
-    (met env opener path)
+    with_world
+    (λ w. choice_by w.noted (record { entries = env.authority.entries; source = env.authority.source; pairs = w.pairs })
+    path caller address function)
+    (met env opener path address function)
 
 -- the frame's function with these arguments
 abbrev pub invocation : Frame → List Datum → Function

@@ -83,6 +83,7 @@ start_of header instructions entries = record {
   entries = entries;
   events = [];
   pairs = [];
+  noted = None;
   frame = outside;
   contracts = [];
   trace = [];

@@ -15,6 +15,7 @@ use Rattle.ledger_spec.specs.LedgerMap.{LedgerMap}
 use Rattle.invoke_types.specs.declared.event.ContractEvent.{ContractEvent}
 use Rattle.auth_types.specs.declared.auth_entry.AuthEntry.{AuthEntry}
 use Rattle.auth_trees.specs.Pairs.{Pair}
+use Rattle.auth_trees.specs.Noted.{Notes}
 use Rattle.host_spec.specs.MapRows.{Member}
 
 -- ---- accesses
@@ -83,6 +84,8 @@ pub record World : Type 0 where
   pub entries : LedgerMap
   pub events : List ContractEvent
   pub pairs : List Pair
+  -- what was noted, if a recorder notes the demands of the run; otherwise entries meet them
+  pub noted : Option Notes
   pub frame : Frame
   -- the contracts with an open frame, the newest first
   pub contracts : List Hash

@@ -1,7 +1,7 @@
 use Rattle.std.proofs.Common.{◌≤◌, arith}
 use Rattle.auth_types.specs.Tree.{size, row_size}
 use Rattle.auth_types.specs.Views.{tree_of, forest_of}
-use Rattle.auth_types.proofs.Parts.{size_at}
+use Rattle.auth_types.proofs.Lemmas.{size_at}
 use Rattle.auth_trees.proofs.entries.+assets.Goals as goal
 
 pub have_asset-has_asset-requires : goal.have_asset-has_asset-requires

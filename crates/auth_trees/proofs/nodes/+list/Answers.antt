@@ -1,7 +1,7 @@
 use Rattle.std.proofs.Common.{rules, ◌≤◌, map, refl, ap, arith}
 use Rattle.auth_types.specs.Tree.{size, row_size}
 use Rattle.auth_types.specs.Views.{tree_of, forest_of}
-use Rattle.auth_types.proofs.Parts.{size_at}
+use Rattle.auth_types.proofs.Lemmas.{size_at}
 use Rattle.auth_trees.specs.Listed.{kept}
 use Rattle.auth_trees.proofs.Listing.{more, none_yet, tree_done}
 use Rattle.auth_trees.proofs.nodes.+list.Goals as goal

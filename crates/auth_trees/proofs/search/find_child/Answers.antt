@@ -1,9 +1,18 @@
-use Rattle.std.proofs.Common.{◌<◌, ◌≤◌, map, ap, sym, ◌∙◌, List, Option, None, get_or, length, arith}
+use Rattle.std.proofs.Common.{◌≡◌, ◌+◌, ◌<◌, ◌≤◌, map, ap, sym, subst, ◌∙◌, List, Option, None, get_or, length, arith}
 use Rattle.value_types.specs.declared.address.ScAddress.{ScAddress}
 use Rattle.auth_trees.specs.Listed.{kept}
 use Rattle.auth_trees.specs.Flat.{child_in}
-use Rattle.auth_trees.proofs.Walking.{first_here_at, first_later_at, first_none}
+use Rattle.auth_trees.proofs.Walking.{first_here_at, first_later_at, first_none, no_child}
 use Rattle.auth_trees.proofs.search.find_child.Goals as goal
+
+pub returns-then-not-tables : goal.returns-then-not-tables
+returns-then-not-tables c =
+    let t = c.args.tables.now in
+    sym (no_child (map kept t.nodes.items) t.taken.items t.deepest.items c.args.address c.args.function.now 0 t.addresses.items
+    (λ k lt.
+    let same : k ≡ 0 + k = omega arith in
+    subst (λ n. get_or t.deepest.items n None ≡ None) same
+    (c.requires.none c.if-not-tables.true k (omega (arith, lt, c.requires.ready.addresses, c.requires.ready.deepest)))))
 
 pub loop-entry-preserved : goal.loop-entry-preserved
 loop-entry-preserved c =

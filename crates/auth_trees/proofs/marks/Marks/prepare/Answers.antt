@@ -13,7 +13,7 @@ invariant_of-result c =
     let same : t.entries.now ≡ c.args.entries.now = c.in_ok-tables.ensures.entries in
     let long : c.len.result ≡ length t.nodes.items = search rules in
     let room : length t.nodes.items ≤ vec_capacity c.in_ok-records.records = omega (arith, long, c.in_ok-records.ensures.capacity) in
-    kept_none t c.args.source c.in_ok-records.records.items _ c.in_ok-tables.ensures.ready (c.in_ok-tables.ensures.addresses ∙ ap (map (authoriser c.args.source)) (sym same)) c.in_ok-records.ensures.items room
+    kept_none t c.args.source c.in_ok-records.records.items _ c.in_ok-tables.ensures.ready c.in_ok-tables.ensures.unmarked (c.in_ok-tables.ensures.addresses ∙ ap (map (authoriser c.args.source)) (sym same)) c.in_ok-records.ensures.items room
 
 pub returns : goal.returns
 returns c =

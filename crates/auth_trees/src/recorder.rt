@@ -1,0 +1,196 @@
+//! An authority that notes demands.
+
+ghost use Rattle.std.specs.Prelude.{◌≡◌, ◌≤◌, ◌++◌, ◌∷◌, length, option_copied, [], true, false, Some};
+ghost use Rattle.std.specs.List.{slice_get};
+ghost use Rattle.std.specs.Option.{option_map};
+ghost use Rattle.auth_trees.specs.Noted.{no_notes};
+ghost use Rattle.auth_trees.specs.Authorities.{IsDemanded, point_of, undone_to};
+ghost use Rattle.auth_trees.specs.Recording.{notes_of};
+
+use crate::authority::{Authority, Point};
+use crate::demand::Demand;
+use crate::entries::is_caller;
+use crate::noted::{Noted, is_account, new_note, trees_with};
+use auth_types::AuthEntry;
+use invoke_types::Function;
+use std::alloc::Global;
+use std::marker::Model;
+use value_types::{AccountId, ScAddress};
+
+/// An authority without entries. It notes the demands for accounts, as nodes of the trees that the accounts have to authorise.
+#[derive(Drop)]
+pub struct Recorder {
+    alloc: Global,
+    source: AccountId,
+    notes: Vec<Noted>,
+    trees: usize,
+    demands: usize,
+    undone: usize,
+}
+
+impl Model for Recorder {
+    ghost use Rattle.value_types.specs.contracts.account_id.AccountId as account_id;
+    ghost use Rattle.value_types.specs.contracts.address.ScAddress as address;
+    ghost use Rattle.invoke_types.specs.contracts.function.Function as function;
+    ghost use Rattle.auth_types.specs.contracts.auth_entry.AuthEntry as auth_entry;
+    ghost use Rattle.auth_trees.specs.Authorities.{Authorised, authorised_code};
+    ghost use Rattle.auth_trees.specs.Recording.{notes_of, recorded, AreTrees};
+
+    ghost Value = { Authorised };
+
+    ghost coded = { authorised_code auth_entry.the_row.coded account_id.the_row.coded address.the_row.coded
+        function.the_row.coded };
+
+    ghost view = { λ r. recorded r.source (notes_of r.notes.items) r.demands r.undone };
+
+    ghost invariant = { λ r. AreTrees (notes_of r.notes.items) r.trees };
+}
+
+impl Recorder {
+    /// A recorder for a transaction or operation with this source account. It has noted nothing.
+    pub fn new(alloc: Global, source: AccountId) -> Recorder
+        ensures { result ≡ record { entries = []; source = source; pairs = []; noted = Some no_notes } }
+    {
+        Recorder {
+            alloc,
+            source,
+            notes: Vec::new(alloc),
+            trees: 0,
+            demands: 0,
+            undone: 0,
+        }
+    }
+
+    /// Notes a demand for an address in the frame of a path. The caller is the contract that calls the frame directly; for a
+    /// create it is the frame's own contract. Running out of memory changes nothing.
+    ///
+    /// It takes time linear in what was noted.
+    pub fn demand(
+        &mut self,
+        path: &[u64],
+        caller: Option<ScAddress>,
+        address: ScAddress,
+        function: &Function,
+    ) -> Demand
+        requires { length path.now ≤ 130 }
+        ensures { IsDemanded path.now caller address function.now result self.old self.new }
+    {
+        let Some(demands) = self.demands.checked_add(1) else {
+            return Demand::NoMemory;
+        };
+        if is_caller(address, caller) {
+            self.demands = demands;
+            return Demand::ByInvoker;
+        }
+        if !is_account(address) {
+            self.demands = demands;
+            return Demand::Denied;
+        }
+        let notes = self.notes.as_slice();
+        match new_note(self.alloc, notes, self.trees, path, address, function) {
+            Err(_) => Demand::NoMemory,
+            Ok(None) => {
+                self.demands = demands;
+                Demand::Denied
+            }
+            Ok(Some(note)) => {
+                let trees = trees_with(self.trees, &note);
+                if !add(&mut self.notes, note) {
+                    return Demand::NoMemory;
+                }
+                self.trees = trees;
+                self.demands = demands;
+                Demand::Noted
+            }
+        }
+    }
+
+    /// Borrows the entry at an index: there is none.
+    pub fn entry(&self, index: usize) -> Option<&AuthEntry>
+        ensures { option_copied result ≡ slice_get self.now.entries index }
+    {
+        let _ = &self.alloc;
+        let _ = index;
+        None
+    }
+
+    /// Takes a snapshot, in O(1). `restore` goes back to it.
+    pub fn snapshot(&self) -> Point
+        ensures { result ≡ point_of self.now }
+    {
+        Point {
+            pairs: 0,
+            demands: self.demands,
+        }
+    }
+
+    /// Undoes a failure since a snapshot: what was noted is kept. It counts as undone if there were demands in it. Takes no
+    /// memory.
+    pub fn restore(&mut self, to: Point)
+        requires { to.pairs ≤ length self.old.pairs }
+        ensures { self.new ≡ undone_to to self.old }
+    {
+        if to.demands < self.demands && self.undone < usize::MAX {
+            self.undone += 1;
+        }
+    }
+
+    /// Returns the number of demands so far.
+    pub fn demands(&self) -> usize
+        ensures { option_map (λ n. n.demands) self.now.noted ≡ Some result }
+    {
+        self.demands
+    }
+
+    /// Returns the number of failures that were undone with demands in them.
+    pub fn undone(&self) -> usize
+        ensures { option_map (λ n. n.undone) self.now.noted ≡ Some result }
+    {
+        self.undone
+    }
+
+    /// Returns the nodes that were noted, in the order of their making.
+    pub fn into_notes(self) -> Vec<Noted>
+        ensures { option_map (λ n. n.nodes) self.noted ≡ Some (notes_of result.items) }
+    {
+        let Recorder { notes, .. } = self;
+        notes
+    }
+}
+
+// Adds a node. Returns whether there was memory for it.
+fn add(notes: &mut Vec<Noted>, note: Noted) -> bool
+    ensures added { result ≡ true → notes.new.items ≡ notes.old.items ++ note ∷ [] }
+    ensures refused { result ≡ false → notes.new.items ≡ notes.old.items }
+{
+    match notes.push(note) {
+        Ok(()) => true,
+        Err(_) => false,
+    }
+}
+
+impl Authority for Recorder {
+    ghost authorised = { λ r. r };
+
+    fn demand(
+        &mut self,
+        path: &[u64],
+        caller: Option<ScAddress>,
+        address: ScAddress,
+        function: &Function,
+    ) -> Demand {
+        Recorder::demand(self, path, caller, address, function)
+    }
+
+    fn entry(&self, index: usize) -> Option<&AuthEntry> {
+        Recorder::entry(self, index)
+    }
+
+    fn snapshot(&self) -> Point {
+        Recorder::snapshot(self)
+    }
+
+    fn restore(&mut self, to: Point) {
+        Recorder::restore(self, to)
+    }
+}
