@@ -15,10 +15,10 @@ use Rattle.auth_types.specs.Bytes.{IsTreeBounded, IsInvocationBounded, AreTreesB
 use Rattle.auth_types.specs.Tree.{Tree, trees_of}
 use Rattle.auth_types.specs.Views.{tree_of}
 use Rattle.auth_types.specs.InvocationLaws.{trees_there}
-use Rattle.auth_types.proofs.Linked.{invocation_linked}
+use Rattle.auth_types.proofs.Lemmas.{invocation_linked}
 use Rattle.auth_types.specs.declared.invocation.Invocation.{Invocation}
 use Rattle.auth_types.specs.declared.credentials.AddressCredentials.{AddressCredentials}
-use Rattle.host_frame.proofs.Decoding.{spelled_bounded}
+use Rattle.host_frame.proofs.Lemmas.{spelled_bounded}
 use Rattle.call_spec.specs.Contexts.{contexts_of}
 use Rattle.call_spec.specs.Asking.{check_args}
 use Rattle.auth_parts.specs.Entering.{IsEncodable}

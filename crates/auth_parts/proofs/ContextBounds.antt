@@ -8,7 +8,7 @@ use Rattle.value_types.specs.Hash.{hash_format}
 use Rattle.value_types.specs.Formats.{scval_format}
 use Rattle.value_types.specs.Datum.{Datum, bytes, symbol, vec, map, address, items_of, members_of}
 use Rattle.value_types.specs.Views.{datums}
-use Rattle.value_types.proofs.Lawful.{items_there, members_there}
+use Rattle.value_types.proofs.Lemmas.{items_there, members_there}
 use Rattle.value_types.specs.declared.hash.Hash.{Hash}
 use Rattle.value_types.specs.declared.value.ScVal.{ScVal}
 use Rattle.value_types.specs.declared.executable.Executable.{Executable}
@@ -24,7 +24,7 @@ use Rattle.invoke_types.specs.declared.function.Function.{Function}
 use Rattle.invoke_types.specs.declared.function.Function.TheVariants.{ContractFn, CreateContract, CreateContractV2}
 use Rattle.auth_types.specs.Bytes.{IsTreeBounded, AreTreesBounded}
 use Rattle.auth_types.specs.Tree.{Tree, Trees, node, no_trees, trees}
-use Rattle.host_frame.proofs.Decoding.{spelled_bounded}
+use Rattle.host_frame.proofs.Lemmas.{spelled_bounded}
 use Rattle.call_spec.specs.Contexts.{context, executable_in, salt_in, arguments_in, context_of, contexts_of, all_contexts_of}
 
 -- ---- parts

@@ -1,10 +1,11 @@
-pub mod Splitting
-pub mod Passing
-pub mod NonceEntries
-pub mod Making
-pub mod SignedBytes
-pub mod Rows
-pub mod ContextBounds
-pub mod ArgumentBounds
-pub mod Verdicts
-pub mod Steps
+mod ArgumentBounds
+mod ContextBounds
+pub mod Lemmas
+mod Making
+mod NonceEntries
+mod Passing
+mod Rows
+mod SignedBytes
+mod Splitting
+mod Steps
+mod Verdicts

@@ -22,8 +22,7 @@ use Rattle.call_spec.specs.Asking.{nonce_key, nonce_entry, uses, is_valid_until,
 use Rattle.host_ledger.specs.Worlds.{Serves}
 use Rattle.host_ledger.specs.Accessed.{end_of}
 use Rattle.call_parts.specs.Steps.{Steps, Charges}
-use Rattle.call_parts.proofs.Joining.{steps_as}
-use Rattle.call_parts.proofs.Making.{AllMake, make_paid, make_there, make_refused}
+use Rattle.call_parts.proofs.Lemmas.{AllMake, make_paid, make_refused, make_there, steps_as}
 
 -- the access that uses a nonce
 abbrev pub uses_up : AddressCredentials → Env → Act (Unit {0})

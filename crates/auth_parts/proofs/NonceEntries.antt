@@ -7,8 +7,8 @@ use Rattle.auth_types.specs.declared.credentials.AddressCredentials.{AddressCred
 use Rattle.ledger_types.specs.Entry.{entry_format, body_format}
 use Rattle.ledger_types.specs.ContractEntries.{data_format}
 use Rattle.ledger_types.specs.declared.durability.Durability.TheVariants.{Temporary}
-use Rattle.host_frame.proofs.Fitting.{shallow_fits}
-use Rattle.host_ledger.proofs.Keys.{durability_fits}
+use Rattle.host_frame.proofs.Lemmas.{shallow_fits}
+use Rattle.host_ledger.proofs.Lemmas.{durability_fits}
 use Rattle.call_spec.specs.Asking.{nonce_entry}
 
 entry_fits : (n : ℕ) (signer : AddressCredentials) → n < 2 ^ 32 → address_credentials_format.fits signer → entry_format.fits (nonce_entry n signer.address signer.nonce)

@@ -31,12 +31,12 @@ use Rattle.call_spec.specs.World.{World, Env}
 use Rattle.call_spec.specs.Acts.{Act, Out, gives, only_where, lift, paying}
 use Rattle.call_spec.specs.Outcomes.{Leaves, quiet, Says}
 use Rattle.host_ledger.specs.Traced.{leaving}
-use Rattle.host_ledger.proofs.Tracing.{since}
+use Rattle.host_ledger.proofs.Lemmas.{since}
 use Rattle.call_spec.specs.Entering.{entering}
 use Rattle.call_spec.specs.Asking.{denied, denying, is_good, uses_nonce}
 use Rattle.host_ledger.specs.Worlds.{Serves}
 use Rattle.call_parts.specs.Steps.{Steps, Charges, Returns}
-use Rattle.call_parts.proofs.Joining.{stops, goes, charges_steps, returns_charges, serves_later, charges_stop, charges_then}
+use Rattle.call_parts.proofs.Lemmas.{charges_steps, charges_stop, charges_then, goes, returns_charges, serves_later, stops}
 use Rattle.auth_parts.specs.Asked.{Asked, proved, by_contract, asks_address, asks_payload, asks_signer, asks_by, asks_first}
 use Rattle.auth_parts.specs.Entering.{with_meter, Enters}
 use Rattle.auth_parts.specs.Views.{asked, denied_end}

@@ -31,7 +31,7 @@ use crate::payloads::{signed_hash, signed_len};
 use auth_types::{AddressCredentials, AuthEntry, Credentials, Invocation};
 use budget_meter::{Budget, Kind};
 use call_parts::pay;
-use contract_storage::Storage;
+use contract_storage::{Storage, Watch};
 use entry_lookup::Ground;
 use host_ledger::made_seq;
 use host_spec::{HostErr, ValueErr};
@@ -199,9 +199,9 @@ fn ask_payload(
 
 /// Uses the nonce of the signature of an entry, and asks its address.
 #[tactic(auto, using(crate::proofs::Steps::signer_fits))]
-fn ask_signer<G: Ground>(
+fn ask_signer<G: Ground, W: Watch>(
     alloc: Global,
-    storage: &mut Storage<'_, G>,
+    storage: &mut Storage<'_, G, W>,
     budget: &mut Budget,
     header: &Header,
     verdicts: &Verdicts,
@@ -229,9 +229,9 @@ fn ask_signer<G: Ground>(
 
 /// Proves an authorisation entry, up to the run of a contract's own function: uses the nonce, charges for what was signed, and
 /// asks the address. The transaction's source has signed the transaction and is not asked.
-pub fn ask<G: Ground>(
+pub fn ask<G: Ground, W: Watch>(
     alloc: Global,
-    storage: &mut Storage<'_, G>,
+    storage: &mut Storage<'_, G, W>,
     budget: &mut Budget,
     header: &Header,
     verdicts: &Verdicts,

@@ -14,7 +14,7 @@ use crate::errors::{EXPIRED, USED_NONCE};
 use auth_types::AddressCredentials;
 use budget_meter::{Budget, Kind};
 use call_parts::pay;
-use contract_storage::Storage;
+use contract_storage::{Storage, Watch};
 use entry_lookup::Ground;
 use host_ledger::{end_of, size_of};
 use host_spec::HostErr;
@@ -60,8 +60,8 @@ fn is_valid_until(n: u32, max_ttl: u32, until: u32) -> bool
 }
 
 /// Makes the entry of the nonce of a signature in ledger `n`, unless the nonce is used. It lives until the signature ends.
-fn make_nonce<G: Ground>(
-    storage: &mut Storage<'_, G>,
+fn make_nonce<G: Ground, W: Watch>(
+    storage: &mut Storage<'_, G, W>,
     budget: &mut Budget,
     n: u32,
     signer: &AddressCredentials,
@@ -84,8 +84,8 @@ fn make_nonce<G: Ground>(
 }
 
 /// Uses the nonce of a signature in ledger `n`, if the signature is valid there.
-pub(crate) fn use_nonce<G: Ground>(
-    storage: &mut Storage<'_, G>,
+pub(crate) fn use_nonce<G: Ground, W: Watch>(
+    storage: &mut Storage<'_, G, W>,
     budget: &mut Budget,
     n: u32,
     settings: &Settings,

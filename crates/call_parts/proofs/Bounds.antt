@@ -12,7 +12,7 @@ use Rattle.ledger_types.specs.declared.contract_entries.ContractCodeEntry.{Contr
 use Rattle.ledger_types.specs.declared.entry.LedgerEntryData.{LedgerEntryData}
 use Rattle.ledger_types.specs.declared.entry.LedgerEntryData.TheVariants.{ContractData, ContractCode}
 use Rattle.ledger_types.specs.declared.entry.LedgerEntry.{LedgerEntry}
-use Rattle.host_frame.proofs.Decoding.{spelled_bounded, spelled_shallow}
+use Rattle.host_frame.proofs.Lemmas.{spelled_bounded, spelled_shallow}
 
 same_data : (c d : ContractDataEntry) → ContractData c ≡ ContractData d → c ≡ d
 same_data c d e = cc

@@ -5,7 +5,7 @@ use Rattle.value_types.specs.Address.{address_format}
 use Rattle.value_types.specs.Executable.{executable_format}
 use Rattle.value_types.specs.Hash.{hash_format}
 use Rattle.value_types.specs.Formats.{scval_format}
-use Rattle.value_types.proofs.Lawful.{members_there}
+use Rattle.value_types.proofs.Lemmas.{members_there}
 use Rattle.value_types.specs.declared.hash.Hash.{Hash}
 use Rattle.value_types.specs.declared.address.ScAddress.TheVariants.{Contract}
 use Rattle.value_types.specs.declared.executable.Executable.TheVariants.{Wasm}
@@ -18,8 +18,8 @@ use Rattle.ledger_types.specs.declared.entry.LedgerEntry.{LedgerEntry}
 use Rattle.host_spec.specs.MapRows.{Member}
 use Rattle.call_spec.specs.Keys.{data_entry_of, instance_entry, code_entry}
 use Rattle.host_ledger.specs.Worlds.{IsHeld}
-use Rattle.host_frame.proofs.Fitting.{shallow_fits}
-use Rattle.host_ledger.proofs.Keys.{durability_fits}
+use Rattle.host_frame.proofs.Lemmas.{shallow_fits}
+use Rattle.host_ledger.proofs.Lemmas.{durability_fits}
 
 -- the value of an instance
 abbrev pub instance_value : Hash → Option (List Member) → ScVal

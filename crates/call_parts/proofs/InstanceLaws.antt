@@ -6,8 +6,7 @@ use Rattle.value_types.specs.Datum.{Datum, map, members_of}
 use Rattle.value_types.specs.Depth.{depth_of}
 use Rattle.value_types.specs.Order.{datum_cmp, value_cmp}
 use Rattle.value_types.specs.Views.{datum, datum_pair, scval}
-use Rattle.value_types.proofs.Lawful.{members_there, scval-datum}
-use Rattle.value_types.proofs.Ordered.{value_decides}
+use Rattle.value_types.proofs.Lemmas.{members_there, scval-datum, value_decides}
 use Rattle.value_types.specs.declared.error.ScError.{ScError}
 use Rattle.value_types.specs.declared.hash.Hash.{Hash}
 use Rattle.value_types.specs.declared.executable.Executable.TheVariants.{Wasm}

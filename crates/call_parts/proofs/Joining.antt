@@ -11,14 +11,14 @@ use Rattle.host_spec.specs.declared.error.ValueErr.{ValueErr}
 use Rattle.host_spec.specs.declared.error.ValueErr.TheVariants as errs
 use Rattle.host_spec.specs.declared.error.HostErr.{HostErr}
 use Rattle.host_spec.specs.declared.error.HostErr.TheVariants as ends
-use Rattle.host_frame.proofs.Acting.{charged_good, charged_spent}
+use Rattle.host_frame.proofs.Lemmas.{charged_good, charged_spent}
 use Rattle.contract_storage.specs.Stored.{Stored, IsLater}
 use Rattle.call_spec.specs.World.{Access, World, Env}
 use Rattle.call_spec.specs.Acts.{Act, Out, Good, Bad, Failed, Undeclared, then_do, after, lift, lifted, with_state}
 use Rattle.call_spec.specs.Outcomes.{Leaves, Says, quiet, trace_of}
 use Rattle.host_ledger.specs.Worlds.{Serves}
 use Rattle.host_ledger.specs.Traced.{leaving}
-use Rattle.host_ledger.proofs.Tracing.{quietly, since}
+use Rattle.host_ledger.proofs.Lemmas.{quietly, since}
 use Rattle.host_ledger.specs.Accessed.{Accesses}
 use Rattle.call_parts.specs.Steps.{Steps, Charges, Shows, Returns}
 

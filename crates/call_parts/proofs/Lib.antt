@@ -1,9 +1,10 @@
-pub mod Joining
-pub mod Reading
-pub mod Writing
-pub mod Making
-pub mod EntryLaws
-pub mod InstanceLaws
-pub mod Payloads
-pub mod Stepping
-pub mod Bounds
+mod Bounds
+mod EntryLaws
+mod InstanceLaws
+mod Joining
+pub mod Lemmas
+mod Making
+mod Payloads
+mod Reading
+mod Stepping
+mod Writing

@@ -7,7 +7,7 @@ use Rattle.value_types.specs.declared.hash.Hash.{Hash}
 use Rattle.value_types.specs.declared.error.ScError.{ScError}
 use Rattle.ledger_types.specs.Entry.{key_of, entry_format}
 use Rattle.ledger_types.specs.Key.{key_format}
-use Rattle.ledger_types.proofs.KeyLaws.{key_of_fits}
+use Rattle.ledger_types.proofs.Lemmas.{key_of_fits}
 use Rattle.ledger_types.specs.declared.key.LedgerKey.{LedgerKey}
 use Rattle.ledger_types.specs.declared.entry.LedgerEntry.{LedgerEntry}
 use Rattle.ledger_types.specs.declared.header.Settings.{Settings}
@@ -36,8 +36,7 @@ use Rattle.call_spec.specs.Outcomes.{Says}
 use Rattle.host_ledger.specs.Traced.{Tells, leaving}
 use Rattle.host_ledger.specs.Worlds.{Serves}
 use Rattle.host_ledger.specs.Accessed.{end_of}
-use Rattle.host_ledger.proofs.Linking.{touched_after, same_declared, same_map}
-use Rattle.host_ledger.proofs.Tracing.{tells_access, tells_still, afterwards}
+use Rattle.host_ledger.proofs.Lemmas.{afterwards, same_declared, same_map, tells_access, tells_still, touched_after}
 use Rattle.call_parts.specs.Steps.{Steps, Charges}
 use Rattle.call_parts.proofs.Writing.{paid_set}
 

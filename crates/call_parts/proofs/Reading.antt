@@ -24,8 +24,7 @@ use Rattle.call_spec.specs.Outcomes.{Says}
 use Rattle.host_ledger.specs.Traced.{Tells, leaving}
 use Rattle.host_ledger.specs.Worlds.{Serves}
 use Rattle.host_ledger.specs.Accessed.{end_of, Accesses}
-use Rattle.host_ledger.proofs.Linking.{decided, access_is, has_done, got_of, got_tells, refused_still, noted_still, touched_after, same_declared, same_map}
-use Rattle.host_ledger.proofs.Tracing.{tells_access, tells_still, afterwards}
+use Rattle.host_ledger.proofs.Lemmas.{access_is, afterwards, decided, got_of, got_tells, has_done, noted_still, refused_still, same_declared, same_map, tells_access, tells_still, touched_after}
 use Rattle.call_parts.specs.Steps.{Steps, Charges, Returns}
 use Rattle.call_parts.proofs.Joining.{retraced}
 

@@ -29,7 +29,7 @@ use Rattle.call_spec.specs.Creating.{is_there, puts_code, uploads}
 use Rattle.call_spec.specs.Outcomes.{quiet, Says}
 use Rattle.host_ledger.specs.Worlds.{Serves}
 use Rattle.host_ledger.specs.Accessed.{end_of, named, Accesses}
-use Rattle.host_ledger.proofs.Rows.{later_read}
+use Rattle.host_ledger.proofs.Lemmas.{later_read}
 use Rattle.call_parts.specs.Steps.{Steps, Charges}
 use Rattle.call_parts.specs.Entered.{judges}
 use Rattle.call_parts.proofs.Joining.{then_assoc, charges_steps, accesses_steps, steps_stop, steps_then, steps_as, charges_stop, charges_then, serves_later}

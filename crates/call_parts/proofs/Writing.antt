@@ -5,7 +5,7 @@ use Rattle.budget_meter.specs.Meter.{Meter}
 use Rattle.budget_meter.specs.declared.kind.Kind.TheVariants.{ValSer}
 use Rattle.ledger_types.specs.Entry.{key_of, entry_format}
 use Rattle.ledger_types.specs.Key.{key_format}
-use Rattle.ledger_types.proofs.KeyLaws.{key_of_fits}
+use Rattle.ledger_types.proofs.Lemmas.{key_of_fits}
 use Rattle.ledger_types.specs.declared.key.LedgerKey.{LedgerKey}
 use Rattle.ledger_types.specs.declared.entry.LedgerEntry.{LedgerEntry}
 use Rattle.ledger_spec.specs.LedgerMap.{LedgerMap, key_bytes}
@@ -28,11 +28,9 @@ use Rattle.call_spec.specs.Accesses.{leaves, costs, access, access_of, by_seen, 
 use Rattle.call_spec.specs.Changed.{with_entries, after_put}
 use Rattle.call_spec.specs.Outcomes.{quiet, Says}
 use Rattle.host_ledger.specs.Traced.{Tells, leaving}
-use Rattle.call_spec.proofs.Changed.{put_law}
+use Rattle.call_spec.proofs.Lemmas.{put_law}
 use Rattle.host_ledger.specs.Worlds.{Serves}
-use Rattle.host_ledger.proofs.Linking.{touched_after, same_declared, same_map}
-use Rattle.host_ledger.proofs.Putting.{put_done, put_touched}
-use Rattle.host_ledger.proofs.Tracing.{tells_access, tells_still, afterwards}
+use Rattle.host_ledger.proofs.Lemmas.{afterwards, put_done, put_touched, same_declared, same_map, tells_access, tells_still, touched_after}
 use Rattle.host_ledger.specs.Accessed.{end_of}
 use Rattle.call_parts.specs.Steps.{Steps, Charges}
 use Rattle.call_parts.proofs.Joining.{stops, goes, then_assoc}

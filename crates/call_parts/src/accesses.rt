@@ -14,16 +14,16 @@ ghost use Rattle.call_parts.specs.Steps.{Steps};
 
 use crate::charges::pay;
 use budget_meter::{Budget, Kind};
-use contract_storage::Storage;
+use contract_storage::{Storage, Watch};
 use entry_lookup::Ground;
 use host_ledger::{end_of, size_of};
 use host_spec::HostErr;
 use ledger_types::{LedgerEntry, LedgerKey};
 
 /// Whether there is a live entry at a key.
-#[tactic(auto, using(host_ledger::proofs::Linking::reads_read))]
-pub(crate) fn is_there<G: Ground>(
-    storage: &mut Storage<'_, G>,
+#[tactic(auto, using(host_ledger::proofs::Lemmas::reads_read))]
+pub(crate) fn is_there<G: Ground, W: Watch>(
+    storage: &mut Storage<'_, G, W>,
     key: LedgerKey,
 ) -> Result<bool, HostErr>
     requires { key_format.fits key }
@@ -49,8 +49,8 @@ fn clone_key(key: &LedgerKey) -> Result<LedgerKey, HostErr>
 
 /// Puts an entry at its key. The charge comes after the put. If it exceeds a limit, the run ends and its writes are dropped, so
 /// the order cannot be seen.
-pub(crate) fn put<G: Ground>(
-    storage: &mut Storage<'_, G>,
+pub(crate) fn put<G: Ground, W: Watch>(
+    storage: &mut Storage<'_, G, W>,
     budget: &mut Budget,
     key: LedgerKey,
     entry: LedgerEntry,

@@ -29,7 +29,7 @@ use crate::entries::{code_entry, code_hash};
 use crate::errors::NO_MODULE;
 use crate::modules::load_module;
 use budget_meter::{Budget, Kind};
-use contract_storage::{StoErr, Storage};
+use contract_storage::{StoErr, Storage, Watch};
 use entry_lookup::Ground;
 use host_ledger::code_key;
 use host_spec::HostErr;
@@ -52,12 +52,12 @@ fn code_of(found: &LedgerEntry) -> Result<&[u8], StoErr>
 }
 
 /// Finds the code with a hash. A caller makes the host's error from the error and the code's key, by `end_of`.
-pub fn find_code<'s, G: Ground>(
-    storage: &'s mut Storage<'_, G>,
+pub fn find_code<'s, G: Ground, W: Watch>(
+    storage: &'s mut Storage<'_, G, W>,
     hash: Hash,
 ) -> Result<&'s [u8], StoErr>
     // Once the entry is no longer borrowed.
-    ensures* lent { sem 𝓛 (Rests (the_row (record { mir = named 1; lft = [] }) G.row G.Ground) storage.entry
+    ensures* lent { sem 𝓛 (Rests (the_row (record { mir = named 1; lft = [] }) G.row W.row G.Ground W.Watch) storage.entry
         (λ new. (Accesses (named_by (code_key hash) result) (λ code. code.now) (λ env. code_at env hash) storage.old new)
         × IsRead storage.old new)) }
     ensures bytes { IfOk result (λ code. IsBytes code.now) }
@@ -104,9 +104,9 @@ fn judged(alloc: Global, budget: &mut Budget, len: u64, code: &[u8]) -> Result<(
 }
 
 /// Puts the entry of a code.
-fn put_code<G: Ground>(
+fn put_code<G: Ground, W: Watch>(
     alloc: Global,
-    storage: &mut Storage<'_, G>,
+    storage: &mut Storage<'_, G, W>,
     budget: &mut Budget,
     n: u32,
     hash: Hash,
@@ -128,9 +128,9 @@ fn put_code<G: Ground>(
 }
 
 /// Puts the entry of a code, unless it is there.
-fn store<G: Ground>(
+fn store<G: Ground, W: Watch>(
     alloc: Global,
-    storage: &mut Storage<'_, G>,
+    storage: &mut Storage<'_, G, W>,
     budget: &mut Budget,
     n: u32,
     hash: Hash,
@@ -153,9 +153,9 @@ fn store<G: Ground>(
 
 /// Uploads a code in ledger `n`: it has to encode a valid, linked module. Code that is there already stays as it is. Returns its
 /// hash.
-pub fn upload<G: Ground>(
+pub fn upload<G: Ground, W: Watch>(
     alloc: Global,
-    storage: &mut Storage<'_, G>,
+    storage: &mut Storage<'_, G, W>,
     budget: &mut Budget,
     n: u32,
     code: &[u8],

@@ -27,7 +27,7 @@ use crate::charges::pay;
 use crate::entries::instance_entry;
 use crate::errors::{EXISTS, NO_INSTANCE, NOT_WASM};
 use budget_meter::{Budget, Kind};
-use contract_storage::Storage;
+use contract_storage::{Storage, Watch};
 use entry_lookup::Ground;
 use host_frame::entry;
 use host_ledger::{InstanceCopy, end_of, instance_key, size_of};
@@ -155,8 +155,8 @@ fn opened(budget: &mut Budget, found: &LedgerEntry) -> Result<InstanceCopy, Host
 }
 
 /// Finds the instance of a contract, and copies its storage.
-pub fn find_instance<G: Ground>(
-    storage: &mut Storage<'_, G>,
+pub fn find_instance<G: Ground, W: Watch>(
+    storage: &mut Storage<'_, G, W>,
     budget: &mut Budget,
     contract: Hash,
 ) -> Result<InstanceCopy, HostErr>
@@ -228,8 +228,8 @@ pub fn clone_copy(copy: &InstanceCopy) -> Result<InstanceCopy, HostErr>
 }
 
 /// Writes a copy of an instance in ledger `n`.
-pub fn write_instance<G: Ground>(
-    storage: &mut Storage<'_, G>,
+pub fn write_instance<G: Ground, W: Watch>(
+    storage: &mut Storage<'_, G, W>,
     budget: &mut Budget,
     n: u32,
     contract: Hash,
@@ -249,8 +249,8 @@ pub fn write_instance<G: Ground>(
 }
 
 /// Makes the instance of a new contract in ledger `n`, with null storage, unless the contract exists.
-pub fn make_instance<G: Ground>(
-    storage: &mut Storage<'_, G>,
+pub fn make_instance<G: Ground, W: Watch>(
+    storage: &mut Storage<'_, G, W>,
     budget: &mut Budget,
     n: u32,
     settings: &Settings,

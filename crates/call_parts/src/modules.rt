@@ -15,7 +15,7 @@ use crate::codes::find_code;
 use crate::errors::{NO_FUNCTION, NO_MODULE, OTHER_ARITY, SEGMENT_OUTSIDE};
 use budget_meter::{Budget, Kind};
 use code_cache::{Cache, HeldModule, module_for};
-use contract_storage::Storage;
+use contract_storage::{Storage, Watch};
 use entry_lookup::Ground;
 use host_ledger::{code_key, end_of};
 use host_spec::HostErr;
@@ -112,9 +112,9 @@ fn read_module<'c>(
 
 /// Finds the code with a hash, and its module. The charge comes before the code is read, and is the same if the cache has the
 /// module.
-pub fn call_module<'c, G: Ground>(
+pub fn call_module<'c, G: Ground, W: Watch>(
     alloc: Global,
-    storage: &mut Storage<'_, G>,
+    storage: &mut Storage<'_, G, W>,
     budget: &mut Budget,
     codes: Option<&'c Cache<'c>>,
     hash: Hash,

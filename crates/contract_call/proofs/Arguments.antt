@@ -21,7 +21,7 @@ use Rattle.host_spec.specs.declared.error.HostErr.{HostErr}
 use Rattle.host_frame.specs.Answered.{answer_of}
 use Rattle.host_frame.specs.Made.{AreMade}
 use Rattle.host_frame.specs.declared.answer.Answer.{Answer as Answer'}
-use Rattle.host_frame.proofs.Making.{items_made}
+use Rattle.host_frame.proofs.Lemmas.{items_made}
 use Rattle.call_spec.specs.Errors.{OTHER_SIZE}
 use Rattle.call_spec.specs.World.{World, Env}
 use Rattle.call_spec.specs.Acts.{Act, Out, then_do, gives, only_where}

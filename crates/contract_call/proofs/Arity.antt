@@ -15,7 +15,7 @@ use Rattle.wasm_run.specs.declared.instance.Event.{Event}
 use Rattle.wasm_run.specs.declared.instance.Event.TheVariants as event
 use Rattle.host_interface.specs.Rows.{Row, host_rows}
 use Rattle.wasm_check.specs.Linking.{find_row, typed_row, import_row, matches}
-use Rattle.wasm_check.proofs.LinkLaws.{found_is}
+use Rattle.wasm_check.proofs.Lemmas.{found_is}
 use Rattle.module_loader.specs.Loading.{row_at}
 use Rattle.host_spec.specs.Indices.{arguments_of}
 

@@ -12,9 +12,9 @@ use Rattle.wasm_run.specs.Suspended.{Suspended}
 use Rattle.wasm_spec.specs.Instances.{Start, Missing, WrongArity, Segment, Ready, start_of}
 use Rattle.host_spec.specs.declared.error.HostErr.{HostErr}
 use Rattle.host_spec.specs.declared.error.HostErr.TheVariants as ends
-use Rattle.auth_trees.proofs.Later.{later_itself, later_again}
-use Rattle.contract_storage.proofs.Going.{again}
-use Rattle.host_ledger.proofs.Rows.{later_same}
+use Rattle.auth_trees.proofs.Lemmas.{later_self, later_twice}
+use Rattle.contract_storage.proofs.Lemmas.{again}
+use Rattle.host_ledger.proofs.Lemmas.{later_same, quietly, serves_later, since}
 use Rattle.call_spec.specs.World.{World, Env}
 use Rattle.call_spec.specs.Acts.{Act, Failed, Out, Bad, then_do, after, begins}
 use Rattle.call_spec.specs.Outcomes.{trace_of}
@@ -36,27 +36,25 @@ use Rattle.contract_call.specs.declared.targets.Target.{Target as Target'}
 use Rattle.contract_call.specs.declared.targets.ContractCall.{ContractCall}
 use Rattle.contract_call.proofs.Joining.{stop, go_on, same_act, fails_as, as_fails, traced, keep_rest}
 use Rattle.contract_call.proofs.Looping.{same_authority, place_again}
-use Rattle.host_ledger.proofs.Tracing.{since, quietly}
 use Rattle.contract_call.proofs.Showing.{telling}
 use Rattle.contract_call.proofs.Splitting.{calls_first}
-use Rattle.host_ledger.proofs.Composing.{serves_later}
 
 -- ---- acts of the host, one after another
 
-pub env_later : {G : Type 0} (old new : Host G) → Stays old new → (env : Env) → IsEnvOf env old → IsEnvOf env new
+pub env_later : {G U V : Type 0} (old new : Host G U V) → Stays old new → (env : Env) → IsEnvOf env old → IsEnvOf env new
 env_later old new stays env is = record {
   ledger = record { header = is.ledger.header ∙ sym stays.header; serves = serves_later env old.ledger.storage new.ledger.storage stays.storage is.ledger.serves };
   authority = is.authority ∙ same_authority old new stays.marks stays.verdicts;
 }
 
-pub around_on : {A B C D G : Type 0} (a : A) (r : Result C HostErr) (view : A → B) (other : C → D) (act : Env → Act B) (next : Env → B → Act D) (old mid new : Host G)
+pub around_on : {A B C D G U V : Type 0} (a : A) (r : Result C HostErr) (view : A → B) (other : C → D) (act : Env → Act B) (next : Env → B → Act D) (old mid new : Host G U V)
     → ((env : Env) → IsEnvOf env old → IsEnvOf env mid) → (let given : Result A HostErr = Ok a in DoesAround given view act old mid) → DoesAround r other (λ env. next env (view a)) mid new
     → DoesAround r other (λ env. after (act env) (next env)) old new
 around_on a r view other act next old mid new later one two env is rest trace =
     go_on (λ w t. world_around w mid t) (λ w t. world_around w new t) keep_rest (telling old mid trace) (telling old new trace) (λ _ _ _. refl) a r view other rest (act env (world_around rest old trace)) (next env) (one env is rest trace)
     (λ w t told. since r other (next env (view a) (world_around w mid t)) old.ledger.storage mid.ledger.storage new.ledger.storage trace t (world_around w new) told (two env (later env is) w t))
 
-pub around_stop : {A B C D G : Type 0} (e : HostErr) (view : A → B) (other : C → D) (act : Env → Act B) (next : Env → B → Act D) (old new : Host G)
+pub around_stop : {A B C D G U V : Type 0} (e : HostErr) (view : A → B) (other : C → D) (act : Env → Act B) (next : Env → B → Act D) (old new : Host G U V)
     → (let none : Result A HostErr = Err e in DoesAround none view act old new) → (let none : Result C HostErr = Err e in DoesAround none other (λ env. after (act env) (next env)) old new)
 around_stop e view other act next old new one env is rest trace =
     let out = act env (world_around rest old trace) in
@@ -64,26 +62,26 @@ around_stop e view other act next old new one env is rest trace =
     (stop (λ w t. world_around w new t) keep_rest (telling old new trace) new.ledger.budget (λ _ _. refl) e rest out (next env) (fails_as e view out (leaving_by old new trace (world_around rest new)) (one env is rest trace)))
 
 -- an act that gets a path of its own
-pub around_begins : {C D G : Type 0} (r : Result C HostErr) (view : C → D) (act : Env → List ℕ → Act D) (path : List ℕ) (old mid new : Host G) → path ≡ old.place.path.items ++ old.place.begun ∷ [] → mid ≡ numbered old
+pub around_begins : {C D G U V : Type 0} (r : Result C HostErr) (view : C → D) (act : Env → List ℕ → Act D) (path : List ℕ) (old mid new : Host G U V) → path ≡ old.place.path.items ++ old.place.begun ∷ [] → mid ≡ numbered old
     → DoesAround r view (λ env. act env path) mid new → DoesAround r view (λ env. begins (act env)) old new
-around_begins {G = G} r view act path old mid new at is h env env_is rest trace =
-    let next : Host G → Type 0 = λ m. DoesAround r view (λ env. act env (old.place.path.items ++ old.place.begun ∷ [])) m new in
+around_begins {G = G} {U = U} {V = V} r view act path old mid new at is h env env_is rest trace =
+    let next : Host G U V → Type 0 = λ m. DoesAround r view (λ env. act env (old.place.path.items ++ old.place.begun ∷ [])) m new in
     subst next is (subst (λ p. DoesAround r view (λ env. act env p) mid new) at h) env (record { ledger = record { header = env_is.ledger.header; serves = env_is.ledger.serves }; authority = env_is.authority }) rest trace
 
-pub numbered_stays : {G : Type 0} (old mid : Host G) → mid ≡ numbered old → Stays old mid
-numbered_stays {G} old mid is = subst (λ (h : Host G). Stays old h) (sym is) (record {
+pub numbered_stays : {G U V : Type 0} (old mid : Host G U V) → mid ≡ numbered old → Stays old mid
+numbered_stays {G} {U} {V} old mid is = subst (λ (h : Host G U V). Stays old h) (sym is) (record {
   header = refl;
   storage = later_same old.ledger.storage old.ledger.storage refl;
   events = ([], sym (append-nil old.ledger.events));
   objects = refl;
   frame = refl;
   contracts = refl;
-  marks = later_itself old.marks;
+  marks = later_self old.marks;
   verdicts = refl;
   place = refl;
 })
 
-pub stays_then : {G : Type 0} (old mid new : Host G) → Stays old mid → Stays mid new → Stays old new
+pub stays_then : {G U V : Type 0} (old mid new : Host G U V) → Stays old mid → Stays mid new → Stays old new
 stays_then old mid new one two = record {
   header = two.header ∙ one.header;
   storage = again old.ledger.storage mid.ledger.storage new.ledger.storage one.storage two.storage;
@@ -91,18 +89,18 @@ stays_then old mid new one two = record {
   objects = two.objects ∙ one.objects;
   frame = two.frame ∙ one.frame;
   contracts = two.contracts ∙ one.contracts;
-  marks = later_again old.marks mid.marks new.marks one.marks two.marks;
+  marks = later_twice old.marks mid.marks new.marks one.marks two.marks;
   verdicts = two.verdicts ∙ one.verdicts;
   place = place_again old.place mid.place new.place one.place two.place;
 }
 
-pub around_same : {C D G : Type 0} (r : Result C HostErr) (view : C → D) (one other : Env → Act D) (old new : Host G) → ((env : Env) (w : World) → one env w ≡ other env w) → DoesAround r view other old new
+pub around_same : {C D G U V : Type 0} (r : Result C HostErr) (view : C → D) (one other : Env → Act D) (old new : Host G U V) → ((env : Env) (w : World) → one env w ≡ other env w) → DoesAround r view other old new
     → DoesAround r view one old new
 around_same r view one other old new same h env is rest trace =
     same_act (λ w t. world_around w new t) keep_rest (telling old new trace) r view rest (one env (world_around rest old trace)) (other env (world_around rest old trace)) (same env (world_around rest old trace)) (h env is rest trace)
 
 -- a failure that changes nothing
-pub around_fails : {C D G : Type 0} (e : ScError) (view : C → D) (act : Env → Act D) (old : Host G) → ((env : Env) (w : World) → act env w ≡ Bad (Failed e) w)
+pub around_fails : {C D G U V : Type 0} (e : ScError) (view : C → D) (act : Env → Act D) (old : Host G U V) → ((env : Env) (w : World) → act env w ≡ Bad (Failed e) w)
     → (let none : Result C HostErr = Err (ends.Failed e) in DoesAround none view act old old)
 around_fails {C} {D} e view act old h env is rest trace =
     let none : Result C HostErr = Err (ends.Failed e) in
@@ -157,7 +155,7 @@ start_same WrongArity f g w h = refl
 start_same Segment f g w h = refl
 start_same (Ready index store) f g w h = ap (λ (act : Act _). act w) (h index store)
 
-pub target_enters : {G : Type 0} (room : ℕ) (c : ContractCall) (t : Target') (frame : Running) (place : Place) (r : Result ScVal HostErr) (old new : Host G) (path : List ℕ) → IsNewPlace place c.function.now c.args.items path
+pub target_enters : {G U V : Type 0} (room : ℕ) (c : ContractCall) (t : Target') (frame : Running) (place : Place) (r : Result ScVal HostErr) (old new : Host G U V) (path : List ℕ) → IsNewPlace place c.function.now c.args.items path
     → frame.contract ≡ t.contract → frame.caller ≡ c.caller → frame.copy ≡ t.copy
     → DoesAround r datum (λ env. enters_frame env room place.function.items (datums c.args.items) t.module (entered frame place.function.items (datums c.args.items) place.path.items t.module)) old new
     → DoesAround r datum (λ env. enters_at (framed env (host_of env (opener_of env room))) (call_of c) path (target t)) old new
@@ -169,7 +167,7 @@ target_enters room c t frame place r old new path fresh at by copy enters =
     (λ env w. start_same (start_of t.module c.function.now (length args)) _ _ w (λ index store. ap (enter env) (sym (frame_is c t frame path index store at by copy))))
     (subst (λ p. DoesAround r datum (there c.function.now p) old new) fresh.path (subst (λ f. DoesAround r datum (there f place.path.items) old new) fresh.function enters))
 
-pub call_enters : {G : Type 0} (room : ℕ) → room ≢ 0 → (named : Bool) (c : ContractCall) (path : List ℕ) (t : Target') (r : Result ScVal HostErr) (old mid new : Host G) → Stays old mid
+pub call_enters : {G U V : Type 0} (room : ℕ) → room ≢ 0 → (named : Bool) (c : ContractCall) (path : List ℕ) (t : Target') (r : Result ScVal HostErr) (old mid new : Host G U V) → Stays old mid
     → (let found : Result Target' HostErr = Ok t in DoesAround found target (target_of named c.contract) old mid)
     → DoesAround r datum (λ env. enters_at (framed env (host_of env (opener_of env (room - 1)))) (call_of c) path (target t)) mid new
     → DoesAround r datum (λ env. call_at named env (opener_of env room) (call_of c) path) old new
@@ -179,7 +177,7 @@ call_enters room h named c path t r old mid new stays found enters =
     (λ env w. call_splits room h named (call_of c) path env w)
     (around_on t r target datum (target_of named c.contract) (λ env. enters_at (enter env) (call_of c) path) old mid new (env_later old mid stays) found enters)
 
-pub call_refused : {G : Type 0} (room : ℕ) → room ≢ 0 → (named : Bool) (c : ContractCall) (path : List ℕ) (e : HostErr) (old new : Host G)
+pub call_refused : {G U V : Type 0} (room : ℕ) → room ≢ 0 → (named : Bool) (c : ContractCall) (path : List ℕ) (e : HostErr) (old new : Host G U V)
     → (let none : Result Target' HostErr = Err e in DoesAround none target (target_of named c.contract) old new)
     → (let none : Result ScVal HostErr = Err e in DoesAround none datum (λ env. call_at named env (opener_of env room) (call_of c) path) old new)
 call_refused room h named c path e old new found =
@@ -190,7 +188,7 @@ call_refused room h named c path e old new found =
 
 -- ---- the start
 
-pub start_ready : {C D G : Type 0} (s : Start) (index : ℕ) (store : Store) (r : Result C HostErr) (view : C → D) (next : Env → ℕ → Store → Act D) (old new : Host G) → s ≡ Ready index store
+pub start_ready : {C D G U V : Type 0} (s : Start) (index : ℕ) (store : Store) (r : Result C HostErr) (view : C → D) (next : Env → ℕ → Store → Act D) (old new : Host G U V) → s ≡ Ready index store
     → DoesAround r view (λ env. next env index store) old new → DoesAround r view (λ env. with_start s (next env)) old new
 start_ready s index store r view next old new e h = subst (λ x. DoesAround r view (λ env. with_start x (next env)) old new) (sym e) h
 
@@ -200,10 +198,10 @@ refused_as WrongArity e next w is = ap (λ x. Bad (Failed x) w) cc
 refused_as Segment e next w is = ap (λ x. Bad (Failed x) w) cc
 refused_as (Ready index store) e next w is = cc
 
-no_memory : {C D G : Type 0} (view : C → D) (act : Env → Act D) (old new : Host G) → (let none : Result C HostErr = Err ends.NoMemory in DoesAround none view act old new)
+no_memory : {C D G U V : Type 0} (view : C → D) (act : Env → Act D) (old new : Host G U V) → (let none : Result C HostErr = Err ends.NoMemory in DoesAround none view act old new)
 no_memory view act old new env is rest trace = tt
 
-pub start_refused : {G : Type 0} (m : Module) (function : List ℕ) (n : ℕ) (e : HostErr) (next : Env → ℕ → Store → Act Datum) (old : Host G) → (let none : Result Suspended HostErr = Err e in IsStarted m function n none)
+pub start_refused : {G U V : Type 0} (m : Module) (function : List ℕ) (n : ℕ) (e : HostErr) (next : Env → ℕ → Store → Act Datum) (old : Host G U V) → (let none : Result Suspended HostErr = Err e in IsStarted m function n none)
     → (let none : Result ScVal HostErr = Err e in DoesAround none datum (λ env. with_start (start_of m function n) (next env)) old old)
 start_refused m function n (ends.Failed e) next old h = around_fails e datum (λ env. with_start (start_of m function n) (next env)) old (λ env w. refused_as (start_of m function n) e (next env) w h)
 start_refused m function n ends.NoMemory next old h = no_memory datum (λ env. with_start (start_of m function n) (next env)) old old

@@ -27,7 +27,7 @@ use Rattle.call_spec.specs.Found.{code_at, with_module}
 use Rattle.call_spec.specs.Creating.{Creation, preimage_of, id_of, function_of, paying_id, makes_instance, CONSTRUCTOR, constructs_if, builds, makes, creates_at}
 use Rattle.host_ledger.specs.Accessed.{Accesses}
 use Rattle.host_ledger.specs.declared.state.HostLedger.{HostLedger}
-use Rattle.host_ledger.proofs.Rows.{later_read}
+use Rattle.host_ledger.proofs.Lemmas.{later_read, quietly}
 use Rattle.call_parts.specs.Steps.{Steps, Charges, Returns}
 use Rattle.contract_call.specs.Worlds.{world_around, IsEnvOf, DoesAround}
 use Rattle.contract_call.specs.Made.{identifying, granting, authorising, sized, code_of, instantiating, building, constructing, builds_with, unless_given, if_void}
@@ -36,7 +36,6 @@ use Rattle.contract_call.specs.declared.host.Host.{Host}
 use Rattle.contract_call.proofs.Splitting.{joined, same_after}
 use Rattle.contract_call.proofs.Stepping.{steps_on, steps_stop}
 use Rattle.contract_call.proofs.Lending.{around}
-use Rattle.host_ledger.proofs.Tracing.{quietly}
 use Rattle.contract_call.proofs.Answering.{traced}
 
 module_first : {A : Type 0} (m : Option Module) (next : Module → Act A) (w : World) → with_module m next w ≡ then_do (with_module m (λ x. gives x) w) next
@@ -155,7 +154,7 @@ code_failed e id hash s t m one =
 
 -- ---- the host
 
-pub does_around : {A B G : Type 0} (r : Result A HostErr) (view : A → B) (act : Env → Act B) (old : Host G) (new : HostLedger G) → new ≡ record old.ledger { storage = new.storage; budget = new.budget }
+pub does_around : {A B G U V : Type 0} (r : Result A HostErr) (view : A → B) (act : Env → Act B) (old : Host G U V) (new : HostLedger G V) → new ≡ record old.ledger { storage = new.storage; budget = new.budget }
     → ((env : Env) → IsEnvOf env old → (w : World) → w.entries ≡ old.ledger.storage.map → w.meter ≡ old.ledger.budget
     → Says r view (act env w) (leaving old.ledger.storage new.storage w.trace (λ trace. record w { entries = new.storage.map; trace = trace; meter = new.budget })))
     → DoesAround r view act old (around old new)
@@ -164,7 +163,7 @@ does_around r view act old new e h =
     subst (λ l. DoesAround r view act old (around old l)) (sym e) (λ env is rest trace. h env is (world_around rest old trace) refl refl)
 
 -- a step that only charges
-pub charges_around : {A B G : Type 0} (r : Result A HostErr) (view : A → B) (act : Env → Act B) (old : Host G) (new : HostLedger G) → new ≡ record old.ledger { budget = new.budget }
+pub charges_around : {A B G U V : Type 0} (r : Result A HostErr) (view : A → B) (act : Env → Act B) (old : Host G U V) (new : HostLedger G V) → new ≡ record old.ledger { budget = new.budget }
     → ((env : Env) → env.header ≡ old.ledger.header.now → Charges r view (act env) old.ledger.budget new.budget) → DoesAround r view act old (around old new)
 charges_around r view act old new e h =
     let paid = record old.ledger { budget = new.budget } in

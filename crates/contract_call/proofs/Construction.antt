@@ -29,12 +29,12 @@ use Rattle.contract_call.specs.declared.host.Host.{Host}
 use Rattle.contract_call.specs.declared.place.Place.{Place}
 use Rattle.contract_call.proofs.Calling.{env_later, around_on, around_stop, around_same, start_same, opens}
 use Rattle.contract_call.proofs.Constructing.{at_first, authorising_first, void_says}
-use Rattle.host_ledger.proofs.Tracing.{quietly}
+use Rattle.host_ledger.proofs.Lemmas.{quietly}
 use Rattle.contract_call.proofs.Joining.{traced}
 use Rattle.contract_call.proofs.Splitting.{joined}
 
 -- a call that changes nothing
-pub returns_around : {A B G : Type 0} (r : Result A HostErr) (view : A → B) (act : Env → Act B) (old : Host G) → ((env : Env) → Returns r view (act env)) → DoesAround r view act old old
+pub returns_around : {A B G U V : Type 0} (r : Result A HostErr) (view : A → B) (act : Env → Act B) (old : Host G U V) → ((env : Env) → Returns r view (act env)) → DoesAround r view act old old
 returns_around r view act old h env is rest trace =
     let w = world_around rest old trace in
     quietly r view (act env w) old.ledger.storage w (world_around rest old) (traced r view (act env w) (λ trace. trace ≡ w.trace) w (h env w))
@@ -57,26 +57,26 @@ module _ (room : ℕ) (creator : Option ScAddress) (c : Creation) (path : List �
   abbrev grants : Env → Hash → Act Hash
   grants env id = granting env (opener_of env room) creator c path id
 
-  pub creates_does : {G : Type 0} (id : Hash) (r : Result Hash HostErr) (old mid new : Host G) → Stays old mid → (let given : Result Hash HostErr = Ok id in DoesAround given (λ x. x) authorises old mid)
+  pub creates_does : {G U V : Type 0} (id : Hash) (r : Result Hash HostErr) (old mid new : Host G U V) → Stays old mid → (let given : Result Hash HostErr = Ok id in DoesAround given (λ x. x) authorises old mid)
       → DoesAround r (λ x. x) (λ env. builds_all env id) mid new → DoesAround r (λ x. x) creates_all old new
   creates_does id r old mid new stays one two =
       around_same r (λ x. x) creates_all (λ env. after (authorises env) (builds_all env)) old new (λ env w. at_first env (opener_of env room) creator c path w)
       (around_on id r (λ x. x) (λ x. x) authorises builds_all old mid new (env_later old mid stays) one two)
 
-  pub creates_refused : {G : Type 0} (e : HostErr) (old new : Host G) → (let none : Result Hash HostErr = Err e in DoesAround none (λ x. x) authorises old new)
+  pub creates_refused : {G U V : Type 0} (e : HostErr) (old new : Host G U V) → (let none : Result Hash HostErr = Err e in DoesAround none (λ x. x) authorises old new)
       → (let none : Result Hash HostErr = Err e in DoesAround none (λ x. x) creates_all old new)
   creates_refused e old new one =
       let none : Result Hash HostErr = Err e in
       around_same none (λ x. x) creates_all (λ env. after (authorises env) (builds_all env)) old new (λ env w. at_first env (opener_of env room) creator c path w)
       (around_stop e (λ (x : Hash). x) (λ (x : Hash). x) authorises builds_all old new one)
 
-  pub authorises_does : {G : Type 0} (id : Hash) (r : Result Hash HostErr) (old mid new : Host G) → Stays old mid → (let given : Result Hash HostErr = Ok id in DoesAround given (λ x. x) identifies old mid)
+  pub authorises_does : {G U V : Type 0} (id : Hash) (r : Result Hash HostErr) (old mid new : Host G U V) → Stays old mid → (let given : Result Hash HostErr = Ok id in DoesAround given (λ x. x) identifies old mid)
       → DoesAround r (λ x. x) (λ env. grants env id) mid new → DoesAround r (λ x. x) authorises old new
   authorises_does id r old mid new stays one two =
       around_same r (λ x. x) authorises (λ env. after (identifies env) (grants env)) old new (λ env w. authorising_first env (opener_of env room) creator c path w)
       (around_on id r (λ x. x) (λ x. x) identifies grants old mid new (env_later old mid stays) one two)
 
-  pub authorises_not : {G : Type 0} (e : HostErr) (old new : Host G) → (let none : Result Hash HostErr = Err e in DoesAround none (λ x. x) identifies old new)
+  pub authorises_not : {G U V : Type 0} (e : HostErr) (old new : Host G U V) → (let none : Result Hash HostErr = Err e in DoesAround none (λ x. x) identifies old new)
       → (let none : Result Hash HostErr = Err e in DoesAround none (λ x. x) authorises old new)
   authorises_not e old new one =
       let none : Result Hash HostErr = Err e in
@@ -84,13 +84,13 @@ module _ (room : ℕ) (creator : Option ScAddress) (c : Creation) (path : List �
       (around_stop e (λ (x : Hash). x) (λ (x : Hash). x) identifies grants old new one)
 
 -- the module of a new contract, then its constructor
-pub builds_does : {G : Type 0} (room : ℕ) (creator : Option ScAddress) (c : Creation) (path : List ℕ) (id : Hash) (m : Module) (r : Result Hash HostErr) (old mid new : Host G) → Stays old mid
+pub builds_does : {G U V : Type 0} (room : ℕ) (creator : Option ScAddress) (c : Creation) (path : List ℕ) (id : Hash) (m : Module) (r : Result Hash HostErr) (old mid new : Host G U V) → Stays old mid
     → (let given : Result Module HostErr = Ok m in DoesAround given (λ x. x) (λ env. building env id c.code) old mid)
     → DoesAround r (λ x. x) (λ env. constructing (opener_of env room) creator id c path m) mid new → DoesAround r (λ x. x) (λ env. builds_with env (opener_of env room) creator c path id) old new
 builds_does room creator c path id m r old mid new stays one two =
     around_on m r (λ x. x) (λ x. x) (λ env. building env id c.code) (λ env m. constructing (opener_of env room) creator id c path m) old mid new (env_later old mid stays) one two
 
-pub builds_refused : {G : Type 0} (room : ℕ) (creator : Option ScAddress) (c : Creation) (path : List ℕ) (id : Hash) (e : HostErr) (old new : Host G)
+pub builds_refused : {G U V : Type 0} (room : ℕ) (creator : Option ScAddress) (c : Creation) (path : List ℕ) (id : Hash) (e : HostErr) (old new : Host G U V)
     → (let none : Result Module HostErr = Err e in DoesAround none (λ x. x) (λ env. building env id c.code) old new)
     → (let none : Result Hash HostErr = Err e in DoesAround none (λ x. x) (λ env. builds_with env (opener_of env room) creator c path id) old new)
 builds_refused room creator c path id e old new one =
@@ -165,7 +165,7 @@ built_is frame creator id code copy args path m index store at by is new =
     } in
     ap (λ x. e x creator (new_instance code)) (sym at) ∙ ap (λ x. e frame.contract x (new_instance code)) (sym by) ∙ ap (e frame.contract frame.caller) (sym (ap copied is ∙ new))
 
-decides : {G : Type 0} (returned : Result ScVal HostErr) (id : Hash) (r : Result Hash HostErr) (act : Env → Act Datum) (old new : Host G) → ((env : Env) → IsEnvOf env old → IsEnvOf env new) → IsConstructed returned id r
+decides : {G U V : Type 0} (returned : Result ScVal HostErr) (id : Hash) (r : Result Hash HostErr) (act : Env → Act Datum) (old new : Host G U V) → ((env : Env) → IsEnvOf env old → IsEnvOf env new) → IsConstructed returned id r
     → DoesAround returned datum act old new → DoesAround r (λ x. x) (λ env. after (act env) (judging id)) old new
 decides (Ok v) id r act old new later is does =
     subst (λ x. DoesAround x (λ y. y) (λ env. after (act env) (judging id)) old new) (sym is)
@@ -173,8 +173,8 @@ decides (Ok v) id r act old new later is does =
 decides (Err e) id r act old new later is does =
     subst (λ x. DoesAround x (λ y. y) (λ env. after (act env) (judging id)) old new) (sym is) (around_stop e datum (λ y. y) act (λ env. judging id) old new does)
 
-pub constructs_does : {G : Type 0} (room : ℕ) → room ≢ 0 → (creator : Option Hash) (id : Hash) (c : Creation) (copy : InstanceCopy) (frame : Running) (place : Place) (args : List ScVal) (path : List ℕ) (m : Module)
-    (returned : Result ScVal HostErr) (r : Result Hash HostErr) (old new : Host G) → datums args ≡ unwrap_or c.args [] → is_some (function_named CONSTRUCTOR m.exports) ≡ true → frame.contract ≡ id → frame.caller ≡ creator
+pub constructs_does : {G U V : Type 0} (room : ℕ) → room ≢ 0 → (creator : Option Hash) (id : Hash) (c : Creation) (copy : InstanceCopy) (frame : Running) (place : Place) (args : List ScVal) (path : List ℕ) (m : Module)
+    (returned : Result ScVal HostErr) (r : Result Hash HostErr) (old new : Host G U V) → datums args ≡ unwrap_or c.args [] → is_some (function_named CONSTRUCTOR m.exports) ≡ true → frame.contract ≡ id → frame.caller ≡ creator
     → frame.copy ≡ copy → copied copy ≡ new_instance c.code → IsNewPlace place CONSTRUCTOR args (path ++ 1 ∷ []) → Stays old new → IsConstructed returned id r
     → DoesAround returned datum (λ env. with_start (start_of m place.function.items (length (datums args))) (λ index store. framed env (host_of env (opener_of env (room - 1)))
     (entered frame place.function.items (datums args) place.path.items m index store))) old new

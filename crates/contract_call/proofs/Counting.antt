@@ -1,5 +1,5 @@
 -- As many words as arguments.
-use Rattle.std.proofs.Common.{◌≡◌, ℕ, suc, List, [], ◌∷◌, length, Result, Ok, Err, refl, sym, ap, subst}
+use Rattle.std.proofs.Common.{◌≡◌, ℕ, suc, List, [], ◌∷◌, length, None, Result, Ok, Err, refl, sym, ap, subst}
 use Rattle.std.specs.FinMap.{empty}
 use Rattle.std.specs.Prelude.{Vec, IfOk}
 use Rattle.std.specs.declared.alloc.Global.{Global}
@@ -61,6 +61,6 @@ pub counted : (r : Result (Vec ℕ Global) HostErr) (memories : List ResizableLi
     → ((w : World) → w.frame.shown ≡ shown → w.meter ≡ before → Says r words_of (argument_words memories ds w) (quiet w (λ trace. record w { frame = record w.frame { shown = new }; trace = trace; meter = after })))
     → IfOk r (λ words. length words.items ≡ length ds)
 counted (Ok words) memories ds shown new before after does =
-    let w : World = record { entries = empty; events = []; pairs = []; frame = record outside { shown = shown }; contracts = []; trace = []; meter = before } in
+    let w : World = record { entries = empty; events = []; pairs = []; noted = None; frame = record outside { shown = shown }; contracts = []; trace = []; meter = before } in
     subst (λ o. IsCounted o (length ds)) (does w refl refl).1 (words_counted memories ds w)
 counted (Err e) memories ds shown new before after does = tt

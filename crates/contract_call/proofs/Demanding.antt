@@ -9,18 +9,20 @@ use Rattle.value_types.specs.declared.address.ScAddress.{ScAddress}
 use Rattle.invoke_types.specs.declared.function.Function.{Function}
 use Rattle.auth_types.specs.declared.auth_entry.AuthEntry.{AuthEntry}
 use Rattle.auth_trees.specs.declared.demand.Demand.{Demand}
-use Rattle.auth_trees.specs.Demands.{Choice, ByNode, ByCaller, ByNothing, choice, answer, paired, Marked, after_demand, demand as demand_of}
-use Rattle.auth_trees.proofs.Later.{later_demand}
+use Rattle.auth_trees.specs.declared.demand.Demand.TheVariants as demands
+use Rattle.auth_trees.specs.Demands.{Marked, Choice, ByNode, ByCaller, ByNothing, ByNote, answer}
+use Rattle.auth_trees.specs.Authorities.{Authorised, choice_by, chooses, after_choice, IsDemanded}
+use Rattle.auth_trees.proofs.Lemmas.{later_demanded}
 use Rattle.host_spec.specs.declared.error.HostErr.{HostErr}
 use Rattle.host_spec.specs.declared.error.HostErr.TheVariants as ends
 use Rattle.host_frame.specs.Answered.{answer_of}
 use Rattle.host_frame.specs.declared.answer.Answer.{Answer as Answer'}
-use Rattle.host_ledger.proofs.Rows.{later_same}
+use Rattle.host_ledger.proofs.Lemmas.{later_same}
 use Rattle.call_spec.specs.Errors.{DENIED}
 use Rattle.call_spec.specs.World.{Access, World, Authority, Env}
 use Rattle.call_spec.specs.Acts.{Failed, Spent, Archived, Out, Good, Bad, Undeclared, Act, world_of, after, gives, only_where}
 use Rattle.call_spec.specs.Asking.{denied, denying}
-use Rattle.call_spec.specs.Demands.{met, demanded, proves_entry, require_auth, require_auth_for_args}
+use Rattle.call_spec.specs.Demands.{with_choice, met, demanded, proves_entry, require_auth, require_auth_for_args}
 use Rattle.call_spec.specs.Creating.{Creation, function_of}
 use Rattle.call_spec.specs.Frames.{Opener, is_void}
 use Rattle.call_spec.specs.HostFunctions.{opener_of}
@@ -33,7 +35,7 @@ use Rattle.host_ledger.specs.Worlds.{address_of, IsEnv}
 use Rattle.host_ledger.specs.declared.state.HostLedger.{HostLedger}
 use Rattle.contract_call.proofs.Constructing.{does_around}
 use Rattle.contract_call.proofs.Lending.{around}
-use Rattle.auth_parts.proofs.Splitting.{entry_asked}
+use Rattle.auth_parts.proofs.Lemmas.{entry_asked}
 use Rattle.contract_call.specs.Demanded.{called, requires_here, settled, asks_at, granted, denied_end, if_good, checked}
 use Rattle.contract_call.specs.Made.{granting, IsValued}
 use Rattle.contract_call.specs.Worlds.{leaving_by, world_around, IsEnvOf, DoesAround, DoesIn, Stays}
@@ -43,43 +45,67 @@ use Rattle.contract_call.proofs.Rowing.{in_around, valued_does}
 
 -- ---- the node that is used
 
--- what a demand does is to use a node and to settle
-met_settled : (env : Env) (opener : Opener) (path : List ℕ) (c : Choice) (w : World) → met env opener path c w ≡ settled env opener (answer c) (record w { pairs = paired w.pairs path c })
-met_settled env opener path (ByNode entry []) w = refl
-met_settled env opener path (ByNode entry (i ∷ more)) w = refl
-met_settled env opener path ByCaller w = refl
-met_settled env opener path ByNothing w = refl
+-- what a demand does is to keep the choice and to settle
+met_settled : (env : Env) (opener : Opener) (path : List ℕ) (address : ScAddress) (function : Function) (c : Choice) (w : World)
+    → met env opener path address function c w ≡ settled env opener (answer c) (with_choice path address function c w)
+met_settled env opener path address function (ByNode entry []) w = refl
+met_settled env opener path address function (ByNode entry (i ∷ more)) w = refl
+met_settled env opener path address function ByCaller w = refl
+met_settled env opener path address function ByNothing w = refl
+met_settled env opener path address function (ByNote tree place) w = refl
 
--- the host after a demand used a node
-abbrev pub marked : {G : Type 0} → Host G → List ℕ → Option ScAddress → ScAddress → Function → Host G
-marked h path caller address function = record h { marks = after_demand h.marks path caller address function }
-
-pub demanded_does : {G : Type 0} (room : ℕ) (path : List ℕ) (caller : Option ScAddress) (address : ScAddress) (function : Function) (answered : Demand) (r : Result (Unit {0}) HostErr) (old mid new : Host G)
-    → answered ≡ demand_of old.marks path caller address function → mid ≡ marked old path caller address function → DoesAround r (λ u. u) (λ env. settled env (opener_of env room) answered) mid new
-    → DoesAround r (λ u. u) (λ env. demanded env (opener_of env room) path caller address function) old new
-demanded_does {G} room path caller address function answered r old mid new answer_is mid_is does env is rest trace =
-    let c = choice old.marks path caller address function in
-    let settles : Host G → Type 0 = λ h. DoesAround r (λ u. u) (λ env. settled env (opener_of env room) (answer c)) h new in
-    let settle : settles (marked old path caller address function) = subst settles mid_is (subst (λ d. DoesAround r (λ u. u) (λ env. settled env (opener_of env room) d) mid new) answer_is does) in
+chosen_does : {G U V : Type 0} (room : ℕ) (path : List ℕ) (caller : Option ScAddress) (address : ScAddress) (function : Function) (answered : Demand) (r : Result (Unit {0}) HostErr) (old : Host G U V) (marks : Authorised) (new : Host G U V)
+    → (let c = chooses old.marks path caller address function in answered ≡ answer c → marks ≡ after_choice old.marks path address function c
+    → DoesAround r (λ u. u) (λ env. settled env (opener_of env room) answered) (record old { marks = marks }) new
+    → DoesAround r (λ u. u) (λ env. demanded env (opener_of env room) path caller address function) old new)
+chosen_does {G} {U} room path caller address function answered r old marks new answer_is marks_is does env is rest trace =
+    let c = chooses old.marks path caller address function in
+    let settle : DoesAround r (λ u. u) (λ env. settled env (opener_of env room) (answer c)) (record old { marks = after_choice old.marks path address function c }) new =
+    subst (λ (m : Authorised). DoesAround r (λ u. u) (λ env. settled env (opener_of env room) (answer c)) (record old { marks = m }) new) marks_is
+    (subst (λ d. DoesAround r (λ u. u) (λ env. settled env (opener_of env room) d) (record old { marks = marks }) new) answer_is does) in
     let w = world_around rest old trace in
-    let asks = λ (s : Marked). met env (opener_of env room) path (choice s path caller address function) w in
-    let same : demanded env (opener_of env room) path caller address function w ≡ settled env (opener_of env room) (answer c) (record w { pairs = paired old.marks.pairs path c }) =
-    ap (λ a. asks (record { entries = a.entries; source = a.source; pairs = old.marks.pairs })) is.authority ∙ met_settled env (opener_of env room) path c w in
+    let asks = λ (s : Marked). met env (opener_of env room) path address function (choice_by old.marks.noted s path caller address function) w in
+    let same : demanded env (opener_of env room) path caller address function w ≡ settled env (opener_of env room) (answer c) (with_choice path address function c w) =
+    ap (λ a. asks (record { entries = a.entries; source = a.source; pairs = old.marks.pairs })) is.authority ∙ met_settled env (opener_of env room) path address function c w in
     subst (λ (o : Out (Unit {0})). Says r (λ u. u) o (leaving_by old new trace (world_around rest new))) (sym same)
     (settle env (record { ledger = record { header = is.ledger.header; serves = is.ledger.serves }; authority = is.authority }) rest trace)
 
-pub marked_stays : {G : Type 0} (old mid : Host G) (path : List ℕ) (caller : Option ScAddress) (address : ScAddress) (function : Function) → mid ≡ marked old path caller address function → Stays old mid
-marked_stays {G} old mid path caller address function is = subst (λ (h : Host G). Stays old h) (sym is) (record {
+pub demanded_does : {G U V : Type 0} (room : ℕ) (path : List ℕ) (caller : Option ScAddress) (address : ScAddress) (function : Function) (answered : Demand) (r : Result (Unit {0}) HostErr) (old : Host G U V) (marks : Authorised) (new : Host G U V)
+    → IsDemanded path caller address function answered old.marks marks → (answered ≡ demands.NoMemory → r ≡ Err ends.NoMemory)
+    → DoesAround r (λ u. u) (λ env. settled env (opener_of env room) answered) (record old { marks = marks }) new
+    → DoesAround r (λ u. u) (λ env. demanded env (opener_of env room) path caller address function) old new
+demanded_does {G} {U} room path caller address function answered r old marks new =
+    let goal : Demand → Type 0 = λ d. IsDemanded path caller address function d old.marks marks → (d ≡ demands.NoMemory → r ≡ Err ends.NoMemory)
+    → DoesAround r (λ u. u) (λ env. settled env (opener_of env room) d) (record old { marks = marks }) new
+    → DoesAround r (λ u. u) (λ env. demanded env (opener_of env room) path caller address function) old new in
+    let chosen : (d : Demand) → (let c = chooses old.marks path caller address function in (d ≡ answer c) × (marks ≡ after_choice old.marks path address function c)
+    → DoesAround r (λ u. u) (λ env. settled env (opener_of env room) d) (record old { marks = marks }) new
+    → DoesAround r (λ u. u) (λ env. demanded env (opener_of env room) path caller address function) old new) =
+    λ d h does. chosen_does room path caller address function d r old marks new h.0 h.1 does in
+    let go : (d : Demand) → goal d =
+    λ d. elim d as goal [
+      | demands.Matched index first ↦ λ h _ does. chosen (demands.Matched index first) h does
+      | demands.ByInvoker ↦ λ h _ does. chosen demands.ByInvoker h does
+      | demands.Denied ↦ λ h _ does. chosen demands.Denied h does
+      | demands.Noted ↦ λ h _ does. chosen demands.Noted h does
+      | demands.NoMemory ↦ λ _ memory _. subst (λ (x : Result (Unit {0}) HostErr). DoesAround x (λ u. u) (λ env. demanded env (opener_of env room) path caller address function) old new) (sym (memory refl))
+          (λ env is rest trace. tt)
+    ] in
+    go answered
+
+pub marked_stays : {G U V : Type 0} (old : Host G U V) (path : List ℕ) (caller : Option ScAddress) (address : ScAddress) (function : Function) (answered : Demand) (marks : Authorised)
+    → IsDemanded path caller address function answered old.marks marks → Stays old (record old { marks = marks })
+marked_stays old path caller address function answered marks is = record {
   header = refl;
   storage = later_same old.ledger.storage old.ledger.storage refl;
   events = ([], sym (append-nil old.ledger.events));
   objects = refl;
   frame = refl;
   contracts = refl;
-  marks = later_demand old.marks path caller address function;
+  marks = later_demanded path caller address function answered old.marks marks is;
   verdicts = refl;
   place = refl;
-})
+}
 
 -- ---- the entry
 
@@ -94,13 +120,13 @@ module _ (room entry : ℕ) where
   abbrev asks_all : Env → Act Asked
   asks_all env = asks_at env (slice_get env.authority.entries entry)
 
-  pub proves_does : {A G : Type 0} (a : A) (view : A → Asked) (r : Result (Unit {0}) HostErr) (old mid new : Host G) → ((env : Env) → IsEnvOf env old → IsEnvOf env mid)
+  pub proves_does : {A G U V : Type 0} (a : A) (view : A → Asked) (r : Result (Unit {0}) HostErr) (old mid new : Host G U V) → ((env : Env) → IsEnvOf env old → IsEnvOf env mid)
       → (let given : Result A HostErr = Ok a in DoesAround given view asks_all old mid) → DoesAround r (λ u. u) (λ env. asks_then env (opener_of env room) (view a)) mid new → DoesAround r (λ u. u) proves_all old new
   proves_does a view r old mid new later one two =
       around_same r (λ u. u) proves_all (λ env. after (asks_all env) (asks_then env (opener_of env room))) old new (λ env w. proves_at env (opener_of env room) (slice_get env.authority.entries entry) w)
       (around_on a r view (λ u. u) asks_all (λ env. asks_then env (opener_of env room)) old mid new later one two)
 
-  pub proves_not : {A G : Type 0} (e : HostErr) (view : A → Asked) (old new : Host G) → (let none : Result A HostErr = Err e in DoesAround none view asks_all old new)
+  pub proves_not : {A G U V : Type 0} (e : HostErr) (view : A → Asked) (old new : Host G U V) → (let none : Result A HostErr = Err e in DoesAround none view asks_all old new)
       → (let none : Result (Unit {0}) HostErr = Err e in DoesAround none (λ u. u) proves_all old new)
   proves_not e view old new one =
       let none : Result (Unit {0}) HostErr = Err e in
@@ -108,7 +134,7 @@ module _ (room entry : ℕ) where
       (around_stop e view (λ u. u) asks_all (λ env. asks_then env (opener_of env room)) old new one)
 
 -- the entry at an index, as the program asks its address
-pub asks_does : {G : Type 0} (r : Result Asked' HostErr) (index : ℕ) (entry : AuthEntry) (old : Host G) (new : HostLedger G) → new ≡ record old.ledger { storage = new.storage; budget = new.budget }
+pub asks_does : {G U V : Type 0} (r : Result Asked' HostErr) (index : ℕ) (entry : AuthEntry) (old : Host G U V) (new : HostLedger G V) → new ≡ record old.ledger { storage = new.storage; budget = new.budget }
     → slice_get old.marks.entries index ≡ Some entry
     → ((env : Env) → IsEnv env old.ledger → env.authority.verdicts ≡ old.verdicts.now → (w : World) → w.entries ≡ old.ledger.storage.map → w.meter ≡ old.ledger.budget
     → Says r asked (asks_first env entry w) (leaving old.ledger.storage new.storage w.trace (λ trace. record w { entries = new.storage.map; trace = trace; meter = new.budget })))
@@ -118,7 +144,7 @@ asks_does r index entry old new kept found does =
     (λ env is w i j. subst (λ o. Says r asked (asks_at env o w) (leaving old.ledger.storage new.storage w.trace (λ trace. record w { entries = new.storage.map; trace = trace; meter = new.budget }))) (sym (ap (λ (a : Authority). slice_get a.entries index) is.authority ∙ found))
     (does env is.ledger (ap (λ (a : Authority). a.verdicts) is.authority) w i j))
 
-pub nothing_left : {G : Type 0} (room : ℕ) (h : Host G) → (let r : Result (Unit {0}) HostErr = Ok tt in DoesAround r (λ u. u) (λ env. asks_then env (opener_of env room) proved) h h)
+pub nothing_left : {G U V : Type 0} (room : ℕ) (h : Host G U V) → (let r : Result (Unit {0}) HostErr = Ok tt in DoesAround r (λ u. u) (λ env. asks_then env (opener_of env room) proved) h h)
 nothing_left room h env is rest trace = ((λ told. told), refl)
 
 -- ---- the contract's own function
@@ -155,7 +181,7 @@ abbrev judged : Result ScVal HostErr → Result (Unit {0}) HostErr
 judged (Ok v) = if_good (is_void (datum v))
 judged (Err e) = Err e
 
-good_says : {G : Type 0} (good : Bool) (rest : World) (h : Host G) (trace : List Access)
+good_says : {G U V : Type 0} (good : Bool) (rest : World) (h : Host G U V) (trace : List Access)
     → Says (if_good good) (λ u. u) (only_where good DENIED (gives tt) (world_around rest h trace)) (leaving_by h h trace (world_around rest h))
 good_says true rest h trace = ((λ told. told), refl)
 good_says false rest h trace = ((λ told. told), refl)
@@ -164,7 +190,7 @@ good_is : (good : Bool) → if_good good ≡ deny (if_good good)
 good_is true = refl
 good_is false = refl
 
-judged_does : {G : Type 0} (returned : Result ScVal HostErr) (act : Env → Act Datum) (old new : Host G) → ((env : Env) → IsEnvOf env old → IsEnvOf env new) → DoesAround returned datum act old new
+judged_does : {G U V : Type 0} (returned : Result ScVal HostErr) (act : Env → Act Datum) (old new : Host G U V) → ((env : Env) → IsEnvOf env old → IsEnvOf env new) → DoesAround returned datum act old new
     → DoesAround (judged returned) (λ u. u) (λ env. after (act env) (λ d. only_where (is_void d) DENIED (gives tt))) old new
 judged_does (Ok v) act old new later does =
     around_on v (if_good (is_void (datum v))) datum (λ u. u) act (λ env d. only_where (is_void d) DENIED (gives tt)) old new new later does
@@ -175,7 +201,7 @@ checked_is : (returned : Result ScVal HostErr) → checked returned ≡ deny (ju
 checked_is (Ok v) = good_is (is_void (datum v))
 checked_is (Err e) = refl
 
-pub checks_does : {G : Type 0} (returned : Result ScVal HostErr) (r : Result (Unit {0}) HostErr) (act : Env → Act Datum) (old new : Host G) → ((env : Env) → IsEnvOf env old → IsEnvOf env new) → r ≡ checked returned
+pub checks_does : {G U V : Type 0} (returned : Result ScVal HostErr) (r : Result (Unit {0}) HostErr) (act : Env → Act Datum) (old new : Host G U V) → ((env : Env) → IsEnvOf env old → IsEnvOf env new) → r ≡ checked returned
     → DoesAround returned datum act old new → DoesAround r (λ u. u) (λ env. denying (after (act env) (λ d. only_where (is_void d) DENIED (gives tt)))) old new
 checks_does returned r act old new later is does =
     subst (λ x. DoesAround x (λ u. u) (λ env. denying (after (act env) (λ d. only_where (is_void d) DENIED (gives tt)))) old new) (sym (is ∙ checked_is returned))
@@ -184,7 +210,7 @@ checks_does returned r act old new later is does =
 
 -- ---- the end of a demand
 
-pub grants_does : {G : Type 0} (room : ℕ) (creator : Option ScAddress) (c : Creation) (path : List ℕ) (id : Hash) (met : Result (Unit {0}) HostErr) (r : Result Hash HostErr) (old new : Host G) → ((env : Env) → IsEnvOf env old → IsEnvOf env new)
+pub grants_does : {G U V : Type 0} (room : ℕ) (creator : Option ScAddress) (c : Creation) (path : List ℕ) (id : Hash) (met : Result (Unit {0}) HostErr) (r : Result Hash HostErr) (old new : Host G U V) → ((env : Env) → IsEnvOf env old → IsEnvOf env new)
     → r ≡ granted met id → DoesAround met (λ u. u) (λ env. demanded env (opener_of env room) path creator c.deployer (function_of c)) old new
     → DoesAround r (λ x. x) (λ env. granting env (opener_of env room) creator c path id) old new
 grants_does room creator c path id (Ok u) r old new later is does =
@@ -195,20 +221,20 @@ grants_does room creator c path id (Err e) r old new later is does =
     (around_stop e (λ u. u) (λ x. x) (λ env. demanded env (opener_of env room) path creator c.deployer (function_of c)) (λ env _. gives id) old new does)
 
 -- what the program says of the running frame's function
-pub own_does : {G : Type 0} (room : ℕ) (address : ScAddress) (function : Function) (r : Result Answer' HostErr) (old new : Host G)
+pub own_does : {G U V : Type 0} (room : ℕ) (address : ScAddress) (function : Function) (r : Result Answer' HostErr) (old new : Host G U V)
     → function ≡ called old.ledger.frame.contract old.place.function.items (datums old.place.args.items) → DoesIn r answer_of (λ env. requires_here env (opener_of env room) address function) old new
     → DoesIn r answer_of (λ env. require_auth env (opener_of env room) address) old new
 own_does room address function r old new is does =
     subst (λ f. DoesIn r answer_of (λ env. requires_here env (opener_of env room) address f) old new) is does
 
-pub given_does : {G : Type 0} (room : ℕ) (address : ScAddress) (args : List Datum) (function : Function) (r : Result Answer' HostErr) (old new : Host G)
+pub given_does : {G U V : Type 0} (room : ℕ) (address : ScAddress) (args : List Datum) (function : Function) (r : Result Answer' HostErr) (old new : Host G U V)
     → function ≡ called old.ledger.frame.contract old.place.function.items args → DoesIn r answer_of (λ env. requires_here env (opener_of env room) address function) old new
     → DoesIn r answer_of (λ env. require_auth_for_args env (opener_of env room) address args) old new
 given_does room address args function r old new is does =
     subst (λ f. DoesIn r answer_of (λ env. requires_here env (opener_of env room) address f) old new) is does
 
 -- a demand of the running frame
-pub here_does : {G : Type 0} (room : ℕ) (address : ScAddress) (function : Function) (met : Result (Unit {0}) HostErr) (r : Result Answer' HostErr) (old new : Host G) → Stays old new → IsValued met (λ _. void) r
+pub here_does : {G U V : Type 0} (room : ℕ) (address : ScAddress) (function : Function) (met : Result (Unit {0}) HostErr) (r : Result Answer' HostErr) (old new : Host G U V) → Stays old new → IsValued met (λ _. void) r
     → DoesAround met (λ u. u) (λ env. demanded env (opener_of env room) old.place.path.items (option_map address_of old.ledger.frame.caller) address function) old new
     → DoesIn r answer_of (λ env. requires_here env (opener_of env room) address function) old new
 here_does room address function met r old new stays valued does =

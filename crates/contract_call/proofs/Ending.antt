@@ -21,12 +21,9 @@ use Rattle.call_spec.specs.Footprints.{by_footprint, first_rejected}
 use Rattle.call_spec.specs.Laws.{Maps, AlikeWorlds, AlikeEnds, Stops}
 use Rattle.call_spec.specs.Outcomes.{Leaves, Says, trace_of}
 use Rattle.call_spec.specs.WholeRuns.{Work, all_allowed, done_under}
-use Rattle.call_spec.proofs.Acts.{Same}
-use Rattle.call_spec.proofs.Frames.{unwatched, unwatched_fair}
-use Rattle.call_spec.proofs.HostFunctions.{done_local}
-use Rattle.call_spec.proofs.Stopping.{end_to_end_law}
-use Rattle.host_ledger.specs.Traced.{kind_of, touches_of, Tells}
-use Rattle.host_ledger.proofs.Tracing.{retold}
+use Rattle.call_spec.proofs.Lemmas.{Same, done_local, end_to_end_law, unwatched, unwatched_fair}
+use Rattle.host_ledger.specs.Traced.{kind_of, known_of, IsRecorded, Tells}
+use Rattle.host_ledger.proofs.Lemmas.{retold}
 use Rattle.contract_call.specs.Ended.{IsEnd, EndsBy, Ends, UnlessMemory, EndsRecorded}
 use Rattle.contract_call.specs.Worlds.{world_around, authority_of, leaving_by, DoesAround, MayRun}
 use Rattle.contract_call.specs.declared.host.Host.{Host}
@@ -69,15 +66,15 @@ same_key p = cc
 -- ---- an end at an access that is not declared
 
 -- how the program says the end, apart from what is known of the accesses
-abbrev Said : {A G : Type 0} → Result A HostErr → (A → Datum) → Out Datum → World → Host G → Type 0
+abbrev Said : {A G U V : Type 0} → Result A HostErr → (A → Datum) → Out Datum → World → Host G U V → Type 0
 Said r view out rest new = let left : Leaves = record { world = world_around rest new; told = λ trace. Unit {0} } in Says r view out left
 
-untold : {A G : Type 0} (r : Result A HostErr) (view : A → Datum) (out : Out Datum) (rest : World) (old new : Host G) (trace : List Access)
+untold : {A G U V : Type 0} (r : Result A HostErr) (view : A → Datum) (out : Out Datum) (rest : World) (old new : Host G U V) (trace : List Access)
     → Says r view out (leaving_by old new trace (world_around rest new)) → Said r view out rest new
 untold r view out rest old new trace says =
     retold r view out (world_around rest new) (Tells old.ledger.storage new.ledger.storage trace) (λ _. Unit {0}) (λ _ _. tt) says
 
-stopped : {A G : Type 0} (may : Judge) (m : LedgerMap) (a s : Access) (one : Out Datum) (v rest : World) (r : Result A HostErr) (view : A → Datum) (old new : Host G) → s ≡ a → v.meter.used ≡ a.used
+stopped : {A G U V : Type 0} (may : Judge) (m : LedgerMap) (a s : Access) (one : Out Datum) (v rest : World) (r : Result A HostErr) (view : A → Datum) (old new : Host G U V) → s ≡ a → v.meter.used ≡ a.used
     → Said r view (Undeclared s v) rest new → EndsBy may m (Some a) one r view old new
 stopped may m a s one v rest (Ok x) view old new same used says = absurd (undeclared_good says.1)
 stopped may m a s one v rest (Err (ends.Failed e)) view old new same used says = absurd (undeclared_bad says.1)
@@ -89,7 +86,7 @@ stopped may m a s one v rest (Err ends.NoMemory) view old new same used says = t
 
 -- ---- ends of runs whose accesses are all declared
 
-good_end : {A G : Type 0} (may : Judge) (m : LedgerMap) (a b : Datum) (w v rest : World) (r : Result A HostErr) (view : A → Datum) (old new : Host G) → a ≡ b → AlikeWorlds may m old.ledger.storage.map w v
+good_end : {A G U V : Type 0} (may : Judge) (m : LedgerMap) (a b : Datum) (w v rest : World) (r : Result A HostErr) (view : A → Datum) (old new : Host G U V) → a ≡ b → AlikeWorlds may m old.ledger.storage.map w v
     → Said r view (Good b v) rest new → IsEnd may m (Good a w) r view old new
 good_end may m a b w v rest (Ok x) view old new same alike says =
     let is = ap world_of says.1 in (
@@ -97,6 +94,7 @@ good_end may m a b w v rest (Ok x) view old new same alike says =
       sym (ap (λ (u : World). u.meter) is) ∙ ap (λ (u : World). u.meter) alike.rest,
       sym (ap (λ (u : World). u.events) is) ∙ ap (λ (u : World). u.events) alike.rest,
       sym (ap (λ (u : World). u.pairs) is) ∙ ap (λ (u : World). u.pairs) alike.rest,
+      sym (ap (λ (u : World). u.noted) is) ∙ ap (λ (u : World). u.noted) alike.rest,
       subst (λ (p : LedgerMap). Maps may m old.ledger.storage.map w.entries p) (ap (λ (u : World). u.entries) is) alike.maps,
     )
 good_end may m a b w v rest (Err (ends.Failed e)) view old new same alike says = absurd (good_bad says.1)
@@ -106,18 +104,18 @@ good_end may m a b w v rest (Err (ends.Undeclared key)) view old new same alike 
 good_end may m a b w v rest (Err ends.NoMemory) view old new same alike says = tt
 
 -- the entries, the events and the authorisations that were used are as before
-record IsBefore {G : Type 0} (old : Host G) (v : World) : Type 0 where
+record IsBefore {G U V : Type 0} (old : Host G U V) (v : World) : Type 0 where
   pub entries : v.entries ≡ old.ledger.storage.map
   pub events : v.events ≡ old.ledger.events
   pub pairs : v.pairs ≡ old.marks.pairs
 
-abbrev BackAtFailure : {G : Type 0} → Host G → Out Datum → Type 0
+abbrev BackAtFailure : {G U V : Type 0} → Host G U V → Out Datum → Type 0
 BackAtFailure old out = (e : ScError) (v : World) → out ≡ Bad (Failed e) v → IsBefore old v
 
-bad_end : {A G : Type 0} (may : Judge) (m : LedgerMap) (d : Failure) (w v rest : World) (r : Result A HostErr) (view : A → Datum) (old new : Host G) → v.meter ≡ w.meter → BackAtFailure old (Bad d v)
+bad_end : {A G U V : Type 0} (may : Judge) (m : LedgerMap) (d : Failure) (w v rest : World) (r : Result A HostErr) (view : A → Datum) (old new : Host G U V) → v.meter ≡ w.meter → v.noted ≡ w.noted → BackAtFailure old (Bad d v)
     → Said r view (Bad d v) rest new → IsEnd may m (Bad d w) r view old new
-bad_end may m (Failed e) w v rest (Ok x) view old new paid back says = absurd (bad_good says.1)
-bad_end may m (Failed e) w v rest (Err (ends.Failed c)) view old new paid back says =
+bad_end may m (Failed e) w v rest (Ok x) view old new paid noted back says = absurd (bad_good says.1)
+bad_end may m (Failed e) w v rest (Err (ends.Failed c)) view old new paid noted back says =
     let is = ap world_of says.1 in
     let same : Failed e ≡ Failed c = same_failure says.1 in
     let before = back e v refl in (
@@ -125,26 +123,27 @@ bad_end may m (Failed e) w v rest (Err (ends.Failed c)) view old new paid back s
       sym (ap (λ (u : World). u.meter) is) ∙ paid,
       sym (ap (λ (u : World). u.events) is) ∙ before.events,
       sym (ap (λ (u : World). u.pairs) is) ∙ before.pairs,
+      sym (ap (λ (u : World). u.noted) is) ∙ noted,
       sym (ap (λ (u : World). u.entries) is) ∙ before.entries,
     )
-bad_end may m (Failed e) w v rest (Err ends.Spent) view old new paid back says = let p : Failed e ≡ Spent = same_failure says.1 in absurd cc
-bad_end may m (Failed e) w v rest (Err (ends.Archived key)) view old new paid back says = let p : Failed e ≡ Archived key = same_failure says.1 in absurd cc
-bad_end may m (Failed e) w v rest (Err (ends.Undeclared key)) view old new paid back says = absurd (bad_undeclared says.1)
-bad_end may m (Failed e) w v rest (Err ends.NoMemory) view old new paid back says = tt
-bad_end may m Spent w v rest (Ok x) view old new paid back says = absurd (bad_good says.1)
-bad_end may m Spent w v rest (Err (ends.Failed c)) view old new paid back says = let p : Spent ≡ Failed c = same_failure says.1 in absurd cc
-bad_end may m Spent w v rest (Err ends.Spent) view old new paid back says = sym says.2 ∙ paid
-bad_end may m Spent w v rest (Err (ends.Archived key)) view old new paid back says = let p : Spent ≡ Archived key = same_failure says.1 in absurd cc
-bad_end may m Spent w v rest (Err (ends.Undeclared key)) view old new paid back says = absurd (bad_undeclared says.1)
-bad_end may m Spent w v rest (Err ends.NoMemory) view old new paid back says = tt
-bad_end may m (Archived k) w v rest (Ok x) view old new paid back says = absurd (bad_good says.1)
-bad_end may m (Archived k) w v rest (Err (ends.Failed c)) view old new paid back says = let p : Archived k ≡ Failed c = same_failure says.1 in absurd cc
-bad_end may m (Archived k) w v rest (Err ends.Spent) view old new paid back says = let p : Archived k ≡ Spent = same_failure says.1 in absurd cc
-bad_end may m (Archived k) w v rest (Err (ends.Archived key)) view old new paid back says = (sym (same_key (same_failure says.1)), sym says.2 ∙ paid)
-bad_end may m (Archived k) w v rest (Err (ends.Undeclared key)) view old new paid back says = absurd (bad_undeclared says.1)
-bad_end may m (Archived k) w v rest (Err ends.NoMemory) view old new paid back says = tt
+bad_end may m (Failed e) w v rest (Err ends.Spent) view old new paid noted back says = let p : Failed e ≡ Spent = same_failure says.1 in absurd cc
+bad_end may m (Failed e) w v rest (Err (ends.Archived key)) view old new paid noted back says = let p : Failed e ≡ Archived key = same_failure says.1 in absurd cc
+bad_end may m (Failed e) w v rest (Err (ends.Undeclared key)) view old new paid noted back says = absurd (bad_undeclared says.1)
+bad_end may m (Failed e) w v rest (Err ends.NoMemory) view old new paid noted back says = tt
+bad_end may m Spent w v rest (Ok x) view old new paid noted back says = absurd (bad_good says.1)
+bad_end may m Spent w v rest (Err (ends.Failed c)) view old new paid noted back says = let p : Spent ≡ Failed c = same_failure says.1 in absurd cc
+bad_end may m Spent w v rest (Err ends.Spent) view old new paid noted back says = sym says.2 ∙ paid
+bad_end may m Spent w v rest (Err (ends.Archived key)) view old new paid noted back says = let p : Spent ≡ Archived key = same_failure says.1 in absurd cc
+bad_end may m Spent w v rest (Err (ends.Undeclared key)) view old new paid noted back says = absurd (bad_undeclared says.1)
+bad_end may m Spent w v rest (Err ends.NoMemory) view old new paid noted back says = tt
+bad_end may m (Archived k) w v rest (Ok x) view old new paid noted back says = absurd (bad_good says.1)
+bad_end may m (Archived k) w v rest (Err (ends.Failed c)) view old new paid noted back says = let p : Archived k ≡ Failed c = same_failure says.1 in absurd cc
+bad_end may m (Archived k) w v rest (Err ends.Spent) view old new paid noted back says = let p : Archived k ≡ Spent = same_failure says.1 in absurd cc
+bad_end may m (Archived k) w v rest (Err (ends.Archived key)) view old new paid noted back says = (sym (same_key (same_failure says.1)), sym says.2 ∙ paid)
+bad_end may m (Archived k) w v rest (Err (ends.Undeclared key)) view old new paid noted back says = absurd (bad_undeclared says.1)
+bad_end may m (Archived k) w v rest (Err ends.NoMemory) view old new paid noted back says = tt
 
-ended : {A G : Type 0} (may : Judge) (m : LedgerMap) (x : Option Access) (one cut : Out Datum) (rest : World) (r : Result A HostErr) (view : A → Datum) (old new : Host G) → BackAtFailure old cut
+ended : {A G U V : Type 0} (may : Judge) (m : LedgerMap) (x : Option Access) (one cut : Out Datum) (rest : World) (r : Result A HostErr) (view : A → Datum) (old new : Host G U V) → BackAtFailure old cut
     → Stops may m old.ledger.storage.map x one cut → Said r view cut rest new → EndsBy may m x one r view old new
 ended may m (Some a) one (Undeclared s v) rest r view old new back stops says = stopped may m a s one v rest r view old new stops.0 stops.1 says
 ended may m (Some a) one (Good b v) rest r view old new back stops says = absurd stops
@@ -155,13 +154,13 @@ ended may m None (Good a w) (Undeclared s v) rest r view old new back stops says
 ended may m None (Bad d w) (Good b v) rest r view old new back stops says = absurd stops
 ended may m None (Bad d w) (Bad e v) rest r view old new back stops says =
     let same = sym stops.0 in
-    bad_end may m d w v rest r view old new (ap (λ (u : World). u.meter) stops.1.rest) (subst (λ (x : Failure). BackAtFailure old (Bad x v)) same back) (subst (λ (x : Failure). Said r view (Bad x v) rest new) same says)
+    bad_end may m d w v rest r view old new (ap (λ (u : World). u.meter) stops.1.rest) (ap (λ (u : World). u.noted) stops.1.rest) (subst (λ (x : Failure). BackAtFailure old (Bad x v)) same back) (subst (λ (x : Failure). Said r view (Bad x v) rest new) same says)
 ended may m None (Bad d w) (Undeclared s v) rest r view old new back stops says = absurd stops
 ended may m None (Undeclared s w) cut rest r view old new back stops says = absurd stops
 
 -- ---- the whole
 
-undone_back : {G : Type 0} (old : Host G) (w : World) → w.entries ≡ old.ledger.storage.map → w.events ≡ old.ledger.events → w.pairs ≡ old.marks.pairs → (out : Out Datum) → BackAtFailure old (undone w out)
+undone_back : {G U V : Type 0} (old : Host G U V) (w : World) → w.entries ≡ old.ledger.storage.map → w.events ≡ old.ledger.events → w.pairs ≡ old.marks.pairs → (out : Out Datum) → BackAtFailure old (undone w out)
 undone_back old w i j k (Bad (Failed d) u) e v p =
     record { entries = sym (ap (λ o. (world_of o).entries) p) ∙ i; events = sym (ap (λ o. (world_of o).events) p) ∙ j; pairs = sym (ap (λ o. (world_of o).pairs) p) ∙ k }
 undone_back old w i j k (Bad Spent u) e v p = let q : Spent ≡ Failed e = same_failure p in absurd cc
@@ -169,7 +168,7 @@ undone_back old w i j k (Bad (Archived key) u) e v p = let q : Archived key ≡ 
 undone_back old w i j k (Good a u) e v p = absurd (good_bad p)
 undone_back old w i j k (Undeclared a u) e v p = absurd (undeclared_bad p)
 
-done_back : {G : Type 0} (old : Host G) (may : Judge) (header : Header) (authority : Authority) (work : Work) (rest : World) (trace : List Access)
+done_back : {G U V : Type 0} (old : Host G U V) (may : Judge) (header : Header) (authority : Authority) (work : Work) (rest : World) (trace : List Access)
     → BackAtFailure old (done_under may header authority work (world_around rest old trace))
 unfolding done_under
 done_back old may header authority work rest trace = undone_back old (world_around rest old trace) refl refl refl _
@@ -185,7 +184,7 @@ judges_declared : (footprint : Footprint) (declared : Option (List (LedgerKey ×
 judges_declared footprint None is kind key fits = absurd is
 judges_declared footprint (Some declared) is kind key fits = judges footprint declared is kind key fits
 
-pub ends_so : {A G : Type 0} (work : Work) (r : Result A HostErr) (view : A → Datum) (old new : Host G) → MayRun old → DoesAround r view (λ env. done_under env.judge env.header env.authority work) old new → Ends work r view old new
+pub ends_so : {A G U V : Type 0} (work : Work) (r : Result A HostErr) (view : A → Datum) (old new : Host G U V) → MayRun old → DoesAround r view (λ env. done_under env.judge env.header env.authority work) old new → Ends work r view old new
 ends_so work r view old new ready does footprint declared m agree rest =
     let may = by_footprint footprint in
     let header = old.ledger.header.now in
@@ -239,7 +238,7 @@ told_unless (Err (ends.Archived key)) view out left P k h = k h.0
 told_unless (Err (ends.Undeclared key)) view out left P k h = k h.0
 told_unless (Err ends.NoMemory) view out left P k h = tt
 
-pub recorded_so : {A G : Type 0} (work : Work) (r : Result A HostErr) (view : A → Datum) (old new : Host G) → MayRun old → new.ledger.storage.declared ≡ old.ledger.storage.declared
+pub recorded_so : {A G U V : Type 0} (work : Work) (r : Result A HostErr) (view : A → Datum) (old new : Host G U V) → MayRun old → new.ledger.storage.declared ≡ old.ledger.storage.declared
     → DoesAround r view (λ env. done_under env.judge env.header env.authority work) old new → EndsRecorded work r view old new
 recorded_so work r view old new ready same does free rest trace told =
     let header = old.ledger.header.now in
@@ -254,5 +253,7 @@ recorded_so work r view old new ready same does free rest trace told =
     let never : (a : Access) (u : World) → out ≡ Undeclared a u → ⊥ = λ a u e. never_stops header authority work w u a e in (
       ended all_allowed old.ledger.storage.map None out out rest r view old new (done_back old all_allowed header authority work rest trace)
           (alike_self old.ledger.storage.map old.ledger.storage.map out never) (untold r view out rest old new trace says),
-      told_unless r view out _ (new.ledger.storage.touched ≡ touches_of (world_of out).trace) (λ tells. tells (λ _. told) (same ∙ free)) says,
+      told_unless r view out _ (IsRecorded new.ledger.storage (world_of out).trace)
+          (λ tells. tells (told ∙ ap (λ d. known_of d old.ledger.storage.touched.seen.limit trace) (sym free))
+          ∙ ap (λ d. known_of d new.ledger.storage.touched.seen.limit (world_of out).trace) (same ∙ free)) says,
     )

@@ -11,8 +11,7 @@ use Rattle.call_spec.specs.World.{Access, Copied, World, Env}
 use Rattle.call_spec.specs.Acts.{Act, Out, Good, then_do, after, gives, lift, paying, world_of}
 use Rattle.call_spec.specs.Frames.{HostCalls, Entered, returned_value, writes_instance, started, finished, runs_from, paying_pages}
 use Rattle.call_spec.specs.Outcomes.{Leaves, Says, trace_of}
-use Rattle.host_ledger.proofs.Composing.{ends_then}
-use Rattle.host_ledger.proofs.Tracing.{since}
+use Rattle.host_ledger.proofs.Lemmas.{ends_then, since}
 use Rattle.call_parts.specs.Steps.{Returns}
 use Rattle.contract_call.specs.Worlds.{world_in, ending, leaving_by, IsEnvOf, DoesIn, RunsIn}
 use Rattle.contract_call.specs.Running.{DoesFrom}
@@ -36,7 +35,7 @@ go_on_at mid new keep first told law a r view other rest out next p h =
     (subst (λ z. Says r other two (lefts new told z)) (law rest (world_of out) (world_of two)) (h (trace_of out) p.0))
 
 -- an act that leaves the memory as it was
-pub count_both : {A B G : Type 0} (r : Result A HostErr) (view : A → B) (rest : World) (out : Out B) (old new : Host G) (trace : List Access) → Says r view out (leaving_by old new trace (world_in rest new))
+pub count_both : {A B G U V : Type 0} (r : Result A HostErr) (view : A → B) (rest : World) (out : Out B) (old new : Host G U V) (trace : List Access) → Says r view out (leaving_by old new trace (world_in rest new))
     → Says r view out (leaving_by old new trace (world_in (ending rest out) new))
 count_both r view rest out old new trace p =
     shown_as (λ w t. world_in w new t) keep_memory (telling old new trace) new.ledger.budget (λ _ _. refl) r view rest out (λ t. world_in rest new t) (λ t. refl) p
@@ -56,9 +55,9 @@ ends_so env host e words u = then_do (runs_from host e words u) (finished env)
 frame_first : (env : Env) (host : HostCalls) (e : Entered) (w : World) → after (started host e) (finished env) w ≡ then_do (argument_words e.module_.memories e.args w) (ends_so env host e)
 frame_first env host e w = ap (λ o. then_do o (finished env)) (started_first host e w) ∙ joined (argument_words e.module_.memories e.args w) (runs_from host e) (finished env)
 
-module _ {G : Type 0} (host : Env → HostCalls) (e : Entered) (first : Copied) (old : Host G) where
+module _ {G U V : Type 0} (host : Env → HostCalls) (e : Entered) (first : Copied) (old : Host G U V) where
   -- its arguments were not shown
-  pub not_begun : (x : HostErr) (view : ScVal → Datum) {W : Type 0} (words : W → List ℕ) (h1 : Host G) → (let none : Result W HostErr = Err x in DoesIn none words (λ env. argument_words e.module_.memories e.args) old h1)
+  pub not_begun : (x : HostErr) (view : ScVal → Datum) {W : Type 0} (words : W → List ℕ) (h1 : Host G U V) → (let none : Result W HostErr = Err x in DoesIn none words (λ env. argument_words e.module_.memories e.args) old h1)
       → (let r : Result ScVal HostErr = Err x in DoesFrom first r view (λ env. after (started (host env) e) (finished env)) old h1)
   not_begun x view {W = W} words h1 begun env is rest trace same =
       let w = world_in rest old trace in
@@ -69,7 +68,7 @@ module _ {G : Type 0} (host : Env → HostCalls) (e : Entered) (first : Copied) 
       (stop (λ v t. world_in v h1 t) keep_memory (telling old h1 trace) h1.ledger.budget (λ _ _. refl) x rest out (ends_so env (host env) e)
       (fails_as x words out (leaving_by old h1 trace (λ t. world_in (keep_memory rest (world_of out)) h1 t)) (let none : Result W HostErr = Err x in count_both none words rest out old h1 trace (begun env is rest trace)))))
 
-  module _ {W : Type 0} (given : W) (words : W → List ℕ) (h1 h2 : Host G) (begun : (let r : Result W HostErr = Ok given in DoesIn r words (λ env. argument_words e.module_.memories e.args) old h1))
+  module _ {W : Type 0} (given : W) (words : W → List ℕ) (h1 h2 : Host G U V) (begun : (let r : Result W HostErr = Ok given in DoesIn r words (λ env. argument_words e.module_.memories e.args) old h1))
       (later : (env : Env) → IsEnvOf env old → IsEnvOf env h1) where
     -- its code did not return
     pub not_run : (x : HostErr) (view : ScVal → Datum) → (let none : Result ℕ HostErr = Err x in RunsIn none (λ word. word) (λ env. runs_from (host env) e (words given)) h1 h2)
@@ -89,7 +88,7 @@ module _ {G : Type 0} (host : Env → HostCalls) (e : Entered) (first : Copied) 
         (since none (λ (n : ℕ). n) ran_out old.ledger.storage h1.ledger.storage h2.ledger.storage trace t (λ z. world_in (keep_memory at (world_of ran_out)) h2 z) told (ran env (later env is) at t))))))
 
     -- it ended
-    pub all_run : (word : ℕ) (r : Result ScVal HostErr) (view : ScVal → Datum) (h3 : Host G) → ((env : Env) → IsEnvOf env h1 → IsEnvOf env h2)
+    pub all_run : (word : ℕ) (r : Result ScVal HostErr) (view : ScVal → Datum) (h3 : Host G U V) → ((env : Env) → IsEnvOf env h1 → IsEnvOf env h2)
         → (let given-word : Result ℕ HostErr = Ok word in RunsIn given-word (λ n. n) (λ env. runs_from (host env) e (words given)) h1 h2)
         → DoesFrom first r view (λ env. finished env word) h2 h3 → DoesFrom first r view (λ env. after (started (host env) e) (finished env)) old h3
     all_run word r view h3 still ran ended env is rest trace same =

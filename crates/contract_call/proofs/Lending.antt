@@ -6,14 +6,13 @@ use Rattle.host_spec.specs.Answers.{Answer}
 use Rattle.host_spec.specs.declared.error.HostErr.{HostErr}
 use Rattle.host_spec.specs.declared.error.HostErr.TheVariants as ends
 use Rattle.object_store.specs.Shown.{shown_of}
-use Rattle.auth_trees.proofs.Later.{later_itself}
+use Rattle.auth_trees.proofs.Lemmas.{later_self}
 use Rattle.call_spec.specs.World.{Env}
 use Rattle.call_spec.specs.Acts.{Failed, Bad, Act}
 use Rattle.host_frame.specs.Answered.{answer_of}
 use Rattle.host_frame.specs.declared.answer.Answer.{Answer as Answer'}
 use Rattle.call_spec.specs.Outcomes.{trace_of}
-use Rattle.host_ledger.proofs.Tracing.{quietly}
-use Rattle.host_ledger.proofs.Rows.{later_same}
+use Rattle.host_ledger.proofs.Lemmas.{later_same, quietly}
 use Rattle.contract_call.specs.Worlds.{world_in, MayRun}
 use Rattle.contract_call.specs.Running.{StaysIn}
 use Rattle.contract_call.specs.Taken.{Takes, TakesIn}
@@ -21,13 +20,13 @@ use Rattle.contract_call.specs.declared.host.Host.{Host}
 use Rattle.host_ledger.specs.declared.state.HostLedger.{HostLedger}
 
 -- the state with another budget
-abbrev pub paid : {G : Type 0} → HostLedger G → Meter → HostLedger G
+abbrev pub paid : {G V : Type 0} → HostLedger G V → Meter → HostLedger G V
 paid l m = record l { budget = m }
 
-abbrev pub around : {G : Type 0} → Host G → HostLedger G → Host G
+abbrev pub around : {G U V : Type 0} → Host G U V → HostLedger G V → Host G U V
 around h l = record h { ledger = l }
 
-stays_by : {G : Type 0} (old : Host G) (m : Meter) → MayRun old → StaysIn old (around old (paid old.ledger m))
+stays_by : {G U V : Type 0} (old : Host G U V) (m : Meter) → MayRun old → StaysIn old (around old (paid old.ledger m))
 stays_by old m ready = record {
   left = record {
     header = refl;
@@ -38,7 +37,7 @@ stays_by old m ready = record {
     code = refl;
   };
   contracts = refl;
-  marks = later_itself old.marks;
+  marks = later_self old.marks;
   verdicts = refl;
   place = refl;
   ready = record {
@@ -47,13 +46,13 @@ stays_by old m ready = record {
   };
 }
 
-pub stays_paid : {G : Type 0} (old : Host G) (new : HostLedger G) → MayRun old → new ≡ paid old.ledger new.budget → StaysIn old (around old new)
+pub stays_paid : {G U V : Type 0} (old : Host G U V) (new : HostLedger G V) → MayRun old → new ≡ paid old.ledger new.budget → StaysIn old (around old new)
 stays_paid old new ready e = subst (λ l. StaysIn old (around old l)) (sym e) (stays_by old new.budget ready)
 
-pub stays_same : {G : Type 0} (old : Host G) → MayRun old → StaysIn old old
+pub stays_same : {G U V : Type 0} (old : Host G U V) → MayRun old → StaysIn old old
 stays_same old ready = stays_by old old.ledger.budget ready
 
-taken_by : {A G : Type 0} (r : Result A HostErr) (act : Env → Act Answer) (next : Env → A → Act Answer) (old : Host G) (m : Meter)
+taken_by : {A G U V : Type 0} (r : Result A HostErr) (act : Env → Act Answer) (next : Env → A → Act Answer) (old : Host G U V) (m : Meter)
     → ((env : Env) → Takes r (act env) (next env) (shown_of old.ledger.objects old.ledger.frame.shown) old.ledger.budget m) → TakesIn r act next old (around old (paid old.ledger m))
 taken_by (Ok a) act next old m h = (refl, λ env is rest trace. h env (world_in rest old trace) refl refl)
 taken_by (Err (ends.Failed d)) act next old m h = λ env is rest trace.
@@ -76,6 +75,6 @@ taken_by (Err (ends.Undeclared key)) act next old m h = λ env is rest trace.
     quietly none answer_of (act env w) old.ledger.storage w (world_in rest (around old (paid old.ledger m))) (h env w refl refl)
 taken_by (Err ends.NoMemory) act next old m h = λ env is rest trace. tt
 
-pub taken_in : {A G : Type 0} (r : Result A HostErr) (act : Env → Act Answer) (next : Env → A → Act Answer) (old : Host G) (new : HostLedger G) → new ≡ paid old.ledger new.budget
+pub taken_in : {A G U V : Type 0} (r : Result A HostErr) (act : Env → Act Answer) (next : Env → A → Act Answer) (old : Host G U V) (new : HostLedger G V) → new ≡ paid old.ledger new.budget
     → ((env : Env) → Takes r (act env) (next env) (shown_of old.ledger.objects old.ledger.frame.shown) old.ledger.budget new.budget) → TakesIn r act next old (around old new)
 taken_in r act next old new e h = subst (λ l. TakesIn r act next old (around old l)) (sym e) (taken_by r act next old new.budget h)

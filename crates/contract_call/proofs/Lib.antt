@@ -1,24 +1,25 @@
-pub mod Answering
-pub mod Arguments
-pub mod Arity
-pub mod Beginning
-pub mod Calling
-pub mod Constructing
-pub mod Construction
-pub mod Counting
-pub mod Counts
-pub mod Demanding
-pub mod Dividing
-pub mod Ending
-pub mod Framing
-pub mod Joining
-pub mod Lending
-pub mod Looping
-pub mod Opening
-pub mod Rowing
-pub mod Showing
-pub mod Splitting
-pub mod Stepping
-pub mod Undoing
-pub mod Valuing
-pub mod Working
+mod Answering
+mod Arguments
+mod Arity
+mod Beginning
+mod Between
+mod Calling
+mod Constructing
+mod Construction
+mod Counting
+mod Counts
+mod Demanding
+mod Dividing
+mod Ending
+mod Framing
+mod Joining
+mod Lending
+mod Looping
+mod Opening
+mod Rowing
+mod Showing
+mod Splitting
+mod Stepping
+mod Undoing
+mod Valuing
+mod Working

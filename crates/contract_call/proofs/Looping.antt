@@ -24,15 +24,13 @@ use Rattle.call_spec.specs.Frames.{HostCalls, metered, runs, trap_code}
 use Rattle.call_spec.specs.HostFunctions.{host_function, host_of, of_row, opener_of}
 use Rattle.call_spec.specs.Outcomes.{Says, trace_of, stopped_kind}
 use Rattle.host_ledger.specs.Traced.{Tells as Tells'}
-use Rattle.host_ledger.proofs.Tracing.{retold}
+use Rattle.host_ledger.proofs.Lemmas.{later_same, retold, serves_later}
 use Rattle.contract_call.specs.Worlds.{authority_of, world_in, ending, leaving_by, IsEnvOf}
-use Rattle.contract_storage.proofs.Going.{again}
-use Rattle.host_ledger.proofs.Rows.{later_same}
+use Rattle.contract_storage.proofs.Lemmas.{again}
 use Rattle.contract_call.specs.Worlds.{MayRun}
 use Rattle.contract_call.specs.Running.{DoesOver, StaysIn}
-use Rattle.host_ledger.proofs.Composing.{serves_later}
-use Rattle.auth_trees.specs.Demands.{Marked, IsLater}
-use Rattle.auth_trees.proofs.Later.{later_itself, later_again}
+use Rattle.auth_trees.specs.Authorities.{Authorised, IsLaterState}
+use Rattle.auth_trees.proofs.Lemmas.{later_self, later_twice}
 use Rattle.contract_call.specs.declared.host.Host.{Host}
 use Rattle.contract_call.specs.declared.place.Place.{Place}
 use Rattle.contract_call.specs.Placed.{IsPathFor, HasRoom}
@@ -44,13 +42,13 @@ abbrev pub kept : List ℕ → World → World
 kept memory rest = record rest { frame = record rest.frame { memory = memory } }
 
 -- The run from the start is the run from here on.
-abbrev pub Follows : {G : Type 0} → Module → ℕ → Suspended → Host G → Suspended → Host G → Type 0
+abbrev pub Follows : {G U V : Type 0} → Module → ℕ → Suspended → Host G U V → Suspended → Host G U V → Type 0
 Follows m room i0 h0 i h = (go : Meter → Run) → Does i0 go → (next : (Meter → Run)) × Does i next
     × ((env : Env) → IsEnvOf env h0 → (rest : World) (trace : List Access) → (memory : List ℕ) × (t : List Access)
     × Tells' h0.ledger.storage h.ledger.storage trace t
     × (runs (host_of env (opener_of env room) m) (go h0.ledger.budget) (world_in rest h0 trace) ≡ runs (host_of env (opener_of env room) m) (next h.ledger.budget) (world_in (kept memory rest) h t)))
 
-pub follows_first : {G : Type 0} (m : Module) (room : ℕ) (i : Suspended) (h : Host G) → Follows m room i h i h
+pub follows_first : {G U V : Type 0} (m : Module) (room : ℕ) (i : Suspended) (h : Host G U V) → Follows m room i h i h
 follows_first m room i h go does = (go, does, λ env is rest trace. (rest.frame.memory, trace, (λ told. told), refl))
 
 -- ---- events
@@ -105,19 +103,19 @@ spent_is host Stuck b i w h = absurd h
 
 -- ---- ends
 
-end_says : {A G : Type 0} (r : Result A HostErr) (view : A → ℕ) (rest : World) (memory : List ℕ) (t : List Access) (told : Telling) (h : Host G) (out : Out ℕ)
+end_says : {A G U V : Type 0} (r : Result A HostErr) (view : A → ℕ) (rest : World) (memory : List ℕ) (t : List Access) (told : Telling) (h : Host G U V) (out : Out ℕ)
     → Says r view out (knowing told (λ trace. world_in (kept memory rest) h t)) → Says r view out (knowing told (world_in (ending rest out) h))
 end_says r view rest memory t told h out p =
     shown_as (λ w z. world_in w h z) keep_memory told h.ledger.budget (λ _ _. refl) r view rest out (λ z. world_in (kept memory rest) h z) (λ z. refl) (traced r view out told (world_in (kept memory rest) h t) p)
 
-abbrev pub paid : {G : Type 0} → Host G → Meter → Host G
+abbrev pub paid : {G U V : Type 0} → Host G U V → Meter → Host G U V
 paid h b = record h { ledger = record h.ledger { budget = b } }
 
-env_paid : {G : Type 0} (h : Host G) (b : Meter) (env : Env) → IsEnvOf env h → IsEnvOf env (paid h b)
+env_paid : {G U V : Type 0} (h : Host G U V) (b : Meter) (env : Env) → IsEnvOf env h → IsEnvOf env (paid h b)
 env_paid h b env is = record { ledger = record { header = is.ledger.header; serves = is.ledger.serves }; authority = is.authority }
 
 -- the run ended in the frame, as the result says
-abbrev pub EndsRun : {G : Type 0} → Module → ℕ → Suspended → Host G → Result ℕ HostErr → Host G → Type 0
+abbrev pub EndsRun : {G U V : Type 0} → Module → ℕ → Suspended → Host G U V → Result ℕ HostErr → Host G U V → Type 0
 EndsRun m room i0 h0 r h = (go : Meter → Run) → Does i0 go → (env : Env) → IsEnvOf env h0 → (rest : World) (trace : List Access)
     → (let out = runs (host_of env (opener_of env room) m) (go h0.ledger.budget) (world_in rest h0 trace) in Says r (λ word. word) out (leaving_by h0 h trace (world_in (ending rest out) h)))
 
@@ -125,7 +123,7 @@ EndsRun m room i0 h0 r h = (go : Meter → Run) → Does i0 go → (env : Env) �
 abbrev pub Told : Suspended → Meter → Event → Meter → Suspended → Type 0
 Told i before e b after = (go : Meter → Run) → Does i go → Tells (go before) e b after
 
-pub run_done : {G : Type 0} (m : Module) (room : ℕ) (i0 i after : Suspended) (h0 h : Host G) (n : ℕ) (b : Meter) → Follows m room i0 h0 i h
+pub run_done : {G U V : Type 0} (m : Module) (room : ℕ) (i0 i after : Suspended) (h0 h : Host G U V) (n : ℕ) (b : Meter) → Follows m room i0 h0 i h
     → ((go : Meter → Run) → Does i go → Tells (go h.ledger.budget) (event.Done n) b after) → EndsRun m room i0 h0 (Ok n) (paid h b)
 run_done m room i0 i after h0 h n b follows tells go does env is rest trace =
     let f = follows go does in
@@ -135,7 +133,7 @@ run_done m room i0 i after h0 h n b follows tells go does env is rest trace =
     let e = at.3 ∙ done_is host (f.0 h.ledger.budget) n b after (world_in (kept at.0 rest) h at.1) (tells f.0 f.1) in
     end_says r (λ word. word) rest at.0 at.1 (telling h0 h trace) (paid h b) _ (subst (telling h0 h trace) (sym (ap (λ (o : Out ℕ). trace_of o) e)) at.2, e)
 
-pub run_trapped : {G : Type 0} (m : Module) (room : ℕ) (i0 i after : Suspended) (h0 h : Host G) (k : TrapKind) (b : Meter) (e : ScError) → e ≡ traps.trap_error k → Follows m room i0 h0 i h
+pub run_trapped : {G U V : Type 0} (m : Module) (room : ℕ) (i0 i after : Suspended) (h0 h : Host G U V) (k : TrapKind) (b : Meter) (e : ScError) → e ≡ traps.trap_error k → Follows m room i0 h0 i h
     → ((go : Meter → Run) → Does i go → Tells (go h.ledger.budget) (event.Trap k) b after) → EndsRun m room i0 h0 (Err (ends.Failed e)) (paid h b)
 run_trapped m room i0 i after h0 h k b e is-trap follows tells go does env is rest trace =
     let f = follows go does in
@@ -145,7 +143,7 @@ run_trapped m room i0 i after h0 h k b e is-trap follows tells go does env is re
     let e = at.3 ∙ trap_is host (f.0 h.ledger.budget) k b after (world_in (kept at.0 rest) h at.1) (tells f.0 f.1) ∙ ap (λ x. Bad (Failed x) (world_in (kept at.0 rest) (paid h b) at.1)) (sym is-trap) in
     end_says r (λ word. word) rest at.0 at.1 (telling h0 h trace) (paid h b) _ (subst (telling h0 h trace) (sym (ap (λ (o : Out ℕ). trace_of o) e)) at.2, e)
 
-pub run_spent : {G : Type 0} (m : Module) (room : ℕ) (i0 i after : Suspended) (h0 h : Host G) (b : Meter) → Follows m room i0 h0 i h
+pub run_spent : {G U V : Type 0} (m : Module) (room : ℕ) (i0 i after : Suspended) (h0 h : Host G U V) (b : Meter) → Follows m room i0 h0 i h
     → ((go : Meter → Run) → Does i go → Tells (go h.ledger.budget) event.Spent b after) → EndsRun m room i0 h0 (Err ends.Spent) (paid h b)
 run_spent m room i0 i after h0 h b follows tells go does env is rest trace =
     let f = follows go does in
@@ -163,10 +161,10 @@ row_act : (env : Env) (room : ℕ) (m : Module) (f : ℕ) (row : Row) (words : L
     → host_of env (opener_of env room) m f words w ≡ host_function env (opener_of env room) row.import words w
 row_act env room m f row words w e = ap (λ x. of_row env (opener_of env room) x words w) e
 
-abbrev pub Answers : {G : Type 0} → List ℕ → List ℕ → ℕ → Row → List ℕ → Result ℕ HostErr → Host G → Host G → Type 0
+abbrev pub Answers : {G U V : Type 0} → List ℕ → List ℕ → ℕ → Row → List ℕ → Result ℕ HostErr → Host G U V → Host G U V → Type 0
 Answers before after room row words r old new = DoesOver before after r (λ word. word) (λ env. host_function env (opener_of env room) row.import words) old new
 
-pub run_answered : {G : Type 0} (m : Module) (room : ℕ) (i0 i i1 i2 : Suspended) (h0 h h2 : Host G) (b : Meter) (f : ℕ) (words : List ℕ) (row : Row) (word : ℕ) (before after : List ℕ) → Follows m room i0 h0 i h
+pub run_answered : {G U V : Type 0} (m : Module) (room : ℕ) (i0 i i1 i2 : Suspended) (h0 h h2 : Host G U V) (b : Meter) (f : ℕ) (words : List ℕ) (row : Row) (word : ℕ) (before after : List ℕ) → Follows m room i0 h0 i h
     → ((go : Meter → Run) → Does i go → Tells (go h.ledger.budget) (event.HostCall f words) b i1) → row_at m f ≡ Some row → i1.store.memory.bytes ≡ before
     → ((on : ℕ → List ℕ → Meter → Run) → Awaits i1 on → Does i2 (on word after)) → ((env : Env) → IsEnvOf env h0 → IsEnvOf env h)
     → Answers before after room row words (Ok word) (paid h b) h2 → Follows m room i0 h0 i2 h2
@@ -202,7 +200,7 @@ fixed_left {B = B} (Err (ends.Undeclared key)) view out told left m pays p =
     (p.0, p.1 ∙ ap at e, p.2 ∙ e)
 fixed_left (Err ends.NoMemory) view out told left m pays p = tt
 
-pub run_refused : {G : Type 0} (m : Module) (room : ℕ) (i0 i i1 : Suspended) (h0 h h2 : Host G) (b : Meter) (f : ℕ) (words : List ℕ) (row : Row) (e : HostErr) (before after : List ℕ) → Follows m room i0 h0 i h
+pub run_refused : {G U V : Type 0} (m : Module) (room : ℕ) (i0 i i1 : Suspended) (h0 h h2 : Host G U V) (b : Meter) (f : ℕ) (words : List ℕ) (row : Row) (e : HostErr) (before after : List ℕ) → Follows m room i0 h0 i h
     → ((go : Meter → Run) → Does i go → Tells (go h.ledger.budget) (event.HostCall f words) b i1) → row_at m f ≡ Some row → i1.store.memory.bytes ≡ before
     → ((env : Env) → IsEnvOf env h0 → IsEnvOf env h) → Answers before after room row words (Err e) (paid h b) h2 → EndsRun m room i0 h0 (Err e) h2
 run_refused m room i0 i i1 h0 h h2 b f words row e before after follows tells named same later answer go does env is rest trace =
@@ -231,15 +229,15 @@ pub place_again : (p q r : Place) → q ≡ record p { begun = q.begun } → r �
 place_again p q r one two = two ∙ ap (λ (x : Place). record x { begun = r.begun }) one
 
 -- the path stays
-pub still_room : {G : Type 0} (room : ℕ) (old new : Host G) → new.place ≡ record old.place { begun = new.place.begun } → HasRoom room old → HasRoom room new
+pub still_room : {G U V : Type 0} (room : ℕ) (old new : Host G U V) → new.place ≡ record old.place { begun = new.place.begun } → HasRoom room old → HasRoom room new
 still_room room old new is h = subst (λ (p : Place). IsPathFor p.path.items room) (sym is) h
 
 -- entries and source stay as marks are added
-pub same_authority : {G : Type 0} (old new : Host G) → IsLater old.marks new.marks → new.verdicts.now ≡ old.verdicts.now → authority_of old ≡ authority_of new
+pub same_authority : {G U V : Type 0} (old new : Host G U V) → IsLaterState old.marks new.marks → new.verdicts.now ≡ old.verdicts.now → authority_of old ≡ authority_of new
 same_authority old new later verdicts =
-    ap (λ (s : Marked). record (authority_of old) { entries = s.entries; source = s.source }) (sym later.1) ∙ ap (λ v. record (authority_of new) { verdicts = v }) (sym verdicts)
+    ap (λ (s : Authorised). record (authority_of old) { entries = s.entries; source = s.source }) (sym later.rest) ∙ ap (λ v. record (authority_of new) { verdicts = v }) (sym verdicts)
 
-pub stays_twice : {G : Type 0} (h0 h h2 : Host G) (b : Meter) → StaysIn h0 h → StaysIn (paid h b) h2 → StaysIn h0 h2
+pub stays_twice : {G U V : Type 0} (h0 h h2 : Host G U V) (b : Meter) → StaysIn h0 h → StaysIn (paid h b) h2 → StaysIn h0 h2
 stays_twice h0 h h2 b one two = record {
   left = record {
     header = two.left.header ∙ one.left.header;
@@ -250,13 +248,13 @@ stays_twice h0 h h2 b one two = record {
     code = two.left.code ∙ one.left.code;
   };
   contracts = two.contracts ∙ one.contracts;
-  marks = later_again h0.marks h.marks h2.marks one.marks two.marks;
+  marks = later_twice h0.marks h.marks h2.marks one.marks two.marks;
   verdicts = two.verdicts ∙ one.verdicts;
   place = place_again h0.place h.place h2.place one.place two.place;
   ready = two.ready;
 }
 
-pub stays_same : {G : Type 0} (h : Host G) → MayRun h → StaysIn h h
+pub stays_same : {G U V : Type 0} (h : Host G U V) → MayRun h → StaysIn h h
 stays_same h ready = record {
   left = record {
     header = refl;
@@ -267,19 +265,19 @@ stays_same h ready = record {
     code = refl;
   };
   contracts = refl;
-  marks = later_itself h.marks;
+  marks = later_self h.marks;
   verdicts = refl;
   place = refl;
   ready = ready;
 }
 
-pub may_pay : {G : Type 0} (h : Host G) (b : Meter) → MayRun h → MayRun (paid h b)
+pub may_pay : {G U V : Type 0} (h : Host G U V) (b : Meter) → MayRun h → MayRun (paid h b)
 may_pay h b ready = record {
   ledger = record { bounds = ready.ledger.bounds; number = ready.ledger.number; lives = ready.ledger.lives; indices = ready.ledger.indices; copy = ready.ledger.copy };
   entries = ready.entries;
 }
 
-pub env_in : {G : Type 0} (old new : Host G) → StaysIn old new → (env : Env) → IsEnvOf env old → IsEnvOf env new
+pub env_in : {G U V : Type 0} (old new : Host G U V) → StaysIn old new → (env : Env) → IsEnvOf env old → IsEnvOf env new
 env_in old new stays env is = record {
   ledger = record { header = is.ledger.header ∙ sym stays.left.header; serves = serves_later env old.ledger.storage new.ledger.storage stays.left.storage is.ledger.serves };
   authority = is.authority ∙ same_authority old new stays.marks stays.verdicts;

@@ -16,8 +16,8 @@ use Rattle.object_store.specs.Shown.{shown_of}
 use Rattle.host_spec.specs.declared.error.HostErr.{HostErr}
 use Rattle.host_spec.specs.declared.error.HostErr.TheVariants as ends
 use Rattle.contract_storage.specs.Stored.{Stored, IsLater}
-use Rattle.auth_trees.specs.Demands.{Marked, IsLater as IsLaterMarked}
-use Rattle.auth_trees.proofs.Later.{later_itself}
+use Rattle.auth_trees.specs.Authorities.{Authorised, IsLaterState}
+use Rattle.auth_trees.proofs.Lemmas.{later_self}
 use Rattle.call_spec.specs.World.{AccessKind, Access, Frame, World, Env}
 use Rattle.call_spec.specs.Acts.{Act, Failure, Failed, Spent, Archived, Out, Good, Bad, Undeclared, after, world_of}
 use Rattle.call_spec.specs.Frames.{Entered, frame_of, started, finished, framed, closed, with_frames}
@@ -26,12 +26,11 @@ use Rattle.call_spec.specs.Outcomes.{Says, trace_of, stopped_kind}
 use Rattle.host_ledger.specs.Worlds.{copied}
 use Rattle.host_ledger.specs.declared.state.InstanceCopy.{InstanceCopy}
 use Rattle.host_ledger.specs.declared.state.Running.{Running}
-use Rattle.host_ledger.proofs.Rows.{later_same}
+use Rattle.host_ledger.proofs.Lemmas.{as_storages, later_same}
 use Rattle.contract_call.specs.Worlds.{contracts_of, placed, world_in, world_around, ending, IsOpened, IsClosed, IsEnvOf, DoesAround, Stays}
 use Rattle.contract_call.specs.Running.{entered, IsNewFrame, Starts, StaysIn, DoesFrom}
 use Rattle.contract_call.specs.declared.host.Host.{Host}
 use Rattle.contract_call.specs.declared.place.Place.{Place}
-use Rattle.host_ledger.proofs.Tracing.{as_storages}
 use Rattle.contract_call.proofs.Joining.{Telling, knowing, same_act, keep_rest}
 use Rattle.contract_call.proofs.Showing.{telling}
 
@@ -95,13 +94,14 @@ module _ (frame : Running) (fresh : IsNewFrame frame) (place : Place) (unbegun :
   abbrev this : Entered
   this = entered frame place.function.items (datums place.args.items) place.path.items m index store
 
-  start_is : {G : Type 0} (old h1 : Host G) (rest : World) (trace : List Access) → IsOpened frame place old h1 → h1.open.items ≡ old.open.items ++ frame.contract ∷ []
+  start_is : {G U V : Type 0} (old h1 : Host G U V) (rest : World) (trace : List Access) → IsOpened frame place old h1 → h1.open.items ≡ old.open.items ++ frame.contract ∷ []
       → with_frames (frame_of this) (this.contract ∷ contracts_of old) (world_around rest old trace) ≡ world_in (record rest { frame = frame_of this }) h1 trace
-  start_is {G} old h1 rest trace is pushed =
+  start_is {G} {U} {V} old h1 rest trace is pushed =
       let at : Hash → List Datum → List Hash → ℕ → World = λ code shown cs begun. record rest {
         entries = old.ledger.storage.map;
         events = old.ledger.events;
         pairs = old.marks.pairs;
+        noted = old.marks.noted;
         frame = record (frame_of this) { code = code; shown = shown; begun = begun };
         contracts = cs;
         trace = trace;
@@ -111,30 +111,31 @@ module _ (frame : Running) (fresh : IsNewFrame frame) (place : Place) (unbegun :
       ∙ ap (λ x. at frame.code x (frame.contract ∷ contracts_of old) 0) (sym (ap (shown_of []) fresh.shown))
       ∙ ap (λ x. at frame.code (shown_of [] frame.shown) x 0) (sym (ap reverse pushed ∙ reversed old.open.items frame.contract))
       ∙ ap (at frame.code (shown_of [] frame.shown) (contracts_of h1)) (sym unbegun)
-      ∙ ap (λ (h : Host G). world_in (record rest { frame = frame_of this }) h trace) (sym is)
+      ∙ ap (λ (h : Host G U V). world_in (record rest { frame = frame_of this }) h trace) (sym is)
 
-  end_is : {G : Type 0} (old h2 h3 : Host G) (rest mid : World) (t : List Access) → IsClosed old.ledger.objects old.ledger.frame old.place h2 h3 → contracts_of h3 ≡ contracts_of old
+  end_is : {G U V : Type 0} (old h2 h3 : Host G U V) (rest mid : World) (t : List Access) → IsClosed old.ledger.objects old.ledger.frame old.place h2 h3 → contracts_of h3 ≡ contracts_of old
       → with_frames (placed old.place rest.frame) (contracts_of old) (world_in mid h2 t) ≡ world_around rest h3 t
-  end_is {G} old h2 h3 rest mid t is pushed =
+  end_is {G} {U} {V} old h2 h3 rest mid t is pushed =
       let at : List Hash → World = λ cs. record rest {
         entries = h2.ledger.storage.map;
         events = h2.ledger.events;
         pairs = h2.marks.pairs;
+        noted = h2.marks.noted;
         frame = placed old.place rest.frame;
         contracts = cs;
         trace = t;
         meter = h2.ledger.budget;
       } in
-      ap at (sym pushed) ∙ ap (λ (h : Host G). world_around rest h t) (sym is)
+      ap at (sym pushed) ∙ ap (λ (h : Host G U V). world_around rest h t) (sym is)
 
-  env_opened : {G : Type 0} (old h1 : Host G) (env : Env) → IsOpened frame place old h1 → IsEnvOf env old → IsEnvOf env h1
-  env_opened {G} old h1 env is at =
-      subst (λ (h : Host G). IsEnvOf env h) (sym is) (record { ledger = record { header = at.ledger.header; serves = at.ledger.serves }; authority = at.authority })
+  env_opened : {G U V : Type 0} (old h1 : Host G U V) (env : Env) → IsOpened frame place old h1 → IsEnvOf env old → IsEnvOf env h1
+  env_opened {G} {U} {V} old h1 env is at =
+      subst (λ (h : Host G U V). IsEnvOf env h) (sym is) (record { ledger = record { header = at.ledger.header; serves = at.ledger.serves }; authority = at.authority })
 
-  pub framed_does : {G : Type 0} (room : ℕ) (first : InstanceCopy) (r : Result ScVal HostErr) (old h1 h2 h3 : Host G) → first ≡ frame.copy → IsOpened frame place old h1 → h1.open.items ≡ old.open.items ++ frame.contract ∷ [] → StaysIn h1 h2
+  pub framed_does : {G U V : Type 0} (room : ℕ) (first : InstanceCopy) (r : Result ScVal HostErr) (old h1 h2 h3 : Host G U V) → first ≡ frame.copy → IsOpened frame place old h1 → h1.open.items ≡ old.open.items ++ frame.contract ∷ [] → StaysIn h1 h2
       → DoesFrom (copied first) r datum (λ env. after (started (host_of env (opener_of env room) m) this) (finished env)) h1 h2 → IsClosed old.ledger.objects old.ledger.frame old.place h2 h3
       → h3.open.items ≡ take (length h2.open.items - 1) h2.open.items → DoesAround r datum (λ env. framed env (host_of env (opener_of env room)) this) old h3
-  framed_does {G} room first r old h1 h2 h3 copy opened pushed stays inside closing open3 env is rest trace =
+  framed_does {G} {U} {V} room first r old h1 h2 h3 copy opened pushed stays inside closing open3 env is rest trace =
       let host = host_of env (opener_of env room) in
       let act : Act Datum = after (started (host m) this) (finished env) in
       let w = world_around rest old trace in
@@ -144,13 +145,13 @@ module _ (frame : Running) (fresh : IsNewFrame frame) (place : Place) (unbegun :
       let cs : contracts_of h3 ≡ contracts_of old = ap reverse (open3 ∙ last_off old.open.items h2.open.items frame.contract (stays.contracts ∙ pushed)) in
       same_act (λ v t. world_around v h3 t) keep_rest (telling old h3 trace) r datum rest (framed env host this w) out
       (ap (λ z. closed (placed old.place rest.frame) (contracts_of old) (act z)) (start_is old h1 rest trace opened pushed))
-      (as_storages r datum out h1.ledger.storage h2.ledger.storage old.ledger.storage h3.ledger.storage trace (world_around rest h3) (ap (λ (h : Host G). h.ledger.storage) opened)
-      (sym (ap (λ (h : Host G). h.ledger.storage) closing))
+      (as_storages r datum out h1.ledger.storage h2.ledger.storage old.ledger.storage h3.ledger.storage trace (world_around rest h3) (ap (λ (h : Host G U V). h.ledger.storage) opened)
+      (sym (ap (λ (h : Host G U V). h.ledger.storage) closing))
       (closed_says (placed old.place rest.frame) (contracts_of old) r datum out_in (telling h1 h2 trace) (λ t. world_in (ending rest_in out_in) h2 t) (λ t. world_around rest h3 t)
       (λ t. end_is old h2 h3 rest (ending rest_in out_in) t closing cs) (λ t. refl) (inside env (env_opened old h1 env opened is) rest_in trace (ap copied (sym copy)))))
 
 -- the frame that waited is the one around
-pub closes : {G : Type 0} (old h2 h3 : Host G) (objects : List Datum) (outer : Running) (place : Place) → objects ≡ old.ledger.objects → outer ≡ old.ledger.frame → place ≡ old.place → IsClosed objects outer place h2 h3
+pub closes : {G U V : Type 0} (old h2 h3 : Host G U V) (objects : List Datum) (outer : Running) (place : Place) → objects ≡ old.ledger.objects → outer ≡ old.ledger.frame → place ≡ old.place → IsClosed objects outer place h2 h3
     → IsClosed old.ledger.objects old.ledger.frame old.place h2 h3
 closes old h2 h3 objects outer place i j k closed =
     subst (λ (p : Place). IsClosed old.ledger.objects old.ledger.frame p h2 h3) k
@@ -159,33 +160,33 @@ closes old h2 h3 objects outer place i j k closed =
 -- ---- the state
 
 -- a state that stayed, but for the room of its list of contracts
-pub stays_equal : {G : Type 0} (old new : Host G) → new ≡ record old { «open» = new.open } → new.open.items ≡ old.open.items → Stays old new
-stays_equal {G} old new is same =
-    let at : Host G = record old { «open» = new.open } in
-    subst (λ (h : Host G). Stays old h) (sym is) (record {
+pub stays_equal : {G U V : Type 0} (old new : Host G U V) → new ≡ record old { «open» = new.open } → new.open.items ≡ old.open.items → Stays old new
+stays_equal {G} {U} {V} old new is same =
+    let at : Host G U V = record old { «open» = new.open } in
+    subst (λ (h : Host G U V). Stays old h) (sym is) (record {
       header = refl;
       storage = later_same old.ledger.storage old.ledger.storage refl;
       events = ([], sym (append-nil old.ledger.events));
       objects = refl;
       frame = refl;
       contracts = same;
-      marks = later_itself old.marks;
+      marks = later_self old.marks;
       verdicts = refl;
       place = refl;
     })
 
 -- what a frame of its own leaves to the one around it
-pub frame_stays : {G : Type 0} (frame : Running) (place : Place) (old h1 h2 h3 : Host G) → IsOpened frame place old h1 → h1.open.items ≡ old.open.items ++ frame.contract ∷ [] → StaysIn h1 h2
+pub frame_stays : {G U V : Type 0} (frame : Running) (place : Place) (old h1 h2 h3 : Host G U V) → IsOpened frame place old h1 → h1.open.items ≡ old.open.items ++ frame.contract ∷ [] → StaysIn h1 h2
     → IsClosed old.ledger.objects old.ledger.frame old.place h2 h3 → h3.open.items ≡ take (length h2.open.items - 1) h2.open.items → Stays old h3
-frame_stays {G} frame place old h1 h2 h3 opened pushed stays closed popped =
+frame_stays {G} {U} {V} frame place old h1 h2 h3 opened pushed stays closed popped =
     record {
-      header = ap (λ (h : Host G). h.ledger.header.now) closed ∙ stays.left.header ∙ ap (λ (h : Host G). h.ledger.header.now) opened;
-      storage = subst (λ (s : Stored). IsLater s h3.ledger.storage) (ap (λ (h : Host G). h.ledger.storage) opened) (subst (λ (s : Stored). IsLater h1.ledger.storage s) (sym (ap (λ (h : Host G). h.ledger.storage) closed)) stays.left.storage);
-      events = (stays.left.events.0, ap (λ (h : Host G). h.ledger.events) closed ∙ stays.left.events.1 ∙ ap (λ x. x ++ stays.left.events.0) (ap (λ (h : Host G). h.ledger.events) opened));
-      objects = ap (λ (h : Host G). h.ledger.objects) closed;
-      frame = ap (λ (h : Host G). h.ledger.frame) closed;
+      header = ap (λ (h : Host G U V). h.ledger.header.now) closed ∙ stays.left.header ∙ ap (λ (h : Host G U V). h.ledger.header.now) opened;
+      storage = subst (λ (s : Stored). IsLater s h3.ledger.storage) (ap (λ (h : Host G U V). h.ledger.storage) opened) (subst (λ (s : Stored). IsLater h1.ledger.storage s) (sym (ap (λ (h : Host G U V). h.ledger.storage) closed)) stays.left.storage);
+      events = (stays.left.events.0, ap (λ (h : Host G U V). h.ledger.events) closed ∙ stays.left.events.1 ∙ ap (λ x. x ++ stays.left.events.0) (ap (λ (h : Host G U V). h.ledger.events) opened));
+      objects = ap (λ (h : Host G U V). h.ledger.objects) closed;
+      frame = ap (λ (h : Host G U V). h.ledger.frame) closed;
       contracts = popped ∙ last_off old.open.items h2.open.items frame.contract (stays.contracts ∙ pushed);
-      marks = subst (λ (s : Marked). IsLaterMarked s h3.marks) (ap (λ (h : Host G). h.marks) opened) (subst (λ (s : Marked). IsLaterMarked h1.marks s) (sym (ap (λ (h : Host G). h.marks) closed)) stays.marks);
-      verdicts = ap (λ (h : Host G). h.verdicts.now) closed ∙ stays.verdicts ∙ ap (λ (h : Host G). h.verdicts.now) opened;
-      place = ap (λ (h : Host G). h.place) closed ∙ ap (λ (p : Place). record old.place { begun = p.begun }) (sym (ap (λ (h : Host G). h.place) closed));
+      marks = subst (λ (s : Authorised). IsLaterState s h3.marks) (ap (λ (h : Host G U V). h.marks) opened) (subst (λ (s : Authorised). IsLaterState h1.marks s) (sym (ap (λ (h : Host G U V). h.marks) closed)) stays.marks);
+      verdicts = ap (λ (h : Host G U V). h.verdicts.now) closed ∙ stays.verdicts ∙ ap (λ (h : Host G U V). h.verdicts.now) opened;
+      place = ap (λ (h : Host G U V). h.place) closed ∙ ap (λ (p : Place). record old.place { begun = p.begun }) (sym (ap (λ (h : Host G U V). h.place) closed));
     }

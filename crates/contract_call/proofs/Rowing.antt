@@ -16,8 +16,8 @@ use Rattle.host_frame.specs.Answered.{answer_of}
 use Rattle.host_frame.specs.declared.answer.Answer.{Answer as Answer'}
 use Rattle.std.specs.Prelude.{All}
 use Rattle.auth_types.specs.AuthEntry.{auth_entry_format}
-use Rattle.auth_trees.specs.Demands.{Marked}
-use Rattle.auth_trees.proofs.Later.{later_again}
+use Rattle.auth_trees.specs.Authorities.{Authorised}
+use Rattle.auth_trees.proofs.Lemmas.{later_twice}
 use Rattle.call_spec.specs.World.{Access, World, Env, next_seq}
 use Rattle.call_spec.specs.Acts.{Act, Good, after, gives, lift}
 use Rattle.call_spec.specs.Calling.{Call, calls}
@@ -33,18 +33,19 @@ use Rattle.contract_call.specs.Made.{IsValued}
 use Rattle.contract_call.specs.Taken.{TakesIn}
 use Rattle.contract_call.specs.declared.host.Host.{Host}
 use Rattle.contract_call.proofs.Joining.{stop, go_on, same_act, fails_as, as_fails, keep_rest}
-use Rattle.contract_storage.proofs.Going.{again}
+use Rattle.contract_storage.proofs.Lemmas.{again}
 use Rattle.contract_call.proofs.Looping.{env_in, place_again}
 use Rattle.contract_call.proofs.Showing.{shown_as, telling}
 
 -- an act around the running frame, in it
-pub in_around : {A B G : Type 0} (r : Result A HostErr) (view : A → B) (act : Env → Act B) (old new : Host G) → Stays old new → DoesAround r view act old new → DoesIn r view act old new
+pub in_around : {A B G U V : Type 0} (r : Result A HostErr) (view : A → B) (act : Env → Act B) (old new : Host G U V) → Stays old new → DoesAround r view act old new → DoesIn r view act old new
 in_around r view act old new stays around env is rest trace =
     let outer : World = record rest { frame = (world_in rest old trace).frame } in
     let at : Running → List Datum → List Access → World = λ f o t. record rest {
       entries = new.ledger.storage.map;
       events = new.ledger.events;
       pairs = new.marks.pairs;
+      noted = new.marks.noted;
       frame = record (placed new.place rest.frame) { contract = f.contract; caller = option_map address_of f.caller; code = f.code; copy = copied f.copy; shown = shown_of o f.shown };
       contracts = contracts_of new;
       trace = t;
@@ -54,7 +55,7 @@ in_around r view act old new stays around env is rest trace =
     (λ t. ap (λ f. at f new.ledger.objects t) stays.frame ∙ ap (λ o. at old.ledger.frame o t) stays.objects) (around env is outer trace)
 
 -- a value of an act as a host function's answer
-pub valued_does : {A B G : Type 0} (made : Result A HostErr) (pick : A → B) (view : B → Datum) (r : Result Answer' HostErr) (act : Env → Act B) (old new : Host G) → IsValued made (λ a. view (pick a)) r
+pub valued_does : {A B G U V : Type 0} (made : Result A HostErr) (pick : A → B) (view : B → Datum) (r : Result Answer' HostErr) (act : Env → Act B) (old new : Host G U V) → IsValued made (λ a. view (pick a)) r
     → DoesIn made pick act old new → DoesIn r answer_of (λ env. returning (act env) view) old new
 valued_does (Ok a) pick view r act old new valued does env is rest trace =
     let w = world_in rest old trace in
@@ -71,14 +72,14 @@ valued_does (Err e) pick view r act old new valued does env is rest trace =
     (stop (λ v t. world_in v new t) keep_rest (telling old new trace) new.ledger.budget (λ _ _. refl) e rest out next (fails_as e pick out (leaving_by old new trace (world_in rest new)) (does env is rest trace))))
 
 -- the arguments first
-pub taken_does : {A G : Type 0} (a : A) (r : Result Answer' HostErr) (act : Env → Act Answer) (next : Env → A → Act Answer) (old mid new : Host G) → StaysIn old mid
+pub taken_does : {A G U V : Type 0} (a : A) (r : Result Answer' HostErr) (act : Env → Act Answer) (next : Env → A → Act Answer) (old mid new : Host G U V) → StaysIn old mid
     → (let taken : Result A HostErr = Ok a in TakesIn taken act next old mid) → DoesIn r answer_of (λ env. next env a) mid new → DoesIn r answer_of act old new
 taken_does a r act next old mid new stays takes does env is rest trace =
     same_act (λ v t. world_in v new t) keep_rest (telling old new trace) r answer_of rest (act env (world_in rest old trace)) (next env a (world_in rest mid trace)) (takes.1 env is rest trace)
     (subst (λ (s : Stored). Says r answer_of (next env a (world_in rest mid trace)) (leaving s new.ledger.storage trace (world_in rest new))) takes.0 (does env (env_in old mid stays env is) rest trace))
 
 -- a call by the running frame, with the same function's name
-pub called_by : {G : Type 0} (wrap : Act Datum → Act Datum) (room : ℕ) (address : ScAddress) (slice function : List ℕ) (args : List Datum) (made : Result ScVal HostErr) (r : Result Answer' HostErr) (mid new : Host G)
+pub called_by : {G U V : Type 0} (wrap : Act Datum → Act Datum) (room : ℕ) (address : ScAddress) (slice function : List ℕ) (args : List Datum) (made : Result ScVal HostErr) (r : Result Answer' HostErr) (mid new : Host G U V)
     → slice ≡ function → Stays mid new → IsValued made datum r
     → (let c : Call = record { caller = Some (Contract mid.ledger.frame.contract); address = address; function = slice; args = args } in DoesAround made datum (λ env. wrap (calls env (opener_of env room) c)) mid new)
     → (let c : Call = record { caller = Some (Contract mid.ledger.frame.contract); address = address; function = function; args = args } in
@@ -89,14 +90,14 @@ called_by wrap room address slice function args made r mid new same stays valued
     (in_around made datum (λ env. wrap (calls env (opener_of env room) (c function))) mid new stays (subst (λ f. DoesAround made datum (λ env. wrap (calls env (opener_of env room) (c f))) mid new) same does))
 
 -- an act that leaves the memory as it is
-pub over_same : {A B G : Type 0} (before after : List ℕ) (r : Result A HostErr) (view : A → B) (act : Env → Act B) (old new : Host G) → after ≡ before → DoesIn r view act old new
+pub over_same : {A B G U V : Type 0} (before after : List ℕ) (r : Result A HostErr) (view : A → B) (act : Env → Act B) (old new : Host G U V) → after ≡ before → DoesIn r view act old new
     → DoesOver before after r view act old new
 over_same before after r view act old new e does env is rest trace same =
     subst (λ (m : List ℕ). Says r view (act env (world_in rest old trace)) (leaving_by old new trace (world_in (with_memory m rest) new))) (same ∙ sym e) (does env is rest trace)
 
 -- ---- the answer
 
-pub row_answers : {G : Type 0} (i j : HostImport) (room : ℕ) (words memory : List ℕ) (act : Env → Act Answer) (r : Result ℕ HostErr) (old new : Host G) → i ≡ j
+pub row_answers : {G U V : Type 0} (i j : HostImport) (room : ℕ) (words memory : List ℕ) (act : Env → Act Answer) (r : Result ℕ HostErr) (old new : Host G U V) → i ≡ j
     → ((env : Env) (w : World) → host_function env (opener_of env room) j words w ≡ after (act env) (λ answer. lift (given answer)) w) → DoesIn r (λ word. word) (λ env. after (act env) (λ answer. lift (given answer))) old new
     → DoesOver memory memory r (λ word. word) (λ env. host_function env (opener_of env room) i words) old new
 row_answers {G} i j room words memory act r old new is same does =
@@ -107,7 +108,7 @@ row_answers {G} i j room words memory act r old new is same does =
 
 -- ---- the state
 
-pub still : {G : Type 0} (old new : Host G) → MayRun old → Stays old new → MayRun new
+pub still : {G U V : Type 0} (old new : Host G U V) → MayRun old → Stays old new → MayRun new
 still old new ready stays = record {
   ledger = record {
     bounds = subst (λ (h : Header). HasBounds (next_seq h) h.settings) (sym stays.header) ready.ledger.bounds;
@@ -116,10 +117,10 @@ still old new ready stays = record {
     indices = subst (λ (f : Running). AreIndices new.ledger.objects f.shown) (sym stays.frame) (subst (λ o. AreIndices o old.ledger.frame.shown) (sym stays.objects) ready.ledger.indices);
     copy = subst (λ (f : Running). IsHeld f.copy.storage) (sym stays.frame) ready.ledger.copy;
   };
-  entries = subst (λ (s : Marked). All auth_entry_format.fits s.entries) (sym stays.marks.1) ready.entries;
+  entries = subst (λ (s : Authorised). All auth_entry_format.fits s.entries) (sym stays.marks.rest) ready.entries;
 }
 
-pub stays_on : {G : Type 0} (old mid new : Host G) → StaysIn old mid → Stays mid new → StaysIn old new
+pub stays_on : {G U V : Type 0} (old mid new : Host G U V) → StaysIn old mid → Stays mid new → StaysIn old new
 stays_on old mid new one two = record {
   left = record {
     header = two.header ∙ one.left.header;
@@ -130,7 +131,7 @@ stays_on old mid new one two = record {
     code = ap (λ (f : Running). f.code) two.frame ∙ one.left.code;
   };
   contracts = two.contracts ∙ one.contracts;
-  marks = later_again old.marks mid.marks new.marks one.marks two.marks;
+  marks = later_twice old.marks mid.marks new.marks one.marks two.marks;
   verdicts = two.verdicts ∙ one.verdicts;
   place = place_again old.place mid.place new.place one.place two.place;
   ready = still mid new one.ready two;

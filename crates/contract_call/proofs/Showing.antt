@@ -10,14 +10,14 @@ use Rattle.call_spec.specs.World.{Access, World}
 use Rattle.call_spec.specs.Acts.{Act, Failed, Out, Good, Bad, Undeclared, world_of}
 use Rattle.call_spec.specs.Outcomes.{quiet, Says, trace_of, stopped_kind}
 use Rattle.host_ledger.specs.Traced.{Tells}
-use Rattle.host_ledger.proofs.Tracing.{afterwards, tells_equal}
+use Rattle.host_ledger.proofs.Lemmas.{afterwards, tells_equal}
 use Rattle.host_ledger.specs.declared.state.HostLedger.{HostLedger}
 use Rattle.contract_call.specs.Worlds.{world_in, DoesIn}
 use Rattle.contract_call.specs.declared.host.Host.{Host}
 use Rattle.contract_call.proofs.Joining.{Showing, Keeping, Telling, Pays, knowing, lefts, keep_rest}
 
 -- what is told of the accesses since these, between two states of the host
-abbrev pub telling : {G : Type 0} → Host G → Host G → List Access → Telling
+abbrev pub telling : {G U V : Type 0} → Host G U V → Host G U V → List Access → Telling
 telling old new before = Tells old.ledger.storage new.ledger.storage before
 
 -- What an act leaves is what the state shows.
@@ -38,14 +38,14 @@ shown_as {B = B} shows keep told m pays (Err (ends.Undeclared key)) view rest ou
 shown_as shows keep told m pays (Err ends.NoMemory) view rest out left h p = tt
 
 -- the words of a frame's arguments
-pub begun_in : {G : Type 0} (old : Host G) (ledger : HostLedger G) (r : Result (Vec ℕ Global) HostErr) (view : Vec ℕ Global → List ℕ) (act : Act (List ℕ))
+pub begun_in : {G U V : Type 0} (old : Host G U V) (ledger : HostLedger G V) (r : Result (Vec ℕ Global) HostErr) (view : Vec ℕ Global → List ℕ) (act : Act (List ℕ))
     → ledger ≡ record old.ledger { objects = ledger.objects; frame = record old.ledger.frame { shown = ledger.frame.shown }; budget = ledger.budget }
     → ((w : World) → w.frame.shown ≡ shown_of old.ledger.objects old.ledger.frame.shown → w.meter ≡ old.ledger.budget
     → Says r view (act w) (quiet w (λ trace. record w { frame = record w.frame { shown = shown_of ledger.objects ledger.frame.shown }; trace = trace; meter = ledger.budget })))
     → DoesIn r view (λ env. act) old (record old { ledger = ledger })
-begun_in {G} old ledger r view act stays does env is rest trace =
+begun_in {G} {U} {V} old ledger r view act stays does env is rest trace =
     let w = world_in rest old trace in
     let left : List Access → World = λ t. record w { frame = record w.frame { shown = shown_of ledger.objects ledger.frame.shown }; trace = t; meter = ledger.budget } in
     shown_as (λ v t. world_in v (record old { ledger = ledger }) t) keep_rest (Tells old.ledger.storage ledger.storage trace) ledger.budget (λ _ _. refl) r view rest (act w) left
-    (λ t. subst (λ (l : HostLedger G). world_in rest (record old { ledger = l }) t ≡ left t) (sym stays) refl)
-    (afterwards r view (act w) old.ledger.storage ledger.storage trace w left (tells_equal old.ledger.storage ledger.storage trace (ap (λ (l : HostLedger G). l.storage) stays)) (does w refl refl))
+    (λ t. subst (λ (l : HostLedger G V). world_in rest (record old { ledger = l }) t ≡ left t) (sym stays) refl)
+    (afterwards r view (act w) old.ledger.storage ledger.storage trace w left (tells_equal old.ledger.storage ledger.storage trace (ap (λ (l : HostLedger G V). l.storage) stays)) (does w refl refl))

@@ -6,8 +6,7 @@ use Rattle.contract_storage.specs.Stored.{Stored, IsLater}
 use Rattle.call_spec.specs.World.{Env}
 use Rattle.call_spec.specs.Acts.{Act, Good, after, gives}
 use Rattle.host_ledger.specs.Traced.{Tells, leaving}
-use Rattle.host_ledger.proofs.Composing.{serves_later}
-use Rattle.host_ledger.proofs.Tracing.{since}
+use Rattle.host_ledger.proofs.Lemmas.{serves_later, since}
 use Rattle.call_parts.specs.Steps.{Steps}
 use Rattle.contract_call.proofs.Joining.{stop, go_on, fails_as, as_fails}
 

@@ -15,9 +15,9 @@ use Rattle.invoke_types.specs.declared.event.ContractEvent.{ContractEvent}
 use Rattle.host_spec.specs.declared.error.HostErr.{HostErr}
 use Rattle.host_spec.specs.declared.error.HostErr.TheVariants as ends
 use Rattle.contract_storage.specs.Stored.{Stored, IsRead, IsRestored, with_touched}
-use Rattle.contract_storage.specs.declared.touched.Touch.{Touch}
-use Rattle.contract_storage.proofs.Going.{goes_back}
-use Rattle.host_ledger.proofs.Rows.{later_read}
+use Rattle.contract_storage.specs.Touched.{Known}
+use Rattle.contract_storage.proofs.Lemmas.{goes_back}
+use Rattle.host_ledger.proofs.Lemmas.{later_read, tells_still}
 use Rattle.call_spec.specs.World.{Access, World, Env}
 use Rattle.call_spec.specs.Acts.{Act, Failed, Out, Good, Bad, world_of}
 use Rattle.call_spec.specs.Calling.{restored, undone, undoing, caught, catching}
@@ -25,12 +25,12 @@ use Rattle.call_spec.specs.Errors.{HIDDEN_ERROR}
 use Rattle.call_spec.specs.Frames.{passed_on}
 use Rattle.call_spec.specs.Outcomes.{Says, trace_of}
 use Rattle.host_ledger.specs.Traced.{Tells}
-use Rattle.host_ledger.proofs.Tracing.{tells_still}
 use Rattle.contract_call.specs.Worlds.{world_around, leaving_by, DoesAround, Stays}
 use Rattle.contract_call.specs.Undone.{IsMark, IsWithin, IsBack, Undoes, Catches}
 use Rattle.auth_trees.specs.Pairs.{Pair}
-use Rattle.auth_trees.specs.Demands.{Marked, IsLater, restored as restored_marks}
-use Rattle.auth_trees.proofs.Later.{goes_back as goes_back_marked, later_itself}
+use Rattle.auth_trees.specs.Authorities.{Authorised, point_of, demands_of, noted_back, undone_to, IsLaterState}
+use Rattle.auth_trees.specs.declared.authority.Point.{Point}
+use Rattle.auth_trees.proofs.Lemmas.{goes_back_to, later_back}
 use Rattle.contract_call.specs.declared.host.Host.{Host}
 use Rattle.contract_call.specs.declared.place.Place.{Place}
 use Rattle.contract_call.specs.declared.undo.Mark.{Mark}
@@ -39,90 +39,90 @@ use Rattle.contract_call.proofs.Showing.{shown_as, telling}
 
 -- ---- back at the mark
 
--- the entries, the events and the authorisations that were used of another state
-pub record IsAsAt {G : Type 0} (start new : Host G) : Type 0 where
+-- the entries, the events and the authorisations that were used of another state, after what was noted later
+pub record IsAsAt {G U V : Type 0} (start old new : Host G U V) : Type 0 where
   pub storage : IsRead start.ledger.storage new.ledger.storage
   pub events : new.ledger.events ≡ start.ledger.events
-  pub marks : new.marks ≡ start.marks
+  pub marks : new.marks ≡ record start.marks { noted = noted_back (demands_of start.marks.noted) old.marks.noted }
 
--- a storage with other touched keys
-as_read : (s t : Stored) (touched : List Touch) → t ≡ with_touched s touched → IsRead s t
-as_read s t touched e = e ∙ ap (λ (x : List Touch). with_touched s x) (sym (ap (λ (u : Stored). u.touched) e))
+-- a storage that knows other accesses
+as_read : (s t : Stored) (touched : Known) → t ≡ with_touched s touched → IsRead s t
+as_read s t touched e = e ∙ ap (λ (x : Known). with_touched s x) (sym (ap (λ (u : Stored). u.touched) e))
 
 -- what was told is told after the writes were undone
 restored_tells : (n : ℕ) (old new : Stored) (trace : List Access) → IsRestored n old new → Tells old new trace trace
 restored_tells n old new trace back = tells_still old new trace (ap (λ (s : Stored). s.declared) back.same) (ap (λ (s : Stored). s.touched) back.same)
 
-pub gone_back : {G : Type 0} (mark : Mark) (start old new : Host G) → IsMark mark start → Stays start old → IsBack mark old new → IsAsAt start new
+pub gone_back : {G U V : Type 0} (mark : Mark) (start old new : Host G U V) → IsMark mark start → Stays start old → IsBack mark old new → IsAsAt start old new
 gone_back mark start old new marks stays back =
     let first = start.ledger.events in
     record {
       storage = as_read start.ledger.storage new.ledger.storage old.ledger.storage.touched (goes_back start.ledger.storage old.ledger.storage new.ledger.storage stays.storage
           (subst (λ (n : ℕ). IsRestored n old.ledger.storage new.ledger.storage) marks.storage back.storage));
       events = back.events ∙ ap (λ (n : ℕ). take n old.ledger.events) marks.events ∙ ap (take (length first)) stays.events.1 ∙ take-append_seam first stays.events.0;
-      marks = back.marks ∙ ap (λ (n : ℕ). restored_marks n old.marks) marks.pairs ∙ goes_back_marked start.marks old.marks stays.marks;
+      marks = back.marks ∙ ap (λ (to : Point). undone_to to old.marks) marks.marks ∙ goes_back_to start.marks old.marks stays.marks;
     }
 
-restored_is : {G : Type 0} (mark : Mark) (start old new : Host G) → IsMark mark start → Stays start old → IsBack mark old new → (rest : World) (trace later : List Access)
+restored_is : {G U V : Type 0} (mark : Mark) (start old new : Host G U V) → IsMark mark start → Stays start old → IsBack mark old new → (rest : World) (trace later : List Access)
     → restored (world_around rest start trace) (world_around rest old later) ≡ world_around rest new later
-restored_is {G} mark start old new marks stays back rest trace later =
+restored_is {G} {U} {V} mark start old new marks stays back rest trace later =
     let same = gone_back mark start old new marks stays back in
-    let at : LedgerMap → List ContractEvent → List Pair → World = λ m events pairs. record (world_around rest old later) { entries = m; events = events; pairs = pairs } in
-    sym (ap (λ (h : Host G). world_around rest h later) back.rest
-    ∙ ap (λ (s : Stored). at s.map new.ledger.events new.marks.pairs) same.storage ∙ ap (λ (e : List ContractEvent). at start.ledger.storage.map e new.marks.pairs) same.events
-    ∙ ap (λ (s : Marked). at start.ledger.storage.map start.ledger.events s.pairs) same.marks)
+    let at : LedgerMap → List ContractEvent → Authorised → World = λ m events s. record (world_around rest old later) { entries = m; events = events; pairs = s.pairs; noted = s.noted } in
+    sym (ap (λ (h : Host G U V). world_around rest h later) back.rest
+    ∙ ap (λ (s : Stored). at s.map new.ledger.events new.marks) same.storage ∙ ap (λ (e : List ContractEvent). at start.ledger.storage.map e new.marks) same.events
+    ∙ ap (λ (s : Authorised). at start.ledger.storage.map start.ledger.events s) same.marks)
 
 same_place : (p q r : Place) → r ≡ q → q ≡ record p { begun = q.begun } → r ≡ record p { begun = r.begun }
 same_place p q r same stays = same ∙ stays ∙ ap (λ (x : Place). record p { begun = x.begun }) (sym same)
 
-pub stays_back : {G : Type 0} (mark : Mark) (start old new : Host G) → IsMark mark start → Stays start old → IsBack mark old new → Stays start new
-stays_back {G} mark start old new marks stays back =
+pub stays_back : {G U V : Type 0} (mark : Mark) (start old new : Host G U V) → IsMark mark start → Stays start old → IsBack mark old new → Stays start new
+stays_back {G} {U} {V} mark start old new marks stays back =
     let same = gone_back mark start old new marks stays back in
     record {
-      header = ap (λ (h : Host G). h.ledger.header.now) back.rest ∙ stays.header;
+      header = ap (λ (h : Host G U V). h.ledger.header.now) back.rest ∙ stays.header;
       storage = later_read start.ledger.storage new.ledger.storage same.storage;
       events = (_, same.events ∙ sym (append-nil start.ledger.events));
-      objects = ap (λ (h : Host G). h.ledger.objects) back.rest ∙ stays.objects;
-      frame = ap (λ (h : Host G). h.ledger.frame) back.rest ∙ stays.frame;
-      contracts = ap (λ (h : Host G). h.open.items) back.rest ∙ stays.contracts;
-      marks = subst (λ (s : Marked). IsLater start.marks s) (sym same.marks) (later_itself start.marks);
-      verdicts = ap (λ (h : Host G). h.verdicts.now) back.rest ∙ stays.verdicts;
-      place = same_place start.place old.place new.place (ap (λ (h : Host G). h.place) back.rest) stays.place;
+      objects = ap (λ (h : Host G U V). h.ledger.objects) back.rest ∙ stays.objects;
+      frame = ap (λ (h : Host G U V). h.ledger.frame) back.rest ∙ stays.frame;
+      contracts = ap (λ (h : Host G U V). h.open.items) back.rest ∙ stays.contracts;
+      marks = subst (λ (s : Authorised). IsLaterState start.marks s) (sym (back.marks ∙ ap (λ (to : Point). undone_to to old.marks) marks.marks)) (later_back start.marks old.marks (point_of start.marks) stays.marks (omega arith));
+      verdicts = ap (λ (h : Host G U V). h.verdicts.now) back.rest ∙ stays.verdicts;
+      place = same_place start.place old.place new.place (ap (λ (h : Host G U V). h.place) back.rest) stays.place;
     }
 
 -- ---- ends that undo nothing
 
-same_end : {A B G : Type 0} (change : World → Out B → Out B) (r : Result A HostErr) (view : A → B) (act : Env → Act B) (start old new : Host G) → new ≡ old
+same_end : {A B G U V : Type 0} (change : World → Out B → Out B) (r : Result A HostErr) (view : A → B) (act : Env → Act B) (start old new : Host G U V) → new ≡ old
     → ((env : Env) (rest : World) (trace : List Access) → (let w = world_around rest start trace in let out = act env w in Says r view out (leaving_by start old trace (world_around rest old)) → change w out ≡ out))
     → DoesAround r view act start old → DoesAround r view (λ env w. change w (act env w)) start new
-same_end {G = G} change r view act start old new is same does env at rest trace =
+same_end {G = G} {U = U} {V = V} change r view act start old new is same does env at rest trace =
     let w = world_around rest start trace in
     let out = act env w in
     let says = does env at rest trace in
-    subst (λ (h : Host G). Says r view (change w out) (leaving_by start h trace (world_around rest h))) (sym is)
+    subst (λ (h : Host G U V). Says r view (change w out) (leaving_by start h trace (world_around rest h))) (sym is)
     (same_act (λ v t. world_around v old t) keep_rest (telling start old trace) r view rest (change w out) out (same env rest trace says) says)
 
 -- ---- failures that are undone
 
-left_is : {A B G : Type 0} (r : Result A HostErr) (view : A → B) (rest : World) (t : List Access) (told : Telling) (new : Host G) (out : Out B) → Says r view out (knowing told (λ _. world_around rest new t))
+left_is : {A B G U V : Type 0} (r : Result A HostErr) (view : A → B) (rest : World) (t : List Access) (told : Telling) (new : Host G U V) (out : Out B) → Says r view out (knowing told (λ _. world_around rest new t))
     → Says r view out (knowing told (world_around rest new))
 left_is r view rest t told new out p =
     let left = world_around rest new t in
     shown_as (λ v u. world_around v new u) keep_rest told new.ledger.budget (λ _ _. refl) r view rest out (λ u. record left { trace = u }) (λ u. refl) (traced r view out told left p)
 
 -- what is told of the accesses of an act whose writes were undone
-told_back : {B G : Type 0} (n : ℕ) (start old new : Host G) (trace : List Access) (out other : Out B) (rest : World) → IsRestored n old.ledger.storage new.ledger.storage
+told_back : {B G U V : Type 0} (n : ℕ) (start old new : Host G U V) (trace : List Access) (out other : Out B) (rest : World) → IsRestored n old.ledger.storage new.ledger.storage
     → world_of other ≡ world_around rest new (trace_of out) → telling start old trace (trace_of out) → telling start new trace (trace_of other)
 told_back n start old new trace out other rest back is told =
     subst (telling start new trace) (sym (ap (λ (w : World). w.trace) is)) (λ first. restored_tells n old.ledger.storage new.ledger.storage (trace_of out) back (told first))
 
-pub undoes_good : {A B G : Type 0} (a : A) (view : A → B) (act : Env → Act B) (start old : Host G) → (let r : Result A HostErr = Ok a in DoesAround r view act start old)
+pub undoes_good : {A B G U V : Type 0} (a : A) (view : A → B) (act : Env → Act B) (start old : Host G U V) → (let r : Result A HostErr = Ok a in DoesAround r view act start old)
     → (let r : Result A HostErr = Ok a in DoesAround r view (λ env. undoing (act env)) start old)
 undoes_good {A} {B} a view act start old does env at rest trace =
     let r : Result A HostErr = Ok a in
     same_end undone r view act start old old refl (λ env rest trace says. ap (λ (o : Out B). undone (world_around rest start trace) o) says.1 ∙ sym says.1) does env at rest trace
 
-pub undoes_end : {A B G : Type 0} (mark : Mark) (e : HostErr) (view : A → B) (act : Env → Act B) (start old new : Host G) → IsMark mark start → Stays start old → Undoes mark e old new
+pub undoes_end : {A B G U V : Type 0} (mark : Mark) (e : HostErr) (view : A → B) (act : Env → Act B) (start old new : Host G U V) → IsMark mark start → Stays start old → Undoes mark e old new
     → (let r : Result A HostErr = Err e in DoesAround r view act start old) → (let r : Result A HostErr = Err e in DoesAround r view (λ env. undoing (act env)) start new)
 undoes_end {A} {B} mark (ends.Failed d) view act start old new marks stays back does env is rest trace =
     let r : Result A HostErr = Err (ends.Failed d) in
@@ -144,14 +144,14 @@ undoes_end mark ends.NoMemory view act start old new marks stays is does env at 
 
 -- ---- failures that are caught
 
-pub catches_good : {G : Type 0} (made : Result ScVal HostErr) (v : ScVal) (act : Env → Act Datum) (start old : Host G) → made ≡ Ok v → DoesAround made datum act start old
+pub catches_good : {G U V : Type 0} (made : Result ScVal HostErr) (v : ScVal) (act : Env → Act Datum) (start old : Host G U V) → made ≡ Ok v → DoesAround made datum act start old
     → (let r : Result ScVal HostErr = Ok v in DoesAround r datum (λ env. catching (act env)) start old)
 catches_good made v act start old given does =
     let r : Result ScVal HostErr = Ok v in
     same_end caught r datum act start old old refl (λ env rest trace says. ap (λ (o : Out Datum). caught (world_around rest start trace) o) says.1 ∙ sym says.1)
     (subst (λ (x : Result ScVal HostErr). DoesAround x datum act start old) given does)
 
-caught_failed : {G : Type 0} (mark : Mark) (d : ScError) (act : Env → Act Datum) (start old new : Host G) → IsMark mark start → Stays start old → IsBack mark old new
+caught_failed : {G U V : Type 0} (mark : Mark) (d : ScError) (act : Env → Act Datum) (start old new : Host G U V) → IsMark mark start → Stays start old → IsBack mark old new
     → (let r : Result ScVal HostErr = Err (ends.Failed d) in DoesAround r datum act start old)
     → (let r : Result ScVal HostErr = Ok (values.Error (passed_on d)) in DoesAround r datum (λ env. catching (act env)) start new)
 caught_failed mark d act start old new marks stays back does env is rest trace =
@@ -162,10 +162,10 @@ caught_failed mark d act start old new marks stays back does env is rest trace =
     let e = ap (λ (o : Out Datum). caught w o) says.1 ∙ ap (Good (datum (values.Error (passed_on d)))) (restored_is mark start old new marks stays back rest trace (trace_of out)) in
     left_is r datum rest (trace_of out) (telling start new trace) new (caught w out) (told_back _ start old new trace out (caught w out) rest back.storage (ap (λ (o : Out Datum). world_of o) e) says.0, e)
 
-abbrev Caught : {G : Type 0} → Result ScVal HostErr → (Env → Act Datum) → Host G → Host G → Type 0
+abbrev Caught : {G U V : Type 0} → Result ScVal HostErr → (Env → Act Datum) → Host G U V → Host G U V → Type 0
 Caught r act start new = DoesAround r datum (λ env. catching (act env)) start new
 
-catches_as : {G : Type 0} (mark : Mark) (e : HostErr) (r : Result ScVal HostErr) (act : Env → Act Datum) (start old new : Host G) → IsMark mark start → Stays start old → Catches mark e r old new
+catches_as : {G U V : Type 0} (mark : Mark) (e : HostErr) (r : Result ScVal HostErr) (act : Env → Act Datum) (start old new : Host G U V) → IsMark mark start → Stays start old → Catches mark e r old new
     → (let none : Result ScVal HostErr = Err e in DoesAround none datum act start old) → Caught r act start new
 catches_as mark (ends.Failed d) r act start old new marks stays c does =
     subst (λ (x : Result ScVal HostErr). Caught x act start new) (sym c.0) (caught_failed mark d act start old new marks stays c.1 does)
@@ -185,24 +185,24 @@ catches_as mark ends.NoMemory r act start old new marks stays c does =
     let none : Result ScVal HostErr = Err ends.NoMemory in
     subst (λ (x : Result ScVal HostErr). Caught x act start new) (sym c.0) (λ env is rest trace. tt)
 
-pub catches_end : {G : Type 0} (mark : Mark) (made : Result ScVal HostErr) (e : HostErr) (r : Result ScVal HostErr) (act : Env → Act Datum) (start old new : Host G) → made ≡ Err e → IsMark mark start → Stays start old
+pub catches_end : {G U V : Type 0} (mark : Mark) (made : Result ScVal HostErr) (e : HostErr) (r : Result ScVal HostErr) (act : Env → Act Datum) (start old new : Host G U V) → made ≡ Err e → IsMark mark start → Stays start old
     → Catches mark e r old new → DoesAround made datum act start old → Caught r act start new
 catches_end mark made e r act start old new given marks stays c does =
     catches_as mark e r act start old new marks stays c (subst (λ (x : Result ScVal HostErr). DoesAround x datum act start old) given does)
 
 -- ---- the state
 
-same_stays : {G : Type 0} (start old new : Host G) → new ≡ old → Stays start old → Stays start new
-same_stays {G} start old new is stays = subst (λ (h : Host G). Stays start h) (sym is) stays
+same_stays : {G U V : Type 0} (start old new : Host G U V) → new ≡ old → Stays start old → Stays start new
+same_stays {G} {U} {V} start old new is stays = subst (λ (h : Host G U V). Stays start h) (sym is) stays
 
-pub undo_stays : {G : Type 0} (mark : Mark) (e : HostErr) (start old new : Host G) → IsMark mark start → Stays start old → Undoes mark e old new → Stays start new
+pub undo_stays : {G U V : Type 0} (mark : Mark) (e : HostErr) (start old new : Host G U V) → IsMark mark start → Stays start old → Undoes mark e old new → Stays start new
 undo_stays mark (ends.Failed d) start old new marks stays back = stays_back mark start old new marks stays back
 undo_stays mark ends.Spent start old new marks stays is = same_stays start old new is stays
 undo_stays mark (ends.Archived key) start old new marks stays is = same_stays start old new is stays
 undo_stays mark (ends.Undeclared key) start old new marks stays is = same_stays start old new is stays
 undo_stays mark ends.NoMemory start old new marks stays is = same_stays start old new is stays
 
-pub catch_stays : {G : Type 0} (mark : Mark) (e : HostErr) (r : Result ScVal HostErr) (start old new : Host G) → IsMark mark start → Stays start old → Catches mark e r old new → Stays start new
+pub catch_stays : {G U V : Type 0} (mark : Mark) (e : HostErr) (r : Result ScVal HostErr) (start old new : Host G U V) → IsMark mark start → Stays start old → Catches mark e r old new → Stays start new
 catch_stays mark (ends.Failed d) r start old new marks stays c = stays_back mark start old new marks stays c.1
 catch_stays mark ends.Spent r start old new marks stays c = same_stays start old new c.1 stays
 catch_stays mark (ends.Archived key) r start old new marks stays c = same_stays start old new c.1 stays
@@ -228,9 +228,10 @@ passed_hidden _ h = refl
 longer : (xs ys more : List LedgerMap) (x y : LedgerMap) → ys ++ y ∷ [] ≡ (xs ++ x ∷ []) ++ more → length xs ≤ length ys
 longer xs ys more x y e = omega (arith, ap length e, length-append {A = LedgerMap})
 
-pub may_undo : {G : Type 0} (mark : Mark) (start old : Host G) → IsMark mark start → Stays start old → IsWithin mark old
+pub may_undo : {G U V : Type 0} (mark : Mark) (start old : Host G U V) → IsMark mark start → Stays start old → IsWithin mark old
 may_undo mark start old marks stays =
     let h = longer start.ledger.storage.past old.ledger.storage.past stays.storage.later.0 start.ledger.storage.map old.ledger.storage.map stays.storage.later.1 in
-    let more = stays.marks.0 in
-    let pairs : length old.marks.pairs ≡ length start.marks.pairs + length more = ap (λ (s : Marked). length s.pairs) stays.marks.1 ∙ length-append start.marks.pairs more in
-    record { storage = omega (arith, h, marks.storage); pairs = omega (arith, pairs, marks.pairs) }
+    let more = stays.marks.pairs.0 in
+    let pairs : length old.marks.pairs ≡ length start.marks.pairs + length more = ap (λ (ps : List Pair). length ps) stays.marks.pairs.1 ∙ length-append start.marks.pairs more in
+    let at : mark.marks.pairs ≡ length start.marks.pairs = ap (λ (to : Point). to.pairs) marks.marks in
+    record { storage = omega (arith, h, marks.storage); pairs = omega (arith, pairs, at) }

@@ -18,14 +18,14 @@ use Rattle.call_spec.specs.HostFunctions.{world_rule, either, host_function}
 use Rattle.call_spec.specs.Outcomes.{quiet, Says, trace_of}
 use Rattle.host_ledger.specs.Traced.{leaving}
 use Rattle.call_spec.specs.Rules.{Rule, call_of}
-use Rattle.call_spec.proofs.Each.{each_has_rule}
+use Rattle.call_spec.proofs.Lemmas.{each_has_rule}
 use Rattle.host_ledger.specs.Worlds.{world_at}
 use Rattle.host_ledger.specs.declared.state.HostLedger.{HostLedger}
 use Rattle.host_values.specs.Called.{Calls}
 use Rattle.contract_call.specs.Worlds.{beside, with_memory}
 use Rattle.contract_call.specs.Running.{DoesOver}
 use Rattle.contract_call.specs.declared.host.Host.{Host}
-use Rattle.host_ledger.proofs.Tracing.{afterwards, tells_equal}
+use Rattle.host_ledger.proofs.Lemmas.{afterwards, tells_equal}
 use Rattle.contract_call.proofs.Answering.{traced}
 use Rattle.contract_call.proofs.Lending.{around}
 
@@ -53,7 +53,7 @@ value_says : (i : HostImport) (words : List ℕ) (r : Result ℕ ValueErr) (env 
     → Says (ended r) (λ n. n) (host_function env opener i words w) (quiet w (λ trace. with_state u w))
 value_says i words r env opener w u e h = either_says (arguments_of i) (world_rule env opener i) (value_function i) words r w u (each_has_rule env opener i ∙ ap not e) h
 
-pub values_in : {G : Type 0} (i : HostImport) (words : List ℕ) (r : Result ℕ ValueErr) (before after : List ℕ) (old new : HostLedger G)
+pub values_in : {G V : Type 0} (i : HostImport) (words : List ℕ) (r : Result ℕ ValueErr) (before after : List ℕ) (old new : HostLedger G V)
     → new ≡ record old { objects = new.objects; budget = new.budget; frame = record old.frame { shown = new.frame.shown } } → is_some (value_rule i) ≡ true
     → Calls r (value_function i) words (values.state (shown_of old.objects old.frame.shown) before old.budget) (values.state (shown_of new.objects new.frame.shown) after new.budget)
     → (env : Env) (opener : Opener) (rest : World) (trace : List Access) → rest.frame.memory ≡ before
@@ -65,7 +65,7 @@ values_in i words r before after old new kept e h env opener rest trace m =
     afterwards (ended r) (λ n. n) (host_function env opener i words w) old.storage new.storage trace w (world_at (with_memory after rest) new) (tells_equal old.storage new.storage trace (ap (λ l. l.storage) kept))
     (traced (ended r) (λ n. n) (host_function env opener i words w) (world_at (with_memory after rest) new) (with_state u w) (ap (λ l. world_at (with_memory after rest) l trace) kept) refl (value_says i words r env opener w u e calls))
 
-pub values_stop : {G : Type 0} (error : ValueErr) (e : HostErr) (i : HostImport) (words before after : List ℕ) (old new : HostLedger G)
+pub values_stop : {G V : Type 0} (error : ValueErr) (e : HostErr) (i : HostImport) (words before after : List ℕ) (old new : HostLedger G V)
     → new ≡ record old { objects = new.objects; budget = new.budget; frame = record old.frame { shown = new.frame.shown } } → is_some (value_rule i) ≡ true
     → (let r : Result ℕ ValueErr = Err error in Calls r (value_function i) words (values.state (shown_of old.objects old.frame.shown) before old.budget) (values.state (shown_of new.objects new.frame.shown) after new.budget))
     → e ≡ host_end error → (env : Env) (opener : Opener) (rest : World) (trace : List Access) → rest.frame.memory ≡ before
@@ -74,7 +74,7 @@ values_stop error e i words before after old new kept rule h is env opener rest 
     subst (λ (x : HostErr). let none : Result ℕ HostErr = Err x in Says none (λ n. n) (host_function env opener i words (world_at rest old trace)) (leaving old.storage new.storage trace (world_at (with_memory after rest) new))) (sym is)
     (values_in i words (Err error) before after old new kept rule h env opener rest trace m)
 
-pub does_over : {G : Type 0} (r : Result ℕ HostErr) (i : HostImport) (words before after : List ℕ) (old : Host G) (new : HostLedger G)
+pub does_over : {G U V : Type 0} (r : Result ℕ HostErr) (i : HostImport) (words before after : List ℕ) (old : Host G U V) (new : HostLedger G V)
     → ((env : Env) (opener : Opener) (rest : World) (trace : List Access) → rest.frame.memory ≡ before
     → Says r (λ n. n) (host_function env opener i words (world_at rest old.ledger trace)) (leaving old.ledger.storage new.storage trace (world_at (with_memory after rest) new)))
     → (opener : Opener) → DoesOver before after r (λ n. n) (λ env. host_function env opener i words) old (around old new)

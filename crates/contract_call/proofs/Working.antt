@@ -6,7 +6,7 @@ use Rattle.host_spec.specs.declared.error.HostErr.{HostErr}
 use Rattle.host_spec.specs.declared.error.HostErr.TheVariants as ends
 use Rattle.host_frame.specs.Made.{AreMade}
 use Rattle.contract_storage.specs.Stored.{IsLater, Stored}
-use Rattle.auth_trees.proofs.Later.{later_itself}
+use Rattle.auth_trees.proofs.Lemmas.{later_self}
 use Rattle.call_spec.specs.World.{Access, World, Env}
 use Rattle.call_spec.specs.Acts.{Act, after, gives}
 use Rattle.call_spec.specs.Calling.{undoing}
@@ -33,37 +33,37 @@ hosted_made (d ∷ ds) h = (h.0.made, hosted_made ds h.1)
 -- ---- paths
 
 -- the transaction's path is short enough for the most open frames
-pub has_room : {G : Type 0} (room : ℕ) (h : Host G) → room ≡ MOST_FRAMES → HasRoom 64 h → HasRoom room h
+pub has_room : {G U V : Type 0} (room : ℕ) (h : Host G U V) → room ≡ MOST_FRAMES → HasRoom 64 h → HasRoom room h
 unfolding MOST_FRAMES
 has_room room h most room_for = subst (λ n. HasRoom n h) (sym most) room_for
 
 -- ---- steps of the host
 
-pub steps_around : {A B G : Type 0} (r : Result A HostErr) (view : A → B) (act : Env → Act B) (old : Host G) (ledger : HostLedger G)
+pub steps_around : {A B G U V : Type 0} (r : Result A HostErr) (view : A → B) (act : Env → Act B) (old : Host G U V) (ledger : HostLedger G V)
     → ledger ≡ record old.ledger { storage = ledger.storage; budget = ledger.budget } → Steps r view act old.ledger.storage ledger.storage old.ledger.budget ledger.budget
     → DoesAround r view act old (record old { ledger = ledger })
-steps_around {G = G} r view act old ledger stays steps env is rest trace =
+steps_around {G = G} {V = V} r view act old ledger stays steps env is rest trace =
     let w = world_around rest old trace in
     let left : List Access → World = λ t. record w { entries = ledger.storage.map; trace = t; meter = ledger.budget } in
     shown_as (λ v t. world_around v (record old { ledger = ledger }) t) keep_rest (Tells old.ledger.storage ledger.storage trace) ledger.budget (λ _ _. refl) r view rest (act env w) left
-    (λ t. subst (λ (l : HostLedger G). world_around rest (record old { ledger = l }) t ≡ left t) (sym stays) refl) (steps env is.ledger.serves w refl refl)
+    (λ t. subst (λ (l : HostLedger G V). world_around rest (record old { ledger = l }) t ≡ left t) (sym stays) refl) (steps env is.ledger.serves w refl refl)
 
-pub steps_stay : {G : Type 0} (old : Host G) (ledger : HostLedger G) → ledger ≡ record old.ledger { storage = ledger.storage; budget = ledger.budget } → IsLater old.ledger.storage ledger.storage
+pub steps_stay : {G U V : Type 0} (old : Host G U V) (ledger : HostLedger G V) → ledger ≡ record old.ledger { storage = ledger.storage; budget = ledger.budget } → IsLater old.ledger.storage ledger.storage
     → Stays old (record old { ledger = ledger })
-steps_stay {G} old ledger stays later = record {
-  header = ap (λ (l : HostLedger G). l.header.now) stays;
+steps_stay {G} {U} {V} old ledger stays later = record {
+  header = ap (λ (l : HostLedger G V). l.header.now) stays;
   storage = later;
-  events = ([], ap (λ (l : HostLedger G). l.events) stays ∙ sym (append-nil old.ledger.events));
-  objects = ap (λ (l : HostLedger G). l.objects) stays;
-  frame = ap (λ (l : HostLedger G). l.frame) stays;
+  events = ([], ap (λ (l : HostLedger G V). l.events) stays ∙ sym (append-nil old.ledger.events));
+  objects = ap (λ (l : HostLedger G V). l.objects) stays;
+  frame = ap (λ (l : HostLedger G V). l.frame) stays;
   contracts = refl;
-  marks = later_itself old.marks;
+  marks = later_self old.marks;
   verdicts = refl;
   place = refl;
 }
 
 -- a value that is viewed in another way
-pub viewed : {A B D G : Type 0} (a : A) (view : A → B) (of : B → D) (act : Env → Act B) (old new : Host G) → (let r : Result A HostErr = Ok a in DoesAround r view act old new)
+pub viewed : {A B D G U V : Type 0} (a : A) (view : A → B) (of : B → D) (act : Env → Act B) (old new : Host G U V) → (let r : Result A HostErr = Ok a in DoesAround r view act old new)
     → (let r : Result A HostErr = Ok a in DoesAround r (λ x. of (view x)) (λ env. after (act env) (λ b. gives (of b))) old new)
 viewed {A} a view of act old new one env is rest trace =
     let r : Result A HostErr = Ok a in
@@ -72,7 +72,7 @@ viewed {A} a view of act old new one env is rest trace =
 
 -- ---- works
 
-pub work_good : {A G : Type 0} (room : ℕ) (a : A) (view : A → Datum) (work : Work) (old new : Host G) → room ≡ MOST_FRAMES
+pub work_good : {A G U V : Type 0} (room : ℕ) (a : A) (view : A → Datum) (work : Work) (old new : Host G U V) → room ≡ MOST_FRAMES
     → (let r : Result A HostErr = Ok a in DoesAround r view (λ env. does env (opener_of env room) work) old new)
     → (let r : Result A HostErr = Ok a in DoesAround r view (λ env. done_under env.judge env.header env.authority work) old new)
 unfolding done_under
@@ -81,7 +81,7 @@ work_good {A} room a view work old new most done =
     subst (λ (n : ℕ). DoesAround r view (λ env. undoing (does env (opener_of env n) work)) old new) most
     (undoes_good a view (λ env. does env (opener_of env room) work) old new done)
 
-pub work_end : {A G : Type 0} (room : ℕ) (mark : Mark) (e d : HostErr) (view : A → Datum) (work : Work) (old mid new : Host G) → room ≡ MOST_FRAMES → IsMark mark old → Stays old mid → Undoes mark e mid new → d ≡ e
+pub work_end : {A G U V : Type 0} (room : ℕ) (mark : Mark) (e d : HostErr) (view : A → Datum) (work : Work) (old mid new : Host G U V) → room ≡ MOST_FRAMES → IsMark mark old → Stays old mid → Undoes mark e mid new → d ≡ e
     → (let r : Result A HostErr = Err e in DoesAround r view (λ env. does env (opener_of env room) work) old mid)
     → (let r : Result A HostErr = Err d in DoesAround r view (λ env. done_under env.judge env.header env.authority work) old new)
 unfolding done_under
@@ -93,24 +93,24 @@ work_end {A} room mark e d view work old mid new most marks stays undoes same do
 
 -- ---- the ledger that a run began with
 
-pub same_base : {G : Type 0} (old new : Host G) → Stays old new → new.ledger.storage.base ≡ old.ledger.storage.base
+pub same_base : {G U V : Type 0} (old new : Host G U V) → Stays old new → new.ledger.storage.base ≡ old.ledger.storage.base
 same_base old new stays = ap (λ (s : Stored). s.base) stays.storage.same
 
-pub undone_base : {G : Type 0} (mark : Mark) (e : HostErr) (old mid new : Host G) → Stays old mid → Undoes mark e mid new → new.ledger.storage.base ≡ old.ledger.storage.base
+pub undone_base : {G U V : Type 0} (mark : Mark) (e : HostErr) (old mid new : Host G U V) → Stays old mid → Undoes mark e mid new → new.ledger.storage.base ≡ old.ledger.storage.base
 undone_base mark (ends.Failed e) old mid new stays back = ap (λ (s : Stored). s.base) back.storage.same ∙ same_base old mid stays
-undone_base {G} mark (ends.Undeclared key) old mid new stays same = ap (λ (h : Host G). h.ledger.storage.base) same ∙ same_base old mid stays
-undone_base {G} mark (ends.Archived key) old mid new stays same = ap (λ (h : Host G). h.ledger.storage.base) same ∙ same_base old mid stays
-undone_base {G} mark ends.Spent old mid new stays same = ap (λ (h : Host G). h.ledger.storage.base) same ∙ same_base old mid stays
-undone_base {G} mark ends.NoMemory old mid new stays same = ap (λ (h : Host G). h.ledger.storage.base) same ∙ same_base old mid stays
+undone_base {G} {U} {V} mark (ends.Undeclared key) old mid new stays same = ap (λ (h : Host G U V). h.ledger.storage.base) same ∙ same_base old mid stays
+undone_base {G} {U} {V} mark (ends.Archived key) old mid new stays same = ap (λ (h : Host G U V). h.ledger.storage.base) same ∙ same_base old mid stays
+undone_base {G} {U} {V} mark ends.Spent old mid new stays same = ap (λ (h : Host G U V). h.ledger.storage.base) same ∙ same_base old mid stays
+undone_base {G} {U} {V} mark ends.NoMemory old mid new stays same = ap (λ (h : Host G U V). h.ledger.storage.base) same ∙ same_base old mid stays
 
 -- ---- whether a storage records
 
-pub same_declared : {G : Type 0} (old new : Host G) → Stays old new → new.ledger.storage.declared ≡ old.ledger.storage.declared
+pub same_declared : {G U V : Type 0} (old new : Host G U V) → Stays old new → new.ledger.storage.declared ≡ old.ledger.storage.declared
 same_declared old new stays = ap (λ (s : Stored). s.declared) stays.storage.same
 
-pub undone_declared : {G : Type 0} (mark : Mark) (e : HostErr) (old mid new : Host G) → Stays old mid → Undoes mark e mid new → new.ledger.storage.declared ≡ old.ledger.storage.declared
+pub undone_declared : {G U V : Type 0} (mark : Mark) (e : HostErr) (old mid new : Host G U V) → Stays old mid → Undoes mark e mid new → new.ledger.storage.declared ≡ old.ledger.storage.declared
 undone_declared mark (ends.Failed e) old mid new stays back = ap (λ (s : Stored). s.declared) back.storage.same ∙ same_declared old mid stays
-undone_declared {G} mark (ends.Undeclared key) old mid new stays same = ap (λ (h : Host G). h.ledger.storage.declared) same ∙ same_declared old mid stays
-undone_declared {G} mark (ends.Archived key) old mid new stays same = ap (λ (h : Host G). h.ledger.storage.declared) same ∙ same_declared old mid stays
-undone_declared {G} mark ends.Spent old mid new stays same = ap (λ (h : Host G). h.ledger.storage.declared) same ∙ same_declared old mid stays
-undone_declared {G} mark ends.NoMemory old mid new stays same = ap (λ (h : Host G). h.ledger.storage.declared) same ∙ same_declared old mid stays
+undone_declared {G} {U} {V} mark (ends.Undeclared key) old mid new stays same = ap (λ (h : Host G U V). h.ledger.storage.declared) same ∙ same_declared old mid stays
+undone_declared {G} {U} {V} mark (ends.Archived key) old mid new stays same = ap (λ (h : Host G U V). h.ledger.storage.declared) same ∙ same_declared old mid stays
+undone_declared {G} {U} {V} mark ends.Spent old mid new stays same = ap (λ (h : Host G U V). h.ledger.storage.declared) same ∙ same_declared old mid stays
+undone_declared {G} {U} {V} mark ends.NoMemory old mid new stays same = ap (λ (h : Host G U V). h.ledger.storage.declared) same ∙ same_declared old mid stays

@@ -10,7 +10,7 @@ use Rattle.invoke_types.specs.declared.function.Function.{Function}
 use Rattle.invoke_types.specs.declared.function.Function.TheVariants.{ContractFn}
 use Rattle.auth_types.specs.declared.auth_entry.AuthEntry.{AuthEntry}
 use Rattle.auth_trees.specs.declared.demand.Demand.{Demand}
-use Rattle.auth_trees.specs.declared.demand.Demand.TheVariants.{Matched, ByInvoker, Denied}
+use Rattle.auth_trees.specs.declared.demand.Demand.TheVariants.{Matched, ByInvoker, Denied, Noted, NoMemory}
 use Rattle.host_spec.specs.Answers.{Answer}
 use Rattle.host_spec.specs.declared.error.HostErr.{HostErr}
 use Rattle.host_spec.specs.declared.error.HostErr.TheVariants as ends
@@ -36,8 +36,11 @@ requires_here env opener address function =
 abbrev pub settled : Env → Opener → Demand → Act (Unit {0})
 settled env opener ByInvoker = gives tt
 settled env opener Denied = fails DENIED
+settled env opener Noted = gives tt
 settled env opener (Matched entry false) = gives tt
 settled env opener (Matched entry true) = proves_entry env opener (slice_get env.authority.entries entry)
+-- the program ends for want of memory then
+settled env opener NoMemory = fails DENIED
 
 -- the first part of what the root of an entry owes, when it is used for the first time
 abbrev pub asks_at : Env → Option AuthEntry → Act Asked

@@ -22,5 +22,5 @@ abbrev pub IsPathBelow : List ℕ → ℕ → Type 0
 IsPathBelow path room = length path + 2 * room ≤ 129
 
 -- the running frame's path is short enough
-abbrev pub HasRoom : {G : Type 0} → ℕ → Host G → Type 0
+abbrev pub HasRoom : {G U V : Type 0} → ℕ → Host G U V → Type 0
 HasRoom room h = IsPathFor h.place.path.items room

@@ -2,7 +2,7 @@
 use Rattle.std.specs.Prelude.{◌≡◌, ℕ, [], List, length, Result}
 use Rattle.std.specs.Option.{option_map}
 use Rattle.value_types.specs.Datum.{Datum}
-use Rattle.auth_trees.specs.Demands.{IsLater}
+use Rattle.auth_trees.specs.Authorities.{IsLaterState}
 use Rattle.wasm_spec.specs.declared.module.Module.{Module}
 use Rattle.wasm_spec.specs.Stores.{Store}
 use Rattle.wasm_run.specs.Suspended.{Suspended, IsFresh}
@@ -43,22 +43,24 @@ Starts i e = IsFresh i e.module_ e.index (length e.args) e.store
 
 -- What a run in the frame leaves: writes, events and authorisations that were used were only added, calls and creates were only
 -- counted, and the frame is still that of this contract.
-pub record StaysIn {G : Type 0} (old new : Host G) : Type 0 where
+pub record StaysIn {G U V : Type 0} (old new : Host G U V) : Type 0 where
   pub left : Left old.ledger new.ledger
   pub contracts : new.open.items ≡ old.open.items
-  pub marks : IsLater old.marks new.marks
+  pub marks : IsLaterState old.marks new.marks
   pub verdicts : new.verdicts.now ≡ old.verdicts.now
   pub place : new.place ≡ record old.place { begun = new.place.begun }
   pub ready : MayRun new
 
 -- `RunsIn` for a frame that started with this instance
-abbrev pub DoesFrom : {A B G : Type 0} → Copied → Result A HostErr → (A → B) → (Env → Act B) → Host G → Host G → Type 0
+abbrev pub DoesFrom : {A B G U V : Type 0} → Copied → Result A HostErr → (A → B) → (Env → Act B)
+    → Host G U V → Host G U V → Type 0
 DoesFrom first r view act old new =
     (env : Env) → IsEnvOf env old → (rest : World) (trace : List Access) → rest.frame.first ≡ first
     → (let out = act env (world_in rest old trace) in Says r view out (leaving_by old new trace (world_in (ending rest out) new)))
 
 -- `DoesIn` for a frame whose linear memory is `before` at the start and `after` at the end
-abbrev pub DoesOver : {A B G : Type 0} → List ℕ → List ℕ → Result A HostErr → (A → B) → (Env → Act B) → Host G → Host G → Type 0
+abbrev pub DoesOver : {A B G U V : Type 0} → List ℕ → List ℕ → Result A HostErr → (A → B) → (Env → Act B)
+    → Host G U V → Host G U V → Type 0
 DoesOver before after r view act old new =
     (env : Env) → IsEnvOf env old → (rest : World) (trace : List Access) → rest.frame.memory ≡ before
     → Says r view (act env (world_in rest old trace)) (leaving_by old new trace (world_in (with_memory after rest) new))

@@ -30,7 +30,8 @@ creates_here env opener c =
     with_frame (λ frame. returning (creates env opener (Some (Contract frame.contract)) c) (λ id. address (Contract id)))
 
 -- `Takes` for the running frame of a host. What is taken leaves the storage alone.
-abbrev pub TakesIn : {A G : Type 0} → Result A HostErr → (Env → Act Answer) → (Env → A → Act Answer) → Host G → Host G → Type 0
+abbrev pub TakesIn : {A G U V : Type 0} → Result A HostErr → (Env → Act Answer) → (Env → A → Act Answer)
+    → Host G U V → Host G U V → Type 0
 TakesIn (Ok a) act next old new = (new.ledger.storage ≡ old.ledger.storage)
     × ((env : Env) → IsEnvOf env old → (rest : World) (trace : List Access)
     → act env (world_in rest old trace) ≡ next env a (world_in rest new trace))

@@ -4,7 +4,7 @@ use Rattle.value_types.specs.Datum.{Datum}
 use Rattle.value_types.specs.Views.{datums}
 use Rattle.value_types.specs.declared.hash.Hash.{Hash}
 use Rattle.auth_types.specs.AuthEntry.{auth_entry_format}
-use Rattle.auth_trees.specs.Demands.{IsLater as IsLaterMarked}
+use Rattle.auth_trees.specs.Authorities.{IsLaterState}
 use Rattle.host_spec.specs.declared.error.HostErr.{HostErr}
 use Rattle.contract_storage.specs.Stored.{IsLater}
 use Rattle.call_spec.specs.World.{Access, Frame, World, Authority, Env}
@@ -19,7 +19,7 @@ use Rattle.contract_call.specs.declared.place.Place.{Place}
 -- ---- worlds
 
 -- the contracts with an open frame, the newest first
-abbrev pub contracts_of : {G : Type 0} → Host G → List Hash
+abbrev pub contracts_of : {G U V : Type 0} → Host G U V → List Hash
 contracts_of h = reverse h.open.items
 
 -- a frame that was called with this function and these arguments, at this place
@@ -32,11 +32,12 @@ placed place frame = record frame {
 }
 
 -- The world with these accesses that the host shows. The rest of its frame is that of the given world.
-abbrev pub world_around : {G : Type 0} → World → Host G → List Access → World
+abbrev pub world_around : {G U V : Type 0} → World → Host G U V → List Access → World
 world_around rest h trace = record rest {
   entries = h.ledger.storage.map;
   events = h.ledger.events;
   pairs = h.marks.pairs;
+  noted = h.marks.noted;
   frame = placed h.place rest.frame;
   contracts = contracts_of h;
   trace = trace;
@@ -44,11 +45,16 @@ world_around rest h trace = record rest {
 }
 
 -- what the host shows beside the ledger's state
-abbrev pub beside : {G : Type 0} → World → Host G → World
-beside rest h = record rest { pairs = h.marks.pairs; frame = placed h.place rest.frame; contracts = contracts_of h }
+abbrev pub beside : {G U V : Type 0} → World → Host G U V → World
+beside rest h = record rest {
+  pairs = h.marks.pairs;
+  noted = h.marks.noted;
+  frame = placed h.place rest.frame;
+  contracts = contracts_of h;
+}
 
 -- the world of the host in the frame that runs
-abbrev pub world_in : {G : Type 0} → World → Host G → List Access → World
+abbrev pub world_in : {G U V : Type 0} → World → Host G U V → List Access → World
 world_in rest h trace = world_at (beside rest h) h.ledger trace
 
 -- `Host` does not hold the linear memory, and the act may write to it. It is that of the act's final world.
@@ -61,68 +67,68 @@ with_memory memory w = record w { frame = record w.frame { memory = memory } }
 -- ---- the running frame's place
 
 -- one more call or create was begun
-abbrev pub numbered : {G : Type 0} → Host G → Host G
+abbrev pub numbered : {G U V : Type 0} → Host G U V → Host G U V
 numbered h = record h { place = record h.place { begun = h.place.begun + 1 } }
 
 -- a frame was opened at this place; it has shown nothing
-abbrev pub IsOpened : {G : Type 0} → Running → Place → Host G → Host G → Type 0
+abbrev pub IsOpened : {G U V : Type 0} → Running → Place → Host G U V → Host G U V → Type 0
 IsOpened frame place old new =
     new ≡ record old { ledger = record old.ledger { objects = []; frame = frame }; «open» = new.open; place = place }
 
 -- the frame was closed, and one with these values goes on at this place
-abbrev pub IsClosed : {G : Type 0} → List Datum → Running → Place → Host G → Host G → Type 0
+abbrev pub IsClosed : {G U V : Type 0} → List Datum → Running → Place → Host G U V → Host G U V → Type 0
 IsClosed objects frame place old new =
     new ≡ record old { ledger = record old.ledger { objects = objects; frame = frame }; «open» = new.open; place = place }
 
 -- ---- environments
 
 -- what may meet demands of authorisation
-abbrev pub authority_of : {G : Type 0} → Host G → Authority
+abbrev pub authority_of : {G U V : Type 0} → Host G U V → Authority
 authority_of h = record { entries = h.marks.entries; source = h.marks.source; verdicts = h.verdicts.now }
 
 -- an environment of the host's state
-pub record IsEnvOf {G : Type 0} (env : Env) (h : Host G) : Type 0 where
+pub record IsEnvOf {G U V : Type 0} (env : Env) (h : Host G U V) : Type 0 where
   pub ledger : IsEnv env h.ledger
   pub authority : env.authority ≡ authority_of h
 
 -- ---- acts
 
 -- what an act leaves after these accesses, while the host changes
-abbrev pub leaving_by : {G : Type 0} → Host G → Host G → List Access → (List Access → World) → Leaves
+abbrev pub leaving_by : {G U V : Type 0} → Host G U V → Host G U V → List Access → (List Access → World) → Leaves
 leaving_by old new before world = leaving old.ledger.storage new.ledger.storage before world
 
 -- The Rust function returns what the act returns, and leaves the host that the act leaves. This holds for every environment of
 -- the host, every running frame and every earlier trace.
-abbrev pub DoesAround : {A B G : Type 0} → Result A HostErr → (A → B) → (Env → Act B) → Host G → Host G → Type 0
+abbrev pub DoesAround : {A B G U V : Type 0} → Result A HostErr → (A → B) → (Env → Act B) → Host G U V → Host G U V → Type 0
 DoesAround r view act old new = (env : Env) → IsEnvOf env old → (rest : World) (trace : List Access)
     → Says r view (act env (world_around rest old trace)) (leaving_by old new trace (world_around rest new))
 
 -- the same in the frame that runs
-abbrev pub DoesIn : {A B G : Type 0} → Result A HostErr → (A → B) → (Env → Act B) → Host G → Host G → Type 0
+abbrev pub DoesIn : {A B G U V : Type 0} → Result A HostErr → (A → B) → (Env → Act B) → Host G U V → Host G U V → Type 0
 DoesIn r view act old new = (env : Env) → IsEnvOf env old → (rest : World) (trace : List Access)
     → Says r view (act env (world_in rest old trace)) (leaving_by old new trace (world_in rest new))
 
 -- the same of an act that may write to the frame's linear memory
-abbrev pub RunsIn : {A B G : Type 0} → Result A HostErr → (A → B) → (Env → Act B) → Host G → Host G → Type 0
+abbrev pub RunsIn : {A B G U V : Type 0} → Result A HostErr → (A → B) → (Env → Act B) → Host G U V → Host G U V → Type 0
 RunsIn r view act old new = (env : Env) → IsEnvOf env old → (rest : World) (trace : List Access)
     → (let out = act env (world_in rest old trace) in Says r view out (leaving_by old new trace (world_in (ending rest out) new)))
 
 -- ---- the state
 
 -- The ledger's state and the running frame are in order, and the authorisation entries have a spelling.
-pub record MayRun {G : Type 0} (h : Host G) : Type 0 where
+pub record MayRun {G U V : Type 0} (h : Host G U V) : Type 0 where
   pub ledger : IsReady h.ledger
   pub entries : All auth_entry_format.fits h.marks.entries
 
 -- What a call leaves: writes, events and authorisations that were used were only added, calls and creates were only counted, and
 -- the running frame is as before.
-pub record Stays {G : Type 0} (old new : Host G) : Type 0 where
+pub record Stays {G U V : Type 0} (old new : Host G U V) : Type 0 where
   pub header : new.ledger.header.now ≡ old.ledger.header.now
   pub storage : IsLater old.ledger.storage new.ledger.storage
   pub events : (more : List _) × (new.ledger.events ≡ old.ledger.events ++ more)
   pub objects : new.ledger.objects ≡ old.ledger.objects
   pub frame : new.ledger.frame ≡ old.ledger.frame
   pub contracts : new.open.items ≡ old.open.items
-  pub marks : IsLaterMarked old.marks new.marks
+  pub marks : IsLaterState old.marks new.marks
   pub verdicts : new.verdicts.now ≡ old.verdicts.now
   pub place : new.place ≡ record old.place { begun = new.place.begun }

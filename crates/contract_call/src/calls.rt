@@ -1,6 +1,7 @@
 //! Calls of contracts, nested over suspended instances.
 
-ghost use Rattle.std.specs.Prelude.{◌≡◌, ℕ, [], ◌∷◌, length, slice_get, IfOk};
+ghost use Rattle.std.specs.Prelude.{◌≡◌, ℕ, [], ◌∷◌, length, slice_get, IfOk, Err};
+ghost use Rattle.host_spec.specs.declared.error.HostErr.TheVariants as ends;
 ghost use Rattle.value_types.specs.Views.{datum, datums};
 ghost use Rattle.host_spec.specs.Hosted.{IsHosted, AreHosted};
 ghost use Rattle.host_frame.specs.Made.{AreMade, IsMemory};
@@ -47,14 +48,16 @@ use crate::place::{Place, new_place};
 use crate::rows::{ledger_answer, shown, upload_row, value_answer};
 use crate::running::{begin, end, running};
 use crate::targets::{ContractCall, Target, find_target, may_name};
+use crate::telling::{tell_called, tell_demanded, tell_returned};
 use crate::undo::caught;
 use crate::words::{
     AuthArgs, CallArgs, auth_for_args_words, auth_words, call_words, construct_words, create_words,
 };
 use crate::works::NewContract;
 use auth_parts::Asked;
-use auth_trees::Demand;
+use auth_trees::{Authority, Demand};
 use call_parts::{clone_copy, start_instance};
+use contract_storage::Watch;
 use entry_lookup::Ground;
 use host_frame::Answer;
 use host_interface::HostImport;
@@ -67,8 +70,29 @@ use wasm_run::{CallPhase, Event, Instance, trap_error};
 
 /// A call of a contract's function, while so many more frames may be open.
 #[cycle(calls)]
-pub(crate) fn call<G: Ground>(
-    host: &mut Host<'_, G>,
+pub(crate) fn call<G: Ground, A: Authority, W: Watch>(
+    host: &mut Host<'_, G, A, W>,
+    room: u32,
+    call: ContractCall<'_>,
+) -> Result<ScVal, HostErr>
+    requires ready { MayRun host.old }
+    requires path { HasRoom room host.old }
+    requires args { AreMade (datums call.args.items) }
+    ensures does { DoesAround result datum
+        (λ env. calls_if (may_name_in call.entry) env (opener_of env room) (call_of call.entry)) host.old host.new }
+    ensures hosted { IfOk result (λ value. IsHosted (datum value)) }
+    ensures stays { Stays host.old host.new }
+{
+    tell_called(host, &call);
+    let result = call_counted(host, room, call);
+    tell_returned(host, &result);
+    result
+}
+
+/// The same, apart from what an observer is told.
+#[cycle(calls)]
+fn call_counted<G: Ground, A: Authority, W: Watch>(
+    host: &mut Host<'_, G, A, W>,
     room: u32,
     call: ContractCall<'_>,
 ) -> Result<ScVal, HostErr>
@@ -88,8 +112,8 @@ pub(crate) fn call<G: Ground>(
 
 /// A call that has a path.
 #[cycle(calls)]
-fn call_below<G: Ground>(
-    host: &mut Host<'_, G>,
+fn call_below<G: Ground, A: Authority, W: Watch>(
+    host: &mut Host<'_, G, A, W>,
     room: u32,
     path: Vec<u64>,
     call: ContractCall<'_>,
@@ -114,8 +138,8 @@ fn call_below<G: Ground>(
 
 /// Calls a function of the target.
 #[cycle(calls)]
-fn call_target<G: Ground>(
-    host: &mut Host<'_, G>,
+fn call_target<G: Ground, A: Authority, W: Watch>(
+    host: &mut Host<'_, G, A, W>,
     room: u32,
     path: Vec<u64>,
     found: Target<'_>,
@@ -148,8 +172,8 @@ fn call_target<G: Ground>(
 
 /// Runs a function of a module in a new frame, if the module exports it for so many arguments.
 #[cycle(calls)]
-fn enter<G: Ground>(
-    host: &mut Host<'_, G>,
+fn enter<G: Ground, A: Authority, W: Watch>(
+    host: &mut Host<'_, G, A, W>,
     room: u32,
     frame: Running,
     place: Place,
@@ -177,8 +201,8 @@ fn enter<G: Ground>(
 
 /// Runs an instance in a new frame.
 #[cycle(calls)]
-fn open<G: Ground>(
-    host: &mut Host<'_, G>,
+fn open<G: Ground, A: Authority, W: Watch>(
+    host: &mut Host<'_, G, A, W>,
     room: u32,
     frame: Running,
     place: Place,
@@ -203,7 +227,7 @@ fn open<G: Ground>(
         Ok(first) => match host.open_frame(frame, place) {
             Ok(waiting) => {
                 let result = inside(host, room, module, instance, &first, args);
-                host.close_frame(waiting);
+                host.close_frame(&result, waiting);
                 result
             }
             Err(error) => Err(error),
@@ -214,8 +238,8 @@ fn open<G: Ground>(
 
 /// Runs a function in the frame that was opened for it.
 #[cycle(calls)]
-fn inside<G: Ground>(
-    host: &mut Host<'_, G>,
+fn inside<G: Ground, A: Authority, W: Watch>(
+    host: &mut Host<'_, G, A, W>,
     room: u32,
     module: &LinkedModule,
     instance: Instance<'_>,
@@ -247,8 +271,8 @@ fn inside<G: Ground>(
 
 /// Runs an instance to its end, and answers its calls of the host.
 #[cycle(calls)]
-fn run<G: Ground>(
-    host: &mut Host<'_, G>,
+fn run<G: Ground, A: Authority, W: Watch>(
+    host: &mut Host<'_, G, A, W>,
     room: u32,
     module: &LinkedModule,
     instance: Instance<'_>,
@@ -283,8 +307,8 @@ fn run<G: Ground>(
 
 /// The host's answer to a call of an import, with the frame's linear memory.
 #[cycle(calls)]
-fn answer<G: Ground>(
-    host: &mut Host<'_, G>,
+fn answer<G: Ground, A: Authority, W: Watch>(
+    host: &mut Host<'_, G, A, W>,
     room: u32,
     import: HostImport,
     words: &[u64],
@@ -335,7 +359,11 @@ fn answer<G: Ground>(
 
 /// `call`: the value that a contract's function returns.
 #[cycle(calls)]
-fn call_row<G: Ground>(host: &mut Host<'_, G>, room: u32, words: &[u64]) -> Result<Answer, HostErr>
+fn call_row<G: Ground, A: Authority, W: Watch>(
+    host: &mut Host<'_, G, A, W>,
+    room: u32,
+    words: &[u64],
+) -> Result<Answer, HostErr>
     requires ready { MayRun host.old }
     requires path { HasRoom room host.old }
     requires arity { length words.now ≡ 3 }
@@ -372,7 +400,11 @@ fn call_row<G: Ground>(host: &mut Host<'_, G>, room: u32, words: &[u64]) -> Resu
 
 /// `try_call`: the same, but a failure is caught, and returned as an error's value.
 #[cycle(calls)]
-fn try_row<G: Ground>(host: &mut Host<'_, G>, room: u32, words: &[u64]) -> Result<Answer, HostErr>
+fn try_row<G: Ground, A: Authority, W: Watch>(
+    host: &mut Host<'_, G, A, W>,
+    room: u32,
+    words: &[u64],
+) -> Result<Answer, HostErr>
     requires ready { MayRun host.old }
     requires path { HasRoom room host.old }
     requires arity { length words.now ≡ 3 }
@@ -411,8 +443,8 @@ fn try_row<G: Ground>(host: &mut Host<'_, G>, room: u32, words: &[u64]) -> Resul
 
 /// `create_contract`: the address of a new contract.
 #[cycle(calls)]
-fn create_row<G: Ground>(
-    host: &mut Host<'_, G>,
+fn create_row<G: Ground, A: Authority, W: Watch>(
+    host: &mut Host<'_, G, A, W>,
     room: u32,
     words: &[u64],
 ) -> Result<Answer, HostErr>
@@ -433,8 +465,8 @@ fn create_row<G: Ground>(
 
 /// `create_contract_with_constructor`: the same, with arguments for the constructor.
 #[cycle(calls)]
-fn construct_row<G: Ground>(
-    host: &mut Host<'_, G>,
+fn construct_row<G: Ground, A: Authority, W: Watch>(
+    host: &mut Host<'_, G, A, W>,
     room: u32,
     words: &[u64],
 ) -> Result<Answer, HostErr>
@@ -455,8 +487,8 @@ fn construct_row<G: Ground>(
 
 /// Makes a contract for the running frame's contract. Returns its address.
 #[cycle(calls)]
-fn create_here<G: Ground>(
-    host: &mut Host<'_, G>,
+fn create_here<G: Ground, A: Authority, W: Watch>(
+    host: &mut Host<'_, G, A, W>,
     room: u32,
     contract: NewContract,
 ) -> Result<Answer, HostErr>
@@ -475,8 +507,8 @@ fn create_here<G: Ground>(
 
 /// Makes a contract and calls its constructor, if it has one, while so many more frames may be open. Returns the contract's id.
 #[cycle(calls)]
-pub(crate) fn create<G: Ground>(
-    host: &mut Host<'_, G>,
+pub(crate) fn create<G: Ground, A: Authority, W: Watch>(
+    host: &mut Host<'_, G, A, W>,
     room: u32,
     creator: Option<Hash>,
     contract: NewContract,
@@ -496,8 +528,8 @@ pub(crate) fn create<G: Ground>(
 
 /// A create that has a path.
 #[cycle(calls)]
-fn create_below<G: Ground>(
-    host: &mut Host<'_, G>,
+fn create_below<G: Ground, A: Authority, W: Watch>(
+    host: &mut Host<'_, G, A, W>,
     room: u32,
     path: Vec<u64>,
     creator: Option<Hash>,
@@ -520,8 +552,8 @@ fn create_below<G: Ground>(
 
 /// The id of a new contract, after its charge and the demand of its deployer's authorisation.
 #[cycle(calls)]
-fn authorise<G: Ground>(
-    host: &mut Host<'_, G>,
+fn authorise<G: Ground, A: Authority, W: Watch>(
+    host: &mut Host<'_, G, A, W>,
     room: u32,
     path: &[u64],
     creator: Option<Hash>,
@@ -542,6 +574,7 @@ fn authorise<G: Ground>(
                 let met = host
                     .marks
                     .demand(path, caller, contract.deployer, &function);
+                tell_demanded(host, contract.deployer, &function, met);
                 let settled = settle(host, room, met);
                 granted(settled, id)
             }
@@ -553,8 +586,8 @@ fn authorise<G: Ground>(
 
 /// Makes the instance of a contract with an id, and calls the contract's constructor, if its module has one.
 #[cycle(calls)]
-fn build<G: Ground>(
-    host: &mut Host<'_, G>,
+fn build<G: Ground, A: Authority, W: Watch>(
+    host: &mut Host<'_, G, A, W>,
     room: u32,
     path: Vec<u64>,
     creator: Option<Hash>,
@@ -577,8 +610,8 @@ fn build<G: Ground>(
 
 /// Calls the constructor of a contract that was made, if its module has one.
 #[cycle(calls)]
-fn construct<G: Ground>(
-    host: &mut Host<'_, G>,
+fn construct<G: Ground, A: Authority, W: Watch>(
+    host: &mut Host<'_, G, A, W>,
     room: u32,
     path: Vec<u64>,
     creator: Option<Hash>,
@@ -617,7 +650,11 @@ fn construct<G: Ground>(
 
 /// `require_auth`: Void, if the address authorises the running frame's call.
 #[cycle(calls)]
-fn auth_row<G: Ground>(host: &mut Host<'_, G>, room: u32, words: &[u64]) -> Result<Answer, HostErr>
+fn auth_row<G: Ground, A: Authority, W: Watch>(
+    host: &mut Host<'_, G, A, W>,
+    room: u32,
+    words: &[u64],
+) -> Result<Answer, HostErr>
     requires ready { MayRun host.old }
     requires path { HasRoom room host.old }
     requires arity { length words.now ≡ 1 }
@@ -637,8 +674,8 @@ fn auth_row<G: Ground>(host: &mut Host<'_, G>, room: u32, words: &[u64]) -> Resu
 
 /// `require_auth_for_args`: the same, with other arguments.
 #[cycle(calls)]
-fn auth_for_args_row<G: Ground>(
-    host: &mut Host<'_, G>,
+fn auth_for_args_row<G: Ground, A: Authority, W: Watch>(
+    host: &mut Host<'_, G, A, W>,
     room: u32,
     words: &[u64],
 ) -> Result<Answer, HostErr>
@@ -662,8 +699,8 @@ fn auth_for_args_row<G: Ground>(
 
 /// Void, if an address authorises a function in the running frame.
 #[cycle(calls)]
-fn demand_here<G: Ground>(
-    host: &mut Host<'_, G>,
+fn demand_here<G: Ground, A: Authority, W: Watch>(
+    host: &mut Host<'_, G, A, W>,
     room: u32,
     address: ScAddress,
     function: Function,
@@ -678,21 +715,29 @@ fn demand_here<G: Ground>(
     let caller = contract_address(host.ledger.frame.caller);
     let path = host.place.path.as_slice();
     let met = host.marks.demand(path, caller, address, &function);
+    tell_demanded(host, address, &function, met);
     let settled = settle(host, room, met);
     authorised(settled)
 }
 
 /// Ends a demand after the node that meets it, if one does, is used.
 #[cycle(calls)]
-fn settle<G: Ground>(host: &mut Host<'_, G>, room: u32, met: Demand) -> Result<(), HostErr>
+fn settle<G: Ground, A: Authority, W: Watch>(
+    host: &mut Host<'_, G, A, W>,
+    room: u32,
+    met: Demand,
+) -> Result<(), HostErr>
     requires ready { MayRun host.old }
     requires room { HasRoom room host.old }
     ensures does { DoesAround result (λ u. u) (λ env. settled env (opener_of env room) met) host.old host.new }
+    ensures memory { met ≡ Demand.NoMemory → result ≡ Err ends.NoMemory }
     ensures stays { Stays host.old host.new }
 {
     match met {
         Demand::ByInvoker => Ok(()),
         Demand::Denied => Err(DENIED),
+        Demand::Noted => Ok(()),
+        Demand::NoMemory => Err(HostErr::NoMemory),
         Demand::Matched { first: false, .. } => Ok(()),
         Demand::Matched { entry, first: true } => prove(host, room, entry),
     }
@@ -700,7 +745,11 @@ fn settle<G: Ground>(host: &mut Host<'_, G>, room: u32, met: Demand) -> Result<(
 
 /// Asks the address of an authorisation entry, whose root is used for the first time, to prove that it authorises.
 #[cycle(calls)]
-fn prove<G: Ground>(host: &mut Host<'_, G>, room: u32, entry: usize) -> Result<(), HostErr>
+fn prove<G: Ground, A: Authority, W: Watch>(
+    host: &mut Host<'_, G, A, W>,
+    room: u32,
+    entry: usize,
+) -> Result<(), HostErr>
     requires ready { MayRun host.old }
     requires room { HasRoom room host.old }
     ensures does { DoesAround result (λ u. u)
@@ -716,8 +765,8 @@ fn prove<G: Ground>(host: &mut Host<'_, G>, room: u32, entry: usize) -> Result<(
 
 /// Calls the function of a contract that checks an authorisation of the contract.
 #[cycle(calls)]
-fn check<G: Ground>(
-    host: &mut Host<'_, G>,
+fn check<G: Ground, A: Authority, W: Watch>(
+    host: &mut Host<'_, G, A, W>,
     room: u32,
     contract: Hash,
     args: Vec<ScVal>,

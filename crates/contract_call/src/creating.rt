@@ -27,10 +27,11 @@ use crate::errors::{NO_FUNCTION, NOT_VOID};
 use crate::host::Host;
 use crate::place::{Place, below, clone_args, new_place};
 use crate::works::NewContract;
+use auth_trees::Authority;
 use budget_meter::Budget;
 use call_parts::{cached_module, find_code, make_instance, new_id, paid_module};
 use code_cache::{Cache, HeldModule};
-use contract_storage::Storage;
+use contract_storage::{Storage, Watch};
 use entry_lookup::Ground;
 use host_frame::Answer;
 use host_ledger::{HostLedger, code_key, end_of, made_seq};
@@ -50,8 +51,8 @@ struct SizedCode<'c> {
 }
 
 /// The id of a new contract, after its charge, over the ledger's state.
-fn paid_id_in<G: Ground>(
-    ledger: &mut HostLedger<'_, G>,
+fn paid_id_in<G: Ground, W: Watch>(
+    ledger: &mut HostLedger<'_, G, W>,
     contract: &NewContract,
 ) -> Result<Hash, HostErr>
     ensures does { (env : Env) → env.header ≡ ledger.old.header.now
@@ -68,8 +69,8 @@ fn paid_id_in<G: Ground>(
 }
 
 /// The id of a new contract, after its charge.
-pub(crate) fn paid_id<G: Ground>(
-    host: &mut Host<'_, G>,
+pub(crate) fn paid_id<G: Ground, A: Authority, W: Watch>(
+    host: &mut Host<'_, G, A, W>,
     contract: &NewContract,
 ) -> Result<Hash, HostErr>
     requires ready { MayRun host.old }
@@ -127,9 +128,9 @@ pub(crate) fn create_function(alloc: Global, contract: &NewContract) -> Result<F
 }
 
 /// Finds the code with a hash, and its module.
-fn sized_code<'c, G: Ground>(
+fn sized_code<'c, G: Ground, W: Watch>(
     alloc: Global,
-    storage: &mut Storage<'_, G>,
+    storage: &mut Storage<'_, G, W>,
     codes: Option<&'c Cache<'c>>,
     hash: Hash,
 ) -> Result<SizedCode<'c>, HostErr>
@@ -149,8 +150,8 @@ fn sized_code<'c, G: Ground>(
 }
 
 /// Makes the instance of a new contract in ledger `n`, and takes the module of its code, after the module's charge.
-fn instantiate<'c, G: Ground>(
-    storage: &mut Storage<'_, G>,
+fn instantiate<'c, G: Ground, W: Watch>(
+    storage: &mut Storage<'_, G, W>,
     budget: &mut Budget,
     n: u32,
     settings: &Settings,
@@ -173,9 +174,9 @@ fn instantiate<'c, G: Ground>(
 }
 
 /// Finds the code of a new contract, makes the contract's instance in ledger `n`, and takes the code's module.
-fn build<'c, G: Ground>(
+fn build<'c, G: Ground, W: Watch>(
     alloc: Global,
-    storage: &mut Storage<'_, G>,
+    storage: &mut Storage<'_, G, W>,
     budget: &mut Budget,
     codes: Option<&'c Cache<'c>>,
     n: u32,
@@ -198,8 +199,8 @@ fn build<'c, G: Ground>(
 }
 
 /// Finds the code of a new contract, makes the contract's instance, and takes the code's module, over the ledger's state.
-fn build_in<'c, G: Ground>(
-    ledger: &mut HostLedger<'_, G>,
+fn build_in<'c, G: Ground, W: Watch>(
+    ledger: &mut HostLedger<'_, G, W>,
     codes: Option<&'c Cache<'c>>,
     id: Hash,
     code: Hash,
@@ -224,8 +225,8 @@ fn build_in<'c, G: Ground>(
 }
 
 /// Makes the instance of a new contract with an id, and returns the module of its code.
-pub(crate) fn made<'c, G: Ground>(
-    host: &mut Host<'c, G>,
+pub(crate) fn made<'c, G: Ground, A: Authority, W: Watch>(
+    host: &mut Host<'c, G, A, W>,
     id: Hash,
     code: Hash,
 ) -> Result<HeldModule<'c>, HostErr>
@@ -293,7 +294,7 @@ pub(crate) fn constructed(id: Hash, returned: Result<ScVal, HostErr>) -> Result<
 }
 
 /// The address of a contract, as an answer.
-#[tactic(auto, using(host_ledger::proofs::Making::contract_made), unfolding(value_types::specs::Address::address_format, value_types::specs::Hash::hash_format))]
+#[tactic(auto, using(host_ledger::proofs::Lemmas::contract_made), unfolding(value_types::specs::Address::address_format, value_types::specs::Hash::hash_format))]
 fn address_answer(contract: Hash) -> Answer
     ensures value { answer_of result ≡ value (address_datum (addresses.Contract contract)) }
     ensures made { IsAnswerMade (answer_of result) }

@@ -21,7 +21,9 @@ use crate::errors::DENIED;
 use crate::host::Host;
 use crate::place::{clone_args, clone_bytes};
 use auth_parts::{Asked, ask};
+use auth_trees::Authority;
 use auth_types::AuthEntry;
+use contract_storage::Watch;
 use entry_lookup::Ground;
 use host_frame::Answer;
 use host_ledger::HostLedger;
@@ -41,8 +43,8 @@ pub(crate) fn contract_address(contract: Option<Hash>) -> Option<ScAddress>
 }
 
 /// The running frame's function with these arguments, as an authorisation names it. Its only error is memory.
-pub(crate) fn call_with<G: Ground>(
-    host: &Host<'_, G>,
+pub(crate) fn call_with<G: Ground, A: Authority, W: Watch>(
+    host: &Host<'_, G, A, W>,
     args: Vec<ScVal>,
 ) -> Result<Function, HostErr>
     ensures ok { IfOk result (λ f. f ≡ called host.now.ledger.frame.contract host.now.place.function.items (datums args.items)) }
@@ -64,7 +66,9 @@ pub(crate) fn call_with<G: Ground>(
 }
 
 /// The running frame's function with its own arguments. Its only error is memory.
-pub(crate) fn own_call<G: Ground>(host: &Host<'_, G>) -> Result<Function, HostErr>
+pub(crate) fn own_call<G: Ground, A: Authority, W: Watch>(
+    host: &Host<'_, G, A, W>,
+) -> Result<Function, HostErr>
     ensures ok { IfOk result (λ f. f ≡ called host.now.ledger.frame.contract host.now.place.function.items
         (datums host.now.place.args.items)) }
     ensures memory { IfErr result (λ e. e ≡ ends.NoMemory) }
@@ -76,8 +80,8 @@ pub(crate) fn own_call<G: Ground>(host: &Host<'_, G>) -> Result<Function, HostEr
 }
 
 /// Asks the address of an authorisation entry over the ledger's state.
-fn ask_in<G: Ground>(
-    ledger: &mut HostLedger<'_, G>,
+fn ask_in<G: Ground, W: Watch>(
+    ledger: &mut HostLedger<'_, G, W>,
     verdicts: &Verdicts,
     entry: &AuthEntry,
 ) -> Result<Asked, HostErr>
@@ -103,7 +107,10 @@ fn ask_in<G: Ground>(
 }
 
 /// Asks the address of the authorisation entry at an index: what is left is the run of a contract's own function.
-pub(crate) fn ask_entry<G: Ground>(host: &mut Host<'_, G>, index: usize) -> Result<Asked, HostErr>
+pub(crate) fn ask_entry<G: Ground, A: Authority, W: Watch>(
+    host: &mut Host<'_, G, A, W>,
+    index: usize,
+) -> Result<Asked, HostErr>
     requires ready { MayRun host.old }
     ensures does { DoesAround result asked (λ env. asks_at env (slice_get env.authority.entries index)) host.old host.new }
     ensures hosted { IfOk result IsAskedHosted }

@@ -15,7 +15,7 @@ ghost use Rattle.contract_call.specs.Framed.{argument_words};
 
 use budget_meter::Budget;
 use call_parts::{charge_run, is_same, returned_value, show_args, write_instance};
-use contract_storage::Storage;
+use contract_storage::{Storage, Watch};
 use entry_lookup::Ground;
 use host_ledger::{InstanceCopy, Running};
 use host_spec::HostErr;
@@ -50,8 +50,8 @@ pub(crate) fn argument_words(
 }
 
 /// Writes the frame's copy of the instance if it differs from the instance at the frame's start.
-fn write_if_changed<G: Ground>(
-    storage: &mut Storage<'_, G>,
+fn write_if_changed<G: Ground, W: Watch>(
+    storage: &mut Storage<'_, G, W>,
     budget: &mut Budget,
     n: u32,
     contract: Hash,
@@ -74,8 +74,8 @@ fn write_if_changed<G: Ground>(
 }
 
 /// Ends a frame whose code returned a word: the value that the word means, and the write of the instance.
-pub(crate) fn finish<G: Ground>(
-    storage: &mut Storage<'_, G>,
+pub(crate) fn finish<G: Ground, W: Watch>(
+    storage: &mut Storage<'_, G, W>,
     budget: &mut Budget,
     n: u32,
     objects: &Objects,

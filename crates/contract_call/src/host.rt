@@ -8,27 +8,28 @@ ghost use Rattle.call_spec.specs.World.{next_seq};
 ghost use Rattle.contract_call.specs.Worlds.{numbered, IsOpened, IsClosed, MayRun};
 
 use crate::place::{Place, outermost};
-use auth_trees::Marks;
+use crate::telling::{tell_begun, tell_ended};
+use auth_trees::{Authorising, Authority};
 use budget_meter::Budget;
 use code_cache::Cache;
-use contract_storage::Storage;
+use contract_storage::{Storage, Watch};
 use entry_lookup::Ground;
 use host_ledger::{Events, HostLedger, InstanceCopy, Running};
 use host_spec::HostErr;
 use ledger_types::{Header, Verdicts};
 use object_store::{Objects, Shown};
 use std::alloc::Global;
-use value_types::Hash;
+use value_types::{Hash, ScVal};
 
 /// The state of one transaction's run: what the functions over the ledger work on, the contracts with an open frame, and what may
 /// meet demands of authorisation. It serves one `invoke`, `upload` or `create`.
 #[derive(Drop)]
-pub struct Host<'a, G: Ground> {
-    pub ledger: HostLedger<'a, G>,
+pub struct Host<'a, G: Ground, A: Authority, W: Watch> {
+    pub ledger: HostLedger<'a, G, W>,
     /// The oldest first.
     pub open: Vec<Hash>,
-    /// The operation's authorisation entries, and which of their nodes met demands.
-    pub marks: Marks<'a>,
+    /// What meets demands of authorisation: the operation's entries, with the nodes that met demands, or a recorder.
+    pub marks: Authorising<A>,
     /// The signatures of accounts that are known to be good.
     pub verdicts: &'a Verdicts,
     /// Where the running frame is.
@@ -62,29 +63,29 @@ fn outside(alloc: Global) -> Running
     }
 }
 
-impl<'a, G: Ground> Host<'a, G> {
+impl<'a, G: Ground, A: Authority, W: Watch> Host<'a, G, A, W> {
     /// Makes a host without events and open frames. `header` is that of the ledger before the one that is made, with the close
-    /// time of the one that is made. `marks` has the operation's authorisation entries. `codes` keeps each code that it loads
-    /// for later hosts; two threads may both load one.
+    /// time of the one that is made. `marks` meets demands, as the operation's authorisation entries do. `codes` keeps
+    /// each code that it loads for later hosts; two threads may both load one.
     pub fn new(
         alloc: Global,
-        storage: Storage<'a, G>,
+        storage: Storage<'a, G, W>,
         header: &'a Header,
         budget: Budget,
-        marks: Marks<'a>,
+        marks: A,
         verdicts: &'a Verdicts,
         codes: Option<&'a Cache<'a>>,
-    ) -> Host<'a, G>
+    ) -> Host<'a, G, A, W>
         requires bounds { HasBounds (next_seq header.now) header.now.settings }
         requires number { storage.n ≡ next_seq header.now }
         requires lives { storage.lives ≡ header.now.settings }
-        requires entries { All auth_entry_format.fits marks.entries }
+        requires entries { All auth_entry_format.fits (A.authorised marks).entries }
         ensures storage { result.ledger.storage ≡ storage.entry }
         ensures header { result.ledger.header.now ≡ header.now }
         ensures budget { result.ledger.budget ≡ budget }
         ensures events { result.ledger.events ≡ [] }
         ensures contracts { result.open.items ≡ [] }
-        ensures marks { result.marks ≡ marks.entry }
+        ensures marks { result.marks ≡ A.authorised marks }
         ensures verdicts { result.verdicts.now ≡ verdicts.now }
         ensures function { result.place.function.items ≡ [] }
         ensures args { result.place.args.items ≡ [] }
@@ -102,7 +103,7 @@ impl<'a, G: Ground> Host<'a, G> {
                 frame: outside(alloc),
             },
             open: Vec::new(alloc),
-            marks,
+            marks: Authorising::new(marks),
             verdicts,
             place: outermost(alloc),
             codes,
@@ -145,6 +146,7 @@ impl<'a, G: Ground> Host<'a, G> {
                 let objects = std::mem::replace(&mut self.ledger.objects, Objects::new(alloc));
                 let frame = std::mem::replace(&mut self.ledger.frame, frame);
                 let place = std::mem::replace(&mut self.place, place);
+                tell_begun(self);
                 Ok(Waiting {
                     frame,
                     objects,
@@ -154,11 +156,12 @@ impl<'a, G: Ground> Host<'a, G> {
         }
     }
 
-    /// Closes the running frame, and goes back to the one that waits.
-    pub(crate) fn close_frame(&mut self, waiting: Waiting)
+    /// Closes the running frame, which ended so, and goes back to the one that waits.
+    pub(crate) fn close_frame(&mut self, end: &Result<ScVal, HostErr>, waiting: Waiting)
         ensures frame { IsClosed waiting.objects waiting.frame waiting.place self.old self.new }
         ensures contracts { self.new.open.items ≡ take (length self.old.open.items - 1) self.old.open.items }
     {
+        tell_ended(self, end);
         self.ledger.objects = waiting.objects;
         self.ledger.frame = waiting.frame;
         self.place = waiting.place;

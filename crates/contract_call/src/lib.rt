@@ -32,6 +32,7 @@ mod place;
 mod rows;
 mod running;
 mod targets;
+mod telling;
 mod undo;
 mod words;
 mod works;

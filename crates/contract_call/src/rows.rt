@@ -30,9 +30,10 @@ ghost use Rattle.contract_call.specs.Worlds.{with_memory, DoesIn, MayRun};
 ghost use Rattle.contract_call.specs.Running.{DoesOver, StaysIn};
 
 use crate::host::Host;
+use auth_trees::Authority;
 use budget_meter::Budget;
 use call_parts::upload;
-use contract_storage::Storage;
+use contract_storage::{Storage, Watch};
 use entry_lookup::Ground;
 use host_frame::{Answer, Values, enter, give};
 use host_interface::HostImport;
@@ -44,8 +45,8 @@ use std::alloc::Global;
 use value_types::Hash;
 
 /// Calls a function over values, over the ledger's state.
-fn value_in<G: Ground>(
-    ledger: &mut HostLedger<'_, G>,
+fn value_in<G: Ground, W: Watch>(
+    ledger: &mut HostLedger<'_, G, W>,
     import: HostImport,
     words: &[u64],
     memory: &mut [u8],
@@ -78,8 +79,8 @@ fn value_in<G: Ground>(
 }
 
 /// Calls a function over values.
-pub(crate) fn value_answer<G: Ground>(
-    host: &mut Host<'_, G>,
+pub(crate) fn value_answer<G: Ground, A: Authority, W: Watch>(
+    host: &mut Host<'_, G, A, W>,
     import: HostImport,
     words: &[u64],
     memory: &mut [u8],
@@ -96,8 +97,8 @@ pub(crate) fn value_answer<G: Ground>(
 }
 
 /// Calls a function over the ledger and the running frame.
-pub(crate) fn ledger_answer<G: Ground>(
-    host: &mut Host<'_, G>,
+pub(crate) fn ledger_answer<G: Ground, A: Authority, W: Watch>(
+    host: &mut Host<'_, G, A, W>,
     import: HostImport,
     words: &[u64],
 ) -> Result<u64, HostErr>
@@ -112,7 +113,10 @@ pub(crate) fn ledger_answer<G: Ground>(
 }
 
 /// Shows an answer in the running frame.
-fn show<G: Ground>(ledger: &mut HostLedger<'_, G>, answer: Answer) -> Result<u64, HostErr>
+fn show<G: Ground, W: Watch>(
+    ledger: &mut HostLedger<'_, G, W>,
+    answer: Answer,
+) -> Result<u64, HostErr>
     requires made { IsAnswerMade (answer_of answer) }
     requires indices { AreIndices ledger.old.objects ledger.old.frame.shown }
     ensures does { (rest : World) (trace : List Access)
@@ -136,13 +140,13 @@ fn show<G: Ground>(ledger: &mut HostLedger<'_, G>, answer: Answer) -> Result<u64
 }
 
 /// Shows what a host function returns.
-pub(crate) fn shown<G: Ground>(
-    host: &mut Host<'_, G>,
+pub(crate) fn shown<G: Ground, A: Authority, W: Watch>(
+    host: &mut Host<'_, G, A, W>,
     made: Result<Answer, HostErr>,
 ) -> Result<u64, HostErr>
     requires ready { MayRun host.old }
     requires made { IsMadeIfOk made }
-    ensures does { (start : Host G) (act : Env → Act AnswerData) → StaysIn start host.old
+    ensures does { (start : Host G A W) (act : Env → Act AnswerData) → StaysIn start host.old
         → DoesIn made answer_of act start host.old
         → DoesIn result (λ word. word) (λ env. after (act env) (λ answer. lift (given answer))) start host.new }
     ensures stays { StaysIn host.old host.new }
@@ -166,9 +170,9 @@ fn hash_answer(alloc: Global, hash: Hash) -> Result<Answer, HostErr>
 }
 
 /// Uploads a code in ledger `n`, and returns its hash as an answer.
-fn uploaded<G: Ground>(
+fn uploaded<G: Ground, W: Watch>(
     alloc: Global,
-    storage: &mut Storage<'_, G>,
+    storage: &mut Storage<'_, G, W>,
     budget: &mut Budget,
     n: u32,
     code: &[u8],
@@ -188,8 +192,8 @@ fn uploaded<G: Ground>(
 
 /// The body of `upload_wasm`.
 #[tactic(auto, using(crate::proofs::Answering::few_bytes))]
-fn upload_body<G: Ground>(
-    storage: &mut Storage<'_, G>,
+fn upload_body<G: Ground, W: Watch>(
+    storage: &mut Storage<'_, G, W>,
     budget: &mut Budget,
     values: &Values<'_>,
     n: u32,
@@ -208,7 +212,10 @@ fn upload_body<G: Ground>(
 }
 
 /// `upload_wasm` over the ledger's state.
-fn upload_in<G: Ground>(ledger: &mut HostLedger<'_, G>, a: u64) -> Result<Answer, HostErr>
+fn upload_in<G: Ground, W: Watch>(
+    ledger: &mut HostLedger<'_, G, W>,
+    a: u64,
+) -> Result<Answer, HostErr>
     requires { IsReady ledger.old }
     ensures { Answers result (kinds.Bytes ∷ []) upload_wasm (a ∷ []) ledger.old ledger.new }
 {
@@ -218,8 +225,8 @@ fn upload_in<G: Ground>(ledger: &mut HostLedger<'_, G>, a: u64) -> Result<Answer
 }
 
 /// `upload_wasm`: the hash of a code.
-pub(crate) fn upload_row<G: Ground>(
-    host: &mut Host<'_, G>,
+pub(crate) fn upload_row<G: Ground, A: Authority, W: Watch>(
+    host: &mut Host<'_, G, A, W>,
     words: &[u64],
 ) -> Result<Answer, HostErr>
     requires ready { MayRun host.old }

@@ -17,6 +17,8 @@ ghost use Rattle.contract_call.specs.Running.{IsNewFrame, StaysIn, DoesFrom};
 
 use crate::frames::{argument_words, finish};
 use crate::host::Host;
+use auth_trees::Authority;
+use contract_storage::Watch;
 use entry_lookup::Ground;
 use host_ledger::{HostLedger, InstanceCopy, Running, made_seq};
 use host_spec::HostErr;
@@ -48,8 +50,8 @@ pub(crate) fn running(
 }
 
 /// Charges for a run of a module's function in the ledger's running frame, and shows its arguments. Returns their words.
-fn begin_in<G: Ground>(
-    ledger: &mut HostLedger<'_, G>,
+fn begin_in<G: Ground, W: Watch>(
+    ledger: &mut HostLedger<'_, G, W>,
     module: &LinkedModule,
     args: Vec<ScVal>,
 ) -> Result<Vec<u64>, HostErr>
@@ -81,8 +83,8 @@ fn begin_in<G: Ground>(
 }
 
 /// Charges for the run of the frame's function, and shows its arguments. Returns their words.
-pub(crate) fn begin<G: Ground>(
-    host: &mut Host<'_, G>,
+pub(crate) fn begin<G: Ground, A: Authority, W: Watch>(
+    host: &mut Host<'_, G, A, W>,
     module: &LinkedModule,
     args: Vec<ScVal>,
 ) -> Result<Vec<u64>, HostErr>
@@ -97,7 +99,7 @@ pub(crate) fn begin<G: Ground>(
 }
 
 /// The number of the ledger that is made.
-fn made_in<G: Ground>(ledger: &HostLedger<'_, G>) -> u32
+fn made_in<G: Ground, W: Watch>(ledger: &HostLedger<'_, G, W>) -> u32
     requires { IsReady ledger.now }
     ensures { result ≡ ledger.now.storage.n }
 {
@@ -105,8 +107,8 @@ fn made_in<G: Ground>(ledger: &HostLedger<'_, G>) -> u32
 }
 
 /// Ends the ledger's running frame, whose code returned a word.
-fn end_in<G: Ground>(
-    ledger: &mut HostLedger<'_, G>,
+fn end_in<G: Ground, W: Watch>(
+    ledger: &mut HostLedger<'_, G, W>,
     first: &InstanceCopy,
     word: u64,
 ) -> Result<ScVal, HostErr>
@@ -135,8 +137,8 @@ fn end_in<G: Ground>(
 }
 
 /// Ends the frame, whose code returned a word.
-pub(crate) fn end<G: Ground>(
-    host: &mut Host<'_, G>,
+pub(crate) fn end<G: Ground, A: Authority, W: Watch>(
+    host: &mut Host<'_, G, A, W>,
     first: &InstanceCopy,
     word: u64,
 ) -> Result<ScVal, HostErr>

@@ -18,10 +18,11 @@ ghost use Rattle.contract_call.specs.Targets.{target_of as target_of_in};
 
 use crate::errors::{OTHER_TYPE, REENTERED, RESERVED_NAME};
 use crate::host::Host;
+use auth_trees::Authority;
 use budget_meter::Budget;
 use call_parts::{call_module, find_instance};
 use code_cache::{Cache, HeldModule};
-use contract_storage::Storage;
+use contract_storage::{Storage, Watch};
 use entry_lookup::Ground;
 use host_ledger::{HostLedger, InstanceCopy};
 use host_spec::HostErr;
@@ -88,9 +89,9 @@ fn admitted(open: &[Hash], address: ScAddress, named: bool) -> Result<Hash, Host
 }
 
 /// Finds the module of the code of a contract's instance.
-fn with_module<'c, G: Ground>(
+fn with_module<'c, G: Ground, W: Watch>(
     alloc: Global,
-    storage: &mut Storage<'_, G>,
+    storage: &mut Storage<'_, G, W>,
     budget: &mut Budget,
     codes: Option<&'c Cache<'c>>,
     contract: Hash,
@@ -114,9 +115,9 @@ fn with_module<'c, G: Ground>(
 }
 
 /// Finds the instance of a contract, and the module of its code.
-fn target_at<'c, G: Ground>(
+fn target_at<'c, G: Ground, W: Watch>(
     alloc: Global,
-    storage: &mut Storage<'_, G>,
+    storage: &mut Storage<'_, G, W>,
     budget: &mut Budget,
     codes: Option<&'c Cache<'c>>,
     contract: Hash,
@@ -132,10 +133,10 @@ fn target_at<'c, G: Ground>(
 }
 
 /// Finds the target of a call, by the call's tests in their order.
-pub(crate) fn target_of<'c, G: Ground>(
+pub(crate) fn target_of<'c, G: Ground, W: Watch>(
     alloc: Global,
     open: &[Hash],
-    storage: &mut Storage<'_, G>,
+    storage: &mut Storage<'_, G, W>,
     budget: &mut Budget,
     codes: Option<&'c Cache<'c>>,
     address: ScAddress,
@@ -156,8 +157,8 @@ pub(crate) fn target_of<'c, G: Ground>(
 }
 
 /// Finds the target of a call in the host's ledger.
-fn target_in<'c, G: Ground>(
-    ledger: &mut HostLedger<'_, G>,
+fn target_in<'c, G: Ground, W: Watch>(
+    ledger: &mut HostLedger<'_, G, W>,
     open: &[Hash],
     codes: Option<&'c Cache<'c>>,
     contract: ScAddress,
@@ -184,8 +185,8 @@ fn target_in<'c, G: Ground>(
 }
 
 /// Finds the target of a call.
-pub(crate) fn find_target<'c, G: Ground>(
-    host: &mut Host<'c, G>,
+pub(crate) fn find_target<'c, G: Ground, A: Authority, W: Watch>(
+    host: &mut Host<'c, G, A, W>,
     contract: ScAddress,
     named: bool,
 ) -> Result<Target<'c>, HostErr>

@@ -14,8 +14,8 @@ ghost use Rattle.contract_call.specs.declared.host.Host.{Host as Host'};
 
 use crate::errors::HIDDEN_ERROR;
 use crate::host::Host;
-use auth_trees::Point as MarksPoint;
-use contract_storage::Point;
+use auth_trees::{Authority, Point as MarksPoint};
+use contract_storage::{Point, Watch};
 use entry_lookup::Ground;
 use host_spec::HostErr;
 use value_types::{ScError, ScVal};
@@ -29,7 +29,7 @@ pub(crate) struct Mark {
     pub marks: MarksPoint,
 }
 
-impl<'a, G: Ground> Host<'a, G> {
+impl<'a, G: Ground, A: Authority, W: Watch> Host<'a, G, A, W> {
     /// Marks the state of the ledger, of the events and of the authorisations that were used.
     pub(crate) fn mark(&self) -> Mark
         ensures { IsMark result self.now }
@@ -53,7 +53,11 @@ impl<'a, G: Ground> Host<'a, G> {
 }
 
 /// Goes back to a mark if the end is a failure, and returns the end.
-pub(crate) fn undo<G: Ground>(host: &mut Host<'_, G>, mark: Mark, error: HostErr) -> HostErr
+pub(crate) fn undo<G: Ground, A: Authority, W: Watch>(
+    host: &mut Host<'_, G, A, W>,
+    mark: Mark,
+    error: HostErr,
+) -> HostErr
     requires { IsWithin mark host.old }
     ensures same { result ≡ error }
     ensures undoes { Undoes mark error host.old host.new }
@@ -87,8 +91,8 @@ fn passed_on(error: ScError) -> ScError
 }
 
 /// Goes back to a mark if the end is a failure, and returns the value of its error. Returns any other end as it is.
-fn caught_end<G: Ground>(
-    host: &mut Host<'_, G>,
+fn caught_end<G: Ground, A: Authority, W: Watch>(
+    host: &mut Host<'_, G, A, W>,
     mark: Mark,
     error: HostErr,
 ) -> Result<ScVal, HostErr>
@@ -106,17 +110,17 @@ fn caught_end<G: Ground>(
 }
 
 /// Catches a failure: the value of its error comes in its place, and the state is that of the mark. Any other end stays as it is.
-pub(crate) fn caught<G: Ground>(
-    host: &mut Host<'_, G>,
+pub(crate) fn caught<G: Ground, A: Authority, W: Watch>(
+    host: &mut Host<'_, G, A, W>,
     mark: Mark,
     made: Result<ScVal, HostErr>,
 ) -> Result<ScVal, HostErr>
     requires made { IfOk made (λ value. IsHosted (datum value)) }
     requires room { IsWithin mark host.old }
-    ensures does { (start : Host' G) (act : Env → Act Datum) → IsMark mark start → Stays start host.old
+    ensures does { (start : Host' G A W) (act : Env → Act Datum) → IsMark mark start → Stays start host.old
         → DoesAround made datum act start host.old
         → DoesAround result datum (λ env. catching (act env)) start host.new }
-    ensures stays { (start : Host' G) → IsMark mark start → Stays start host.old → Stays start host.new }
+    ensures stays { (start : Host' G A W) → IsMark mark start → Stays start host.old → Stays start host.new }
     ensures hosted { IfOk result (λ value. IsHosted (datum value)) }
 {
     match made {

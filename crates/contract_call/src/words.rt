@@ -23,7 +23,9 @@ ghost use Rattle.contract_call.specs.Taken.{Takes, TakesIn, creates_here};
 use crate::errors::OTHER_SIZE;
 use crate::host::Host;
 use crate::works::NewContract;
+use auth_trees::Authority;
 use budget_meter::Budget;
+use contract_storage::Watch;
 use entry_lookup::Ground;
 use host_frame::{Values, enter};
 use host_ledger::{HostLedger, clone_values};
@@ -165,8 +167,8 @@ pub(crate) fn constructor_args(
 }
 
 /// The arguments of `call` and `try_call` by the ledger's running frame.
-fn call_taken<G: Ground>(
-    ledger: &mut HostLedger<'_, G>,
+fn call_taken<G: Ground, W: Watch>(
+    ledger: &mut HostLedger<'_, G, W>,
     a: u64,
     b: u64,
     c: u64,
@@ -184,8 +186,8 @@ fn call_taken<G: Ground>(
 }
 
 /// The arguments of `call` and `try_call` by the running frame.
-pub(crate) fn call_words<G: Ground>(
-    host: &mut Host<'_, G>,
+pub(crate) fn call_words<G: Ground, A: Authority, W: Watch>(
+    host: &mut Host<'_, G, A, W>,
     words: &[u64],
 ) -> Result<CallArgs, HostErr>
     requires ready { MayRun host.old }
@@ -203,8 +205,8 @@ pub(crate) fn call_words<G: Ground>(
 }
 
 /// The arguments of `create_contract` by the ledger's running frame.
-fn create_taken<G: Ground>(
-    ledger: &mut HostLedger<'_, G>,
+fn create_taken<G: Ground, W: Watch>(
+    ledger: &mut HostLedger<'_, G, W>,
     a: u64,
     b: u64,
     c: u64,
@@ -222,8 +224,8 @@ fn create_taken<G: Ground>(
 }
 
 /// The arguments of `create_contract` by the running frame.
-pub(crate) fn create_words<G: Ground>(
-    host: &mut Host<'_, G>,
+pub(crate) fn create_words<G: Ground, A: Authority, W: Watch>(
+    host: &mut Host<'_, G, A, W>,
     words: &[u64],
 ) -> Result<NewContract, HostErr>
     requires ready { MayRun host.old }
@@ -241,8 +243,8 @@ pub(crate) fn create_words<G: Ground>(
 }
 
 /// The arguments of `create_contract_with_constructor` by the ledger's running frame.
-fn construct_taken<G: Ground>(
-    ledger: &mut HostLedger<'_, G>,
+fn construct_taken<G: Ground, W: Watch>(
+    ledger: &mut HostLedger<'_, G, W>,
     a: u64,
     b: u64,
     c: u64,
@@ -261,8 +263,8 @@ fn construct_taken<G: Ground>(
 }
 
 /// The arguments of `create_contract_with_constructor` by the running frame.
-pub(crate) fn construct_words<G: Ground>(
-    host: &mut Host<'_, G>,
+pub(crate) fn construct_words<G: Ground, A: Authority, W: Watch>(
+    host: &mut Host<'_, G, A, W>,
     words: &[u64],
 ) -> Result<NewContract, HostErr>
     requires ready { MayRun host.old }
@@ -291,7 +293,10 @@ fn auth_address(values: &Values<'_>, budget: &mut Budget, a: u64) -> Result<ScAd
 }
 
 /// The argument of `require_auth` by the ledger's running frame.
-fn auth_taken<G: Ground>(ledger: &mut HostLedger<'_, G>, a: u64) -> Result<ScAddress, HostErr>
+fn auth_taken<G: Ground, W: Watch>(
+    ledger: &mut HostLedger<'_, G, W>,
+    a: u64,
+) -> Result<ScAddress, HostErr>
     requires { AreIndices ledger.old.objects ledger.old.frame.shown }
     ensures takes { (rule : Rule (kinds.Address ∷ []))
         → Takes result (answered (kinds.Address ∷ []) rule (a ∷ [])) (λ x. rule x)
@@ -303,8 +308,8 @@ fn auth_taken<G: Ground>(ledger: &mut HostLedger<'_, G>, a: u64) -> Result<ScAdd
 }
 
 /// The argument of `require_auth` by the running frame.
-pub(crate) fn auth_words<G: Ground>(
-    host: &mut Host<'_, G>,
+pub(crate) fn auth_words<G: Ground, A: Authority, W: Watch>(
+    host: &mut Host<'_, G, A, W>,
     words: &[u64],
 ) -> Result<ScAddress, HostErr>
     requires ready { MayRun host.old }
@@ -333,8 +338,8 @@ fn auth_args(values: &Values<'_>, budget: &mut Budget, a: u64, b: u64) -> Result
 }
 
 /// The arguments of `require_auth_for_args` by the ledger's running frame.
-fn auth_for_args_taken<G: Ground>(
-    ledger: &mut HostLedger<'_, G>,
+fn auth_for_args_taken<G: Ground, W: Watch>(
+    ledger: &mut HostLedger<'_, G, W>,
     a: u64,
     b: u64,
 ) -> Result<AuthArgs, HostErr>
@@ -350,8 +355,8 @@ fn auth_for_args_taken<G: Ground>(
 }
 
 /// The arguments of `require_auth_for_args` by the running frame.
-pub(crate) fn auth_for_args_words<G: Ground>(
-    host: &mut Host<'_, G>,
+pub(crate) fn auth_for_args_words<G: Ground, A: Authority, W: Watch>(
+    host: &mut Host<'_, G, A, W>,
     words: &[u64],
 ) -> Result<AuthArgs, HostErr>
     requires ready { MayRun host.old }

@@ -21,6 +21,8 @@ use crate::calls;
 use crate::host::Host;
 use crate::targets::ContractCall;
 use crate::undo::undo;
+use auth_trees::Authority;
+use contract_storage::Watch;
 use entry_lookup::Ground;
 use host_ledger::HostLedger;
 use host_spec::HostErr;
@@ -34,8 +36,8 @@ fn most_frames() -> u32
 }
 
 /// Calls a function of a contract, for the transaction itself.
-pub fn invoke<G: Ground>(
-    host: &mut Host<'_, G>,
+pub fn invoke<G: Ground, A: Authority, W: Watch>(
+    host: &mut Host<'_, G, A, W>,
     contract: ScAddress,
     function: &[u8],
     args: Vec<ScVal>,
@@ -66,7 +68,10 @@ pub fn invoke<G: Ground>(
 }
 
 /// Uploads a code to the ledger.
-fn upload_in<G: Ground>(ledger: &mut HostLedger<'_, G>, code: &[u8]) -> Result<Hash, HostErr>
+fn upload_in<G: Ground, W: Watch>(
+    ledger: &mut HostLedger<'_, G, W>,
+    code: &[u8],
+) -> Result<Hash, HostErr>
     requires ready { IsReady ledger.old }
     requires size { length code.now < 2 ^ 32 }
     ensures does { Steps result (λ hash. hash)
@@ -85,7 +90,10 @@ fn upload_in<G: Ground>(ledger: &mut HostLedger<'_, G>, code: &[u8]) -> Result<H
 }
 
 /// Uploads a code, and returns its hash.
-pub fn upload<G: Ground>(host: &mut Host<'_, G>, code: &[u8]) -> Result<Hash, HostErr>
+pub fn upload<G: Ground, A: Authority, W: Watch>(
+    host: &mut Host<'_, G, A, W>,
+    code: &[u8],
+) -> Result<Hash, HostErr>
     requires ready { MayRun host.old }
     requires size { length code.now < 2 ^ 32 }
     ensures does { DoesAround result (λ hash. bytes hash.0)
@@ -112,7 +120,10 @@ pub struct NewContract {
 }
 
 /// Makes a contract and calls its constructor, if it has one. Returns the contract's id.
-pub fn create<G: Ground>(host: &mut Host<'_, G>, contract: NewContract) -> Result<Hash, HostErr>
+pub fn create<G: Ground, A: Authority, W: Watch>(
+    host: &mut Host<'_, G, A, W>,
+    contract: NewContract,
+) -> Result<Hash, HostErr>
     requires ready { MayRun host.old }
     requires path { HasRoom 64 host.old }
     requires args { AreArgsHosted contract.args }

@@ -1,15 +1,14 @@
 -- What the calls of a storage do.
 use Rattle.std.specs.Prelude.{cond, is_some, is_ok, IsTrue}
-use Rattle.std.proofs.Common.{◌≡◌, ◌≤◌, ◌∷◌, ◌++◌, ℕ, Bool, true, false, List, [], length, arith, length-append, Option, None, Result, Ok, Err, refl, sym, ap, ap₂, subst, ◌∙◌}
+use Rattle.std.proofs.Common.{◌≡◌, ◌≤◌, ◌∷◌, ◌++◌, ℕ, Bool, true, false, [], length, arith, length-append, Option, None, Result, Ok, Err, refl, sym, ap, ap₂, subst, ◌∙◌}
 use Rattle.ledger_types.specs.declared.key.LedgerKey.{LedgerKey}
 use Rattle.ledger_spec.specs.LedgerMap.{LedgerMap}
-use Rattle.contract_storage.specs.Touched.{admits, noted}
+use Rattle.contract_storage.specs.Touched.{Known, admits, noted}
 use Rattle.contract_storage.specs.Stored.{Stored, with_touched, IsLater, IsRead, IsRestored}
 use Rattle.contract_storage.specs.Acts.{Act, Call, Left, left, judged, noting, Does, Performs, ran_out}
 use Rattle.contract_storage.specs.declared.access.Access.{Access}
 use Rattle.contract_storage.specs.declared.access.StoErr.{StoErr}
 use Rattle.contract_storage.specs.declared.access.StoErr.TheVariants as err
-use Rattle.contract_storage.specs.declared.touched.Touch.{Touch}
 use Rattle.contract_storage.proofs.Doing.{unchanged}
 use Rattle.contract_storage.proofs.Going.{goes_back, again}
 
@@ -20,7 +19,7 @@ out_of_memory (Err err.NoMemory) e = refl
 out_of_memory (Err e) h = cc
 
 -- only keys were touched
-touching : (old new : Stored) (ts : List Touch) → new ≡ with_touched old ts → IsLater old new
+touching : (old new : Stored) (ts : Known) → new ≡ with_touched old ts → IsLater old new
 touching old new ts e = subst (λ (x : Stored). IsLater old x) (sym e) (record { same = refl; later = (unchanged old).later })
 
 -- what an access did that did not run out of memory
@@ -82,7 +81,7 @@ noted_so {A} access key act r old mid new a h p e =
     let touched : new.touched ≡ noted old.declared access key old.touched = ap (λ (x : Stored). x.touched) e ∙ ap₂ (λ d t. noted d access key t) same p.touched in
     does_so (judged access key act) r old new h
     (judged_is access key act old a
-    ∙ ap₂ (λ (x : Result A StoErr × LedgerMap) (t : List Touch). (x.0, (x.1, t))) (p.gives ∙ ap (λ (m : LedgerMap). (r, m)) (sym (ap (λ (x : Stored). x.map) e))) (sym touched))
+    ∙ ap₂ (λ (x : Result A StoErr × LedgerMap) (t : Known). (x.0, (x.1, t))) (p.gives ∙ ap (λ (m : LedgerMap). (r, m)) (sym (ap (λ (x : Stored). x.map) e))) (sym touched))
     (again old mid new p.later (touching mid new ts e))
     (λ f. e ∙ ap (λ (x : Stored). with_touched x ts) (p.stays f) ∙ ap (with_touched old) (sym (ap (λ (x : Stored). x.touched) e)))
 

@@ -5,14 +5,14 @@ use Rattle.std.proofs.Common.{◌≡◌, ℕ, ◌-◌, ◌<◌, ◌^◌, Bool, t
 use Rattle.xdr_spec.specs.Format.{number32}
 use Rattle.ledger_types.specs.Entry.{key_of, entry_format}
 use Rattle.ledger_types.specs.Key.{key_format}
-use Rattle.ledger_types.proofs.KeyLaws.{key_of_fits}
+use Rattle.ledger_types.proofs.Lemmas.{key_of_fits}
 use Rattle.ledger_types.specs.declared.key.LedgerKey.{LedgerKey}
 use Rattle.ledger_types.specs.declared.entry.LedgerEntry.{LedgerEntry}
 use Rattle.ledger_spec.specs.declared.Kept.{Kept}
 use Rattle.ledger_spec.specs.LedgerMap.{LedgerMap, key_bytes, IsKeptAt, HasCodeHash}
 use Rattle.ledger_spec.specs.Seen.{Seen, live, absent, archived, seen, seen_of}
 use Rattle.ledger_spec.specs.Changes.{put_seen, delete_seen, make_seen, written, asked_life, longer, extend_seen, extend_live, backward}
-use Rattle.ledger_spec.proofs.Life.{live_is}
+use Rattle.ledger_spec.proofs.Lemmas.{live_is}
 use Rattle.entry_lookup.specs.Found.{kept_of}
 use Rattle.contract_storage.specs.Layered.{set_at}
 use Rattle.contract_storage.specs.Stored.{Stored, with_map, with_history, history, IsLater}

@@ -10,7 +10,7 @@ use Rattle.std.proofs.lemmas.Map.Text.{is_eq-slice_cmp}
 use Rattle.ledger_types.specs.Key.{key_format}
 use Rattle.ledger_types.specs.KeyOrder.{ranked_key, key_cmp}
 use Rattle.ledger_types.specs.declared.key.LedgerKey.{LedgerKey}
-use Rattle.ledger_types.proofs.Ranking.{key_ranked}
+use Rattle.ledger_types.proofs.Lemmas.{key_ranked}
 use Rattle.ledger_spec.specs.LedgerMap.{key_bytes}
 use Rattle.contract_storage.specs.Footprint.{is_listed, declares, permits, allows, IsFootprint, with_keys}
 use Rattle.contract_storage.specs.declared.access.Access.{Access}

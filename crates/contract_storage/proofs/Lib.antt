@@ -1,8 +1,9 @@
-pub mod Laying
-pub mod Sound
-pub mod Changing
-pub mod Doing
-pub mod Footprints
-pub mod Going
-pub mod Calling
-pub mod Touching
+mod Calling
+mod Changing
+mod Doing
+mod Footprints
+mod Going
+mod Laying
+pub mod Lemmas
+mod Sound
+mod Touching

@@ -12,10 +12,10 @@ use Rattle.std.proofs.Common.{◌≡◌, ℕ, true, false, List, [], ◌∷◌, 
 use Rattle.ledger_types.specs.Key.{key_format}
 use Rattle.ledger_types.specs.KeyOrder.{ranked_key, key_cmp}
 use Rattle.ledger_types.specs.declared.key.LedgerKey.{LedgerKey}
-use Rattle.ledger_types.proofs.Ranking.{key_ranked}
+use Rattle.ledger_types.proofs.Lemmas.{key_ranked}
 use Rattle.ledger_spec.specs.declared.Kept.{Kept}
 use Rattle.ledger_spec.specs.LedgerMap.{LedgerMap, key_bytes, IsKeptAt, IsLedgerMap}
-use Rattle.ledger_spec.proofs.Keeping.{kept_at}
+use Rattle.ledger_spec.proofs.Lemmas.{kept_at}
 use Rattle.entry_lookup.specs.Found.{kept_of}
 use Rattle.contract_storage.specs.Overlays.{overlay_of, or_same, IsThere, IsHeldAt, IsLaid, IsSound, undone}
 use Rattle.entry_lookup.specs.declared.ground.Found.{Found}

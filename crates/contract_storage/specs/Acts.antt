@@ -13,10 +13,9 @@ use Rattle.ledger_spec.specs.LedgerMap.{LedgerMap, IsKeptAt}
 use Rattle.ledger_spec.specs.Seen.{Seen, live, absent, archived, seen, seen_of}
 use Rattle.ledger_spec.specs.Changes.{put, delete, make, extend, first_life, Unextended, backward, missing, too_far, in_archive}
 use Rattle.entry_lookup.specs.Found.{kept_of}
-use Rattle.contract_storage.specs.Touched.{admits, noted}
+use Rattle.contract_storage.specs.Touched.{Known, admits, noted}
 use Rattle.contract_storage.specs.Stored.{Stored, IsLater, IsRead}
 use Rattle.entry_lookup.specs.declared.ground.Found.{Found}
-use Rattle.contract_storage.specs.declared.touched.Touch.{Touch}
 use Rattle.contract_storage.specs.declared.access.Access.{Access}
 use Rattle.contract_storage.specs.declared.access.Access.TheVariants.{Read, Extend, Write}
 use Rattle.contract_storage.specs.declared.access.StoErr.{StoErr}
@@ -86,14 +85,14 @@ extends key threshold extend_to s = extended (extend s.lives s.n s.map key thres
 
 -- ---- calls
 
--- the map and the touched keys
+-- the map, and what is known of the accesses
 abbrev pub Left : Type 0
-Left = LedgerMap × List Touch
+Left = LedgerMap × Known
 
 abbrev pub left : Stored → Left
 left s = (s.map, s.touched)
 
--- what a call returns, with the map and the touched keys afterwards
+-- what a call returns, with the map afterwards and what is known of the accesses then
 abbrev pub Call : Type 0 → Type 0
 Call A = Stored → Result A StoErr × Left
 
@@ -132,7 +131,8 @@ extend_act key threshold extend_to s =
     if nat_lt extend_to threshold then (Err (refusal backward), left s)
     else judged Extend key (extends key threshold extend_to) s
 
--- A call returns what it has to, and leaves the map and the touched keys that it has to. After an error no entry has changed.
+-- A call returns what it has to, and leaves the map and what is known of the accesses as it has to. After an error no entry has
+-- changed.
 -- Only running out of memory is left open: it changes nothing. If a footprint is enforced, it comes only if the call would not
 -- fail.
 abbrev pub Does : {A : Type 0} → Call A → Result A StoErr → Stored → Stored → Type 0

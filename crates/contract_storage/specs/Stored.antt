@@ -5,27 +5,39 @@ use Rattle.ledger_types.specs.declared.key.LedgerKey.{LedgerKey}
 use Rattle.ledger_types.specs.declared.header.Settings.{Settings}
 use Rattle.ledger_spec.specs.LedgerMap.{LedgerMap}
 use Rattle.ledger_spec.specs.LedgerFile.{are_settings}
+use Rattle.contract_storage.specs.Touched.{Known}
+use Rattle.contract_storage.specs.Watched.{Seen}
 use Rattle.contract_storage.specs.declared.touched.Touch.{Touch}
 
 -- The ground's map, the map as the storage shows it, and the maps before each write, the oldest first. Then the declared
--- keys, each with whether it is read-write, or `None` if all accesses are allowed and the touched keys are recorded. Then the
--- touched keys, the number of the ledger that is made, and the settings.
+-- keys, each with whether it is read-write, or `None` if all accesses are allowed and the touched keys are recorded. Then what is
+-- known of the accesses, the number of the ledger that is made, and the settings.
 pub record Stored : Type 0 where
   pub base : LedgerMap
   pub map : LedgerMap
   pub past : List LedgerMap
   pub declared : Option (List (LedgerKey × Bool))
-  pub touched : List Touch
+  pub touched : Known
   pub n : ℕ
   pub lives : Settings
 
 -- how the logic stores it
+abbrev pub seen_code : Coded Touch → Coded Seen
+seen_code t =
+    code_by (ℕ × (ℕ × List Touch)) (coded× coded_ℕ (coded× coded_ℕ (coded_list t))) (λ s. (s.limit, (s.room, s.kept)))
+    (λ p. record { limit = p.0; room = p.1.0; kept = p.1.1 }) (λ _. refl)
+
+abbrev pub known_code : Coded Touch → Coded Known
+known_code t =
+    code_by (List Touch × Seen) (coded× (coded_list t) (seen_code t)) (λ k. (k.keys, k.seen))
+    (λ p. record { keys = p.0; seen = p.1 }) (λ _. refl)
+
 abbrev pub stored_code : Coded LedgerMap → Coded Settings → Coded LedgerKey → Coded Touch → Coded Stored
 stored_code c l k t =
-    code_by (LedgerMap × (LedgerMap × (List LedgerMap × (Option (List (LedgerKey × Bool)) × (List Touch × (ℕ × Settings))))))
+    code_by (LedgerMap × (LedgerMap × (List LedgerMap × (Option (List (LedgerKey × Bool)) × (Known × (ℕ × Settings))))))
     (coded× c (coded× c
     (coded× (coded_list c)
-    (coded× (coded_option (coded_list (coded× k coded_bool))) (coded× (coded_list t) (coded× coded_ℕ l))))))
+    (coded× (coded_option (coded_list (coded× k coded_bool))) (coded× (known_code t) (coded× coded_ℕ l))))))
     (λ s. (s.base, (s.map, (s.past, (s.declared, (s.touched, (s.n, s.lives)))))))
     (λ p. record {
       base = p.0;
@@ -54,29 +66,36 @@ with_map s map = record s { map = map; past = s.past ++ s.map ∷ [] }
 abbrev pub with_maps : Stored → Stored → Stored
 with_maps s other = record s { map = other.map; past = other.past }
 
--- the same with the maps and the touched keys of another state
+-- the same with the maps of another state and with what it knows of the accesses
 abbrev pub with_history : Stored → Stored → Stored
 with_history s other = record s { map = other.map; past = other.past; touched = other.touched }
 
--- the same with these touched keys
-abbrev pub with_touched : Stored → List Touch → Stored
+-- the same with this known of the accesses
+abbrev pub with_touched : Stored → Known → Stored
 with_touched s touched = record s { touched = touched }
 
--- a storage without writes and touched keys
-abbrev pub starting : LedgerMap → ℕ → Settings → Option (List (LedgerKey × Bool)) → Stored
-starting base n lives declared =
-    record { base = base; map = base; past = []; declared = declared; touched = []; n = n; lives = lives }
+-- a storage without writes and touched keys, with an observer that has seen this
+abbrev pub starting : LedgerMap → ℕ → Settings → Option (List (LedgerKey × Bool)) → Seen → Stored
+starting base n lives declared seen = record {
+  base = base;
+  map = base;
+  past = [];
+  declared = declared;
+  touched = record { keys = []; seen = seen };
+  n = n;
+  lives = lives;
+}
 
--- a later state: writes were added, the touched keys may be others, and nothing else changed
+-- a later state: writes were added, other accesses may be known, and nothing else changed
 pub record IsLater (old new : Stored) : Type 0 where
   pub same : new ≡ with_history old new
   pub later : (more : List LedgerMap) × (history new ≡ history old ++ more)
 
--- a later state: the touched keys may be others, and nothing else changed
+-- a later state: other accesses may be known, and nothing else changed
 abbrev pub IsRead : Stored → Stored → Type 0
 IsRead old new = new ≡ with_touched old new.touched
 
--- The state after all writes but the first ones, as many as given, were undone. The touched keys stay.
+-- The state after all writes but the first ones, as many as given, were undone. What is known of the accesses stays.
 pub record IsRestored (writes : ℕ) (old new : Stored) : Type 0 where
   pub same : new ≡ with_maps old new
   pub back : history new ≡ take (writes + 1) (history old)

@@ -13,6 +13,7 @@ use Rattle.contract_storage.specs.declared.access.Access.{Access}
 use Rattle.contract_storage.specs.declared.access.Access.TheVariants.{Read, Extend, Write}
 use Rattle.contract_storage.specs.declared.touched.Touch.{Touch}
 use Rattle.contract_storage.specs.Footprint.{allows}
+use Rattle.contract_storage.specs.Watched.{Seen, see}
 
 -- ---- touched keys
 
@@ -44,9 +45,18 @@ admits (Some declared) access key = allows declared access key
 admits None access key = true
 
 -- the touched keys after an access that was allowed; a storage that enforces a footprint keeps none
-abbrev pub noted : Option (List (LedgerKey × Bool)) → Access → LedgerKey → List Touch → List Touch
-noted (Some declared) access key touched = touched
-noted None access key touched = touch access key touched
+abbrev pub touched_by : Option (List (LedgerKey × Bool)) → Access → LedgerKey → List Touch → List Touch
+touched_by (Some declared) access key touched = touched
+touched_by None access key touched = touch access key touched
+
+-- what is known of the accesses so far: the touched keys, and what an observer has seen
+pub record Known : Type 0 where
+  pub keys : List Touch
+  pub seen : Seen
+
+-- what is known after an access that was allowed
+abbrev pub noted : Option (List (LedgerKey × Bool)) → Access → LedgerKey → Known → Known
+noted declared access key known = record { keys = touched_by declared access key known.keys; seen = see access key known.seen }
 
 -- ---- how the code finds a touched key
 

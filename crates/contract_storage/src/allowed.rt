@@ -10,6 +10,7 @@ ghost use Rattle.contract_storage.specs.Acts.{Performs, puts, deletes, makes, ex
 use crate::access::StoErr;
 use crate::sight::Sight;
 use crate::storage::Storage;
+use crate::watch::Watch;
 use entry_lookup::{Found, Ground};
 use ledger_spec::Kept;
 use ledger_types::{LedgerEntry, LedgerKey};
@@ -26,7 +27,7 @@ fn living_until(found: Found<'_>, live_until: u32) -> Result<Kept, NoMemory>
     })
 }
 
-impl<'a, G: Ground> Storage<'a, G> {
+impl<'a, G: Ground, W: Watch> Storage<'a, G, W> {
     /// Puts an entry at its key.
     pub(crate) fn put_allowed(&mut self, key: &LedgerKey, entry: LedgerEntry) -> Result<(), StoErr>
         requires key { key.now ≡ key_of_entry entry }

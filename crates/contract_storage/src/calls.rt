@@ -13,11 +13,12 @@ ghost use Rattle.contract_storage.specs.contracts.storage.Storage.{the_row};
 use crate::access::{Access, StoErr};
 use crate::sight::Sight;
 use crate::storage::Storage;
+use crate::watch::Watch;
 use entry_lookup::Ground;
 use ledger_types::{LedgerEntry, LedgerKey};
 use value_types::{ScError, ScErrorCode};
 
-impl<'a, G: Ground> Storage<'a, G> {
+impl<'a, G: Ground, W: Watch> Storage<'a, G, W> {
     /// Whether there is a live entry at a key. It takes memory only if the storage records.
     pub fn has(&mut self, key: &LedgerKey) -> Result<bool, StoErr>
         requires { key_format.fits key.now }
@@ -26,7 +27,8 @@ impl<'a, G: Ground> Storage<'a, G> {
         if !self.allows(Access::Read, key) {
             return Err(StoErr::Undeclared);
         }
-        if self.note(Access::Read, key).is_err() {
+        let outcome = self.outcome_at(key);
+        if self.note(Access::Read, key, outcome).is_err() {
             return Err(StoErr::NoMemory);
         }
         match self.sight(key) {
@@ -40,14 +42,15 @@ impl<'a, G: Ground> Storage<'a, G> {
     pub fn get(&mut self, key: &LedgerKey) -> Result<&LedgerEntry, StoErr>
         requires { key_format.fits key.now }
         // Once the entry is no longer borrowed.
-        ensures* answer { sem 𝓛 (Rests (the_row (record { mir = named 1; lft = [] }) G.row G.Ground) self.entry
+        ensures* answer { sem 𝓛 (Rests (the_row (record { mir = named 1; lft = [] }) G.row W.row G.Ground W.Watch) self.entry
             (λ new. Reads (get_act key.now) (lent result) self.old new)) }
         ensures fits { IfOk result (λ entry. entry_format.fits entry.now) }
     {
         if !self.allows(Access::Read, key) {
             return Err(StoErr::Undeclared);
         }
-        if self.note(Access::Read, key).is_err() {
+        let outcome = self.outcome_at(key);
+        if self.note(Access::Read, key, outcome).is_err() {
             return Err(StoErr::NoMemory);
         }
         match self.sight(key) {

@@ -12,9 +12,11 @@ mod layer;
 mod sight;
 mod storage;
 mod touched;
+mod watch;
 
 pub use access::{Access, StoErr};
 pub use changes::Change;
 pub use laws::{later_is_later, restore_goes_back};
 pub use storage::{Point, Storage};
 pub use touched::Touch;
+pub use watch::{End, Met, Moment, NoWatch, Outcome, Watch};

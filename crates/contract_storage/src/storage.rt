@@ -22,6 +22,7 @@ use crate::footprint::{allows, declared_keys};
 use crate::layer::Layer;
 use crate::sight::{Sight, sight_of};
 use crate::touched::{Touch, Touched};
+use crate::watch::{Moment, Outcome, Watch};
 use entry_lookup::Ground;
 use ledger_spec::{Kept, first_life, is_temporary};
 use ledger_types::{LedgerEntry, LedgerKey, Settings};
@@ -40,17 +41,19 @@ pub struct Point {
 /// The entries of a ledger as one transaction sees and changes them. Changes can be undone. Either the footprint of the
 /// transaction decides which accesses are allowed, or all are allowed and the touched keys are recorded.
 #[derive(Drop)]
-pub struct Storage<'a, G: Ground> {
+pub struct Storage<'a, G: Ground, W: Watch> {
     layer: Layer<'a, G>,
     /// The declared keys, each with whether it is read-write. Without them all accesses are allowed and recorded.
     declared: Option<BTreeMap<LedgerKey, bool>>,
     touched: Touched,
+    /// Sees each access that is allowed.
+    watch: W,
     n: u32,
     lives: Settings,
     alloc: Global,
 }
 
-impl<'a, G: Ground> Model for Storage<'a, G> {
+impl<'a, G: Ground, W: Watch> Model for Storage<'a, G, W> {
     ghost use Rattle.std.specs.FinMap.{code};
     ghost use Rattle.std.specs.Coded.{coded_list, coded_ℕ};
     ghost use Rattle.ledger_spec.specs.contracts.Kept as kept;
@@ -71,7 +74,7 @@ impl<'a, G: Ground> Model for Storage<'a, G> {
       map = s.layer.map;
       past = s.layer.past;
       declared = option_map (λ d. d.entries) s.declared;
-      touched = s.touched;
+      touched = record { keys = s.touched; seen = W.seen s.watch };
       n = s.n;
       lives = s.lives;
     } };
@@ -114,6 +117,18 @@ fn ran_out<T>(answer: &Result<T, StoErr>) -> bool
     }
 }
 
+// Returns how an access ended.
+fn outcome_of<T>(answer: &Result<T, StoErr>) -> Outcome {
+    match answer {
+        Ok(_) => Outcome::Done,
+        Err(e) => match e {
+            StoErr::Undeclared | StoErr::Missing | StoErr::NoMemory => Outcome::Missing,
+            StoErr::Archived => Outcome::Archived,
+            StoErr::BadExtend(_) => Outcome::Refused,
+        },
+    }
+}
+
 // Puts an entry into a box.
 fn boxed(alloc: Global, now: Option<Kept>) -> Result<Option<Box<Kept>>, NoMemory>
     ensures { IfOk result (λ made. option_map unboxed made ≡ now) }
@@ -124,7 +139,7 @@ fn boxed(alloc: Global, now: Option<Kept>) -> Result<Option<Box<Kept>>, NoMemory
     }
 }
 
-impl<'a, G: Ground> Storage<'a, G> {
+impl<'a, G: Ground, W: Watch> Storage<'a, G, W> {
     /// Makes the storage of a transaction in ledger `n`, which allows the accesses that a footprint declares.
     pub fn enforcing(
         alloc: Global,
@@ -133,11 +148,12 @@ impl<'a, G: Ground> Storage<'a, G> {
         lives: &Settings,
         read_only: &[LedgerKey],
         read_write: &[LedgerKey],
-    ) -> Result<Storage<'a, G>, NoMemory>
+        watch: W,
+    ) -> Result<Storage<'a, G, W>, NoMemory>
         requires bounds { HasBounds n lives.now }
         requires read_only { All (λ key. key_format.fits key) read_only.now }
         requires read_write { All (λ key. key_format.fits key) read_write.now }
-        ensures starts { IfOk result (λ s. s ≡ starting (G.map base.now) n lives.now s.declared) }
+        ensures starts { IfOk result (λ s. s ≡ starting (G.map base.now) n lives.now s.declared (W.seen watch)) }
         ensures declared { IfOk result (λ s. IsSomeAnd s.declared (IsFootprint read_only.now read_write.now)) }
     {
         let declared = declared_keys(alloc, read_only, read_write)?;
@@ -145,6 +161,7 @@ impl<'a, G: Ground> Storage<'a, G> {
             layer: Layer::new(alloc, base),
             declared: Some(declared),
             touched: Touched::new(alloc),
+            watch,
             n,
             lives: *lives,
             alloc,
@@ -152,14 +169,21 @@ impl<'a, G: Ground> Storage<'a, G> {
     }
 
     /// Makes the storage of a transaction in ledger `n`, which allows all accesses and records the keys that they touch.
-    pub fn recording(alloc: Global, base: &'a G, n: u32, lives: &Settings) -> Storage<'a, G>
+    pub fn recording(
+        alloc: Global,
+        base: &'a G,
+        n: u32,
+        lives: &Settings,
+        watch: W,
+    ) -> Storage<'a, G, W>
         requires bounds { HasBounds n lives.now }
-        ensures { result ≡ starting (G.map base.now) n lives.now None }
+        ensures { result ≡ starting (G.map base.now) n lives.now None (W.seen watch) }
     {
         Storage {
             layer: Layer::new(alloc, base),
             declared: None,
             touched: Touched::new(alloc),
+            watch,
             n,
             lives: *lives,
             alloc,
@@ -169,7 +193,7 @@ impl<'a, G: Ground> Storage<'a, G> {
     /// Returns the recorded keys in the order of their first access, each with its strongest access. Write is above Extend, and
     /// Extend is above Read. A storage that enforces a footprint records none.
     pub fn recorded(&self) -> &[Touch]
-        ensures keys { result.now ≡ self.now.touched }
+        ensures keys { result.now ≡ self.now.touched.keys }
         ensures spelled { AreSpelled result.now }
     {
         self.touched.as_slice()
@@ -186,15 +210,51 @@ impl<'a, G: Ground> Storage<'a, G> {
     }
 
     /// Notes an access that is allowed. Only a storage that records takes memory for it. Running out of memory changes nothing.
-    pub(crate) fn note(&mut self, access: Access, key: &LedgerKey) -> Result<(), NoMemory>
+    pub(crate) fn note(
+        &mut self,
+        access: Access,
+        key: &LedgerKey,
+        outcome: Outcome,
+    ) -> Result<(), NoMemory>
         requires { key_format.fits key.now }
         ensures ok { OnOk result (self.new ≡ with_touched self.old (noted self.old.declared access key.now self.old.touched)) }
         ensures err { OnErr result ((self.old.declared ≡ None) × (self.new ≡ self.old)) }
     {
         match &self.declared {
-            Some(_) => Ok(()),
-            None => self.touched.add(access, key),
+            Some(_) => (),
+            None => self.touched.add(access, key)?,
         }
+        self.watch.accessed(access, key, outcome);
+        Ok(())
+    }
+
+    /// Tells the observer what an access finds at a key, if it wants to know.
+    pub(crate) fn outcome_at(&self, key: &LedgerKey) -> Outcome
+        requires { key_format.fits key.now }
+    {
+        if !self.watch.is_on() {
+            return Outcome::Done;
+        }
+        match self.sight(key) {
+            Sight::Live(_) => Outcome::Done,
+            Sight::Absent => Outcome::Missing,
+            Sight::Archived => Outcome::Archived,
+        }
+    }
+
+    /// Tells the observer of a moment of the run.
+    pub fn tell(&mut self, moment: Moment<'_>)
+        ensures { self.new ≡ self.old }
+    {
+        self.watch.told(moment);
+    }
+
+    /// Returns the observer.
+    pub fn into_watch(self) -> W
+        ensures { W.seen result ≡ self.entry.touched.seen }
+    {
+        let Storage { watch, .. } = self;
+        watch
     }
 
     /// Ends a call whose access returned `answer`: notes the access, unless `answer` says that memory ran out. If memory runs out
@@ -217,7 +277,7 @@ impl<'a, G: Ground> Storage<'a, G> {
         if ran_out(&answer) {
             return answer;
         }
-        match self.note(access, key) {
+        match self.note(access, key, outcome_of(&answer)) {
             Ok(()) => answer,
             Err(_) => {
                 self.restore(start);

@@ -11,7 +11,7 @@ use Rattle.value_types.specs.declared.value.Entry.{Entry}
 use Rattle.value_xdr.specs.Bytes.{IsBounded}
 use Rattle.host_spec.specs.Hosted.{IsHosted, IsMade, is_within_limits}
 use Rattle.host_spec.specs.MapRows.{Member, put}
-use Rattle.host_frame.proofs.Making.{put_made}
+use Rattle.host_frame.proofs.Lemmas.{put_made}
 use Rattle.host_ledger.specs.Storing.{instance_with}
 
 pub pairs_set : (es : List Entry) (i : ℕ) (e : Entry) → datum_pairs (set es i e) ≡ set (datum_pairs es) i (datum_pair e)

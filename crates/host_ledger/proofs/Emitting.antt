@@ -9,7 +9,7 @@ use Rattle.value_types.specs.Formats.{scval_format}
 use Rattle.value_types.specs.Datum.{Datum, bytes, symbol, vec, items_of}
 use Rattle.value_types.specs.Depth.{items_depth}
 use Rattle.value_types.specs.Views.{datum, datums, scval}
-use Rattle.value_types.proofs.Lawful.{scval-datum, items_there}
+use Rattle.value_types.proofs.Lemmas.{items_there, scval-datum}
 use Rattle.value_types.specs.declared.hash.Hash.{Hash}
 use Rattle.value_types.specs.declared.value.ScVal.{ScVal}
 use Rattle.value_xdr.specs.Bytes.{IsBounded, AreItemsBounded}
@@ -18,7 +18,7 @@ use Rattle.invoke_types.specs.Event.{event_format, type_format}
 use Rattle.invoke_types.specs.declared.event.ContractEventType.TheVariants as types
 use Rattle.host_spec.specs.Hosted.{IsHosted}
 use Rattle.call_spec.specs.Events.{executable_topic, update_event}
-use Rattle.host_frame.proofs.Fitting.{shallow_fits, hosted_fits}
+use Rattle.host_frame.proofs.Lemmas.{hosted_fits, shallow_fits}
 
 -- the values of a list, of which trees were made
 pub all_same : (vs : List ScVal) → map scval (datums vs) ≡ vs

@@ -8,7 +8,7 @@ use Rattle.value_types.specs.Order.{datum_cmp}
 use Rattle.value_xdr.specs.Bytes.{bytes_of, members_bytes}
 use Rattle.host_spec.specs.Hosted.{IsHosted, size_of}
 use Rattle.host_spec.specs.MapRows.{without}
-use Rattle.host_frame.proofs.Making.{without_made}
+use Rattle.host_frame.proofs.Lemmas.{without_made}
 
 fewer_bytes_by : (e : Bool) (k : Datum) (m : Datum × Datum) (ms : List (Datum × Datum)) → length (members_bytes (members_of (without k ms))) ≤ length (members_bytes (members_of ms))
     → length (members_bytes (members_of (if e then ms else m ∷ without k ms))) ≤ length (members_bytes (members_of (m ∷ ms)))

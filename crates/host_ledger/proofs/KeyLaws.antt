@@ -11,8 +11,7 @@ use Rattle.value_types.specs.Order.{datum_cmp}
 use Rattle.host_spec.specs.Hosted.{IsHosted, is_below}
 use Rattle.host_spec.specs.MapRows.{put, without}
 use Rattle.host_frame.specs.KeyIndex.{AreBelow, IsFirst, IsThere, IsGap}
-use Rattle.host_frame.proofs.KeyLaws.{less_of, greater_than, between, first_of, second_of}
-use Rattle.host_frame.proofs.Making.{rises, map_rises}
+use Rattle.host_frame.proofs.Lemmas.{between, first_of, greater_than, less_of, map_rises, rises, second_of}
 
 -- ---- what stands at an index
 

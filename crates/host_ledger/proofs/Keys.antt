@@ -4,7 +4,7 @@ use Rattle.xdr_spec.specs.Format.{number32}
 use Rattle.value_types.specs.Address.{address_format}
 use Rattle.value_types.specs.Hash.{hash_format}
 use Rattle.value_types.specs.Views.{datum, scval}
-use Rattle.value_types.proofs.Lawful.{scval-datum}
+use Rattle.value_types.proofs.Lemmas.{scval-datum}
 use Rattle.value_types.specs.declared.value.ScVal.{ScVal}
 use Rattle.value_types.specs.declared.value.ScVal.TheVariants.{LedgerKeyContractInstance}
 use Rattle.value_types.specs.declared.address.ScAddress.{ScAddress}
@@ -23,10 +23,9 @@ use Rattle.ledger_types.specs.declared.entry.LedgerEntryData.{LedgerEntryData}
 use Rattle.ledger_types.specs.declared.entry.LedgerEntryData.TheVariants.{ContractData, ContractCode}
 use Rattle.ledger_types.specs.declared.entry.LedgerEntry.{LedgerEntry}
 use Rattle.value_xdr.specs.Bytes.{IsBounded}
-use Rattle.host_frame.proofs.Decoding.{spelled_bounded}
+use Rattle.host_frame.proofs.Lemmas.{hosted_fits, shallow_fits, spelled_bounded}
 use Rattle.host_spec.specs.Hosted.{IsHosted}
 use Rattle.call_spec.specs.Keys.{data_key_of, data_entry_of, instance_key, code_key}
-use Rattle.host_frame.proofs.Fitting.{hosted_fits, shallow_fits}
 
 pub same_scval : (v : ScVal) → scval (datum v) ≡ v
 same_scval v = scval-datum v

@@ -1,20 +1,21 @@
-pub mod EventLists
-pub mod Linking
-pub mod Making
-pub mod Keys
-pub mod KeyLaws
-pub mod Editing
-pub mod Limits
-pub mod Storing
-pub mod Putting
-pub mod Holding
-pub mod Rows
-pub mod Stepping
-pub mod Emitting
-pub mod Tracing
-pub mod Composing
-pub mod Grouping
-pub mod Steps
-pub mod Living
-pub mod Updating
-pub mod Naming
+mod Composing
+mod Editing
+mod Emitting
+mod EventLists
+mod Grouping
+mod Holding
+mod KeyLaws
+mod Keys
+pub mod Lemmas
+mod Limits
+mod Linking
+mod Living
+mod Making
+mod Naming
+mod Putting
+mod Rows
+mod Stepping
+mod Steps
+mod Storing
+mod Tracing
+mod Updating

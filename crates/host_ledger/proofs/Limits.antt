@@ -2,7 +2,7 @@
 use Rattle.std.proofs.Common.{◌≡◌, ℕ, ◌<◌, ◌≤◌, ◌-◌, ◌^◌, min, true, false, ◌&&◌, nat_le, refl, arith}
 use Rattle.std.proofs.lemmas.Bool.Decides.{nat_tests}
 use Rattle.xdr_core.specs.Sizes.{capped}
-use Rattle.host_frame.proofs.Acting.{capped_is}
+use Rattle.host_frame.proofs.Lemmas.{capped_is}
 
 le_true : (n m : ℕ) → n ≤ m → nat_le n m ≡ true
 le_true n m h = grind (arith, nat_tests)

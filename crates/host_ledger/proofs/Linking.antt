@@ -20,11 +20,10 @@ use Rattle.host_frame.specs.Answered.{answer_of}
 use Rattle.host_frame.specs.declared.answer.Answer.{Answer as Answer'}
 use Rattle.contract_storage.specs.Layered.{set_at as set_at'}
 use Rattle.contract_storage.specs.Stored.{Stored, IsRead, with_touched}
-use Rattle.contract_storage.specs.Touched.{admits, noted}
+use Rattle.contract_storage.specs.Touched.{Known, admits, noted}
 use Rattle.contract_storage.specs.Footprint.{declares}
 use Rattle.contract_storage.specs.Acts.{Call, Left, Does, Reads, left, noting, has_act, had, get_act, got, del_act, changed, extend_act, extended, refusal}
 use Rattle.contract_storage.specs.declared.access.Access.TheVariants as kinds
-use Rattle.contract_storage.specs.declared.touched.Touch.{Touch}
 use Rattle.contract_storage.specs.declared.access.StoErr.{StoErr}
 use Rattle.contract_storage.specs.declared.access.StoErr.TheVariants as err
 use Rattle.tx_xdr.specs.declared.transaction.Footprint.{Footprint}
@@ -37,7 +36,7 @@ use Rattle.call_spec.specs.Outcomes.{Leaves, Says, quiet, trace_of}
 use Rattle.call_spec.specs.Keys.{data_key}
 use Rattle.call_spec.specs.Rules.{nothing}
 use Rattle.call_spec.specs.Storage.{has, gets, deletes, lengthens, extends, extending, unless_backward}
-use Rattle.host_ledger.specs.Traced.{kind_of, IsTold, Tells, leaving}
+use Rattle.host_ledger.specs.Traced.{kind_of, known_of, IsTold, Tells, leaving}
 use Rattle.host_ledger.specs.Worlds.{Serves}
 use Rattle.host_ledger.proofs.Rows.{later_read}
 use Rattle.host_ledger.proofs.Tracing.{retold, tells_access, tells_still, afterwards}
@@ -80,7 +79,7 @@ says_answered {A} view (Err d) (Err e) out left k h = subst (λ (x : HostErr). l
 
 -- ---- what a call of the storage leaves
 
--- the storage with this map and these touched keys
+-- the storage with this map and this known of the accesses
 abbrev pub state : Stored → Left → Stored
 state s l = record s { map = l.0; touched = l.1 }
 
@@ -93,7 +92,7 @@ left_now : {A B : Type 0} (r : Result A HostErr) (view : A → B) (out : Out B) 
     → Says r view out (left_by old (left new) w) → Says r view out (leaving old new w.trace (λ trace. record w { entries = new.map; trace = trace }))
 left_now r view out old new w same h =
     retold r view out (λ trace. record w { entries = new.map; trace = trace }) (λ after. IsTold old w.trace → IsTold (state old (left new)) after) (λ after. IsTold old w.trace → IsTold new after)
-    (λ after told before none. told before (sym same ∙ none)) h
+    (λ after told before. told before ∙ ap (λ d. known_of d new.touched.seen.limit after) (sym same)) h
 
 -- the touched keys after an access that was allowed
 abbrev pub after_access : Stored → AccessKind → LedgerKey → Left
@@ -270,7 +269,7 @@ extend_yields r q key threshold extend_to old new fits ahead h k env serves w e 
 -- ---- what a storage knows after an access
 
 -- the touched keys after an access, given what the storage returned
-abbrev pub touched_after : {A : Type 0} → AccessKind → LedgerKey → Stored → Result A StoErr → List Touch
+abbrev pub touched_after : {A : Type 0} → AccessKind → LedgerKey → Stored → Result A StoErr → Known
 touched_after kind key s (Err err.Undeclared) = s.touched
 touched_after kind key s _ = noted s.declared (kind_of kind) key s.touched
 

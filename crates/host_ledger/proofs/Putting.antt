@@ -3,12 +3,12 @@ use Rattle.std.proofs.Common.{◌≡◌, ℕ, Bool, true, false, Option, Some, N
 use Rattle.std.specs.Prelude.{if◌then◌else◌}
 use Rattle.budget_meter.specs.Meter.{Meter, used_after}
 use Rattle.budget_meter.specs.Costs.{IsWithin}
-use Rattle.host_frame.proofs.Acting.{charged_good, charged_spent}
+use Rattle.host_frame.proofs.Lemmas.{charged_good, charged_spent}
 use Rattle.host_spec.specs.declared.error.HostErr.TheVariants as ends
 use Rattle.budget_meter.specs.declared.kind.Kind.TheVariants.{ValSer}
 use Rattle.ledger_types.specs.Key.{key_format}
 use Rattle.ledger_types.specs.Entry.{key_of, entry_format}
-use Rattle.ledger_types.proofs.KeyLaws.{key_of_fits}
+use Rattle.ledger_types.proofs.Lemmas.{key_of_fits}
 use Rattle.ledger_types.specs.declared.key.LedgerKey.{LedgerKey}
 use Rattle.ledger_types.specs.declared.durability.Durability.{Durability}
 use Rattle.value_types.specs.Datum.{Datum}
@@ -35,7 +35,7 @@ use Rattle.call_spec.specs.Changed.{with_entries, after_put}
 use Rattle.call_spec.specs.Outcomes.{Says, quiet}
 use Rattle.host_ledger.specs.Traced.{Tells, leaving}
 use Rattle.call_spec.specs.Rules.{nothing}
-use Rattle.call_spec.proofs.Changed.{put_law}
+use Rattle.call_spec.proofs.Lemmas.{put_law}
 use Rattle.host_ledger.specs.Worlds.{Serves}
 use Rattle.host_ledger.proofs.Linking.{touched_after, same_declared, same_map}
 use Rattle.host_ledger.proofs.Tracing.{tells_access, tells_still, afterwards}

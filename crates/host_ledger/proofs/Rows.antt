@@ -25,7 +25,7 @@ pub later_read : (old new : Stored) → IsRead old new → IsLater old new
 later_read old new e = subst (λ (s : Stored). IsLater old s) (sym e) (record { same = refl; later = ([], grind (arith, common_steps)) })
 
 -- A body that runs as the row's rule, and leaves the events, makes its row.
-pub row : {G : Type 0} (r : Result Answer' HostErr) (ks : List ArgKind) (rule : Env → Rule ks) (words : List ℕ) (shown : List Datum) (old : HostLedger G) (s : Stored) (m : Meter) (c : InstanceCopy)
+pub row : {G V : Type 0} (r : Result Answer' HostErr) (ks : List ArgKind) (rule : Env → Rule ks) (words : List ℕ) (shown : List Datum) (old : HostLedger G V) (s : Stored) (m : Meter) (c : InstanceCopy)
     → shown ≡ shown_of old.objects old.frame.shown → Runs r ks rule words shown old.frame.contract old.storage s old.budget m (copied old.frame.copy) (copied c)
     → IsMadeIfOk r → IsLater old.storage s → (IsHeld old.frame.copy.storage → IsHeld c.storage)
     → Answers r ks rule words old (record old { storage = s; budget = m; frame = record old.frame { copy = c } })

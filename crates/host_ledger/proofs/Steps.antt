@@ -33,7 +33,7 @@ use Rattle.host_ledger.proofs.Tracing.{afterwards}
 -- ---- rows
 
 -- what a function answers, as its row says
-pub row_at : {G : Type 0} (r : Result Answer' HostErr) (i : HostImport) (words : List ℕ) (old new : HostLedger G) {ks : List ArgKind} {rule : Env → Rule ks} → Answers r ks rule words old new
+pub row_at : {G V : Type 0} (r : Result Answer' HostErr) (i : HostImport) (words : List ℕ) (old new : HostLedger G V) {ks : List ArgKind} {rule : Env → Rule ks} → Answers r ks rule words old new
     → ((env : Env) (opener : Opener) (w : World) (left : Leaves) → Says r answer_of (answered ks (rule env) words w) left → SaysBy r (arguments_of i) (world_rule env opener i) words w left)
     → AnswersRow r i words old new
 row_at r i words old new h same = record {
@@ -74,7 +74,7 @@ just_four (a ∷ b ∷ c ∷ []) h k = absurd (omega arith)
 just_four (a ∷ b ∷ c ∷ d ∷ []) h k = refl
 just_four (a ∷ b ∷ c ∷ d ∷ e ∷ ws) h k = absurd (omega arith)
 
-pub answers_as : {G : Type 0} (r : Result Answer' HostErr) (i : HostImport) (ws vs : List ℕ) (old new : HostLedger G) → ws ≡ vs → AnswersRow r i vs old new → AnswersRow r i ws old new
+pub answers_as : {G V : Type 0} (r : Result Answer' HostErr) (i : HostImport) (ws vs : List ℕ) (old new : HostLedger G V) → ws ≡ vs → AnswersRow r i vs old new → AnswersRow r i ws old new
 answers_as r i ws vs old new e h = subst (λ (x : List ℕ). AnswersRow r i x old new) (sym e) h
 
 -- ---- what is shown
@@ -107,7 +107,7 @@ row_goes : (ks : List ArgKind) (o : Option (Rule ks)) (other : Option (List ℕ 
 row_goes ks None other words w left then a q h k = absurd h
 row_goes ks (Some rule) other words w left then a q h k = goes_then answer_of (λ (n : ℕ). n) (answered ks rule words w) (λ answer. lift (given answer)) left then a q h k
 
-pub ready_after : {G : Type 0} (old new : HostLedger G) → IsReady old → Stays old new → IsReady new
+pub ready_after : {G V : Type 0} (old new : HostLedger G V) → IsReady old → Stays old new → IsReady new
 ready_after old new ready stays = record {
   bounds = subst (λ (h : _). HasBounds (next_seq h) h.settings) (sym stays.header) ready.bounds;
   number = ap (λ (s : Stored). s.n) stays.storage.same ∙ ready.number ∙ ap next_seq (sym stays.header);
@@ -116,7 +116,7 @@ ready_after old new ready stays = record {
   copy = stays.copy ready.copy;
 }
 
-left_after : {G : Type 0} (old new : HostLedger G) → Stays old new → Left old new
+left_after : {G V : Type 0} (old new : HostLedger G V) → Stays old new → Left old new
 left_after old new stays = record {
   header = stays.header;
   storage = stays.storage;
@@ -127,7 +127,7 @@ left_after old new stays = record {
 }
 
 -- a function that ends without an answer, and the call of it
-pub call_ends : {G : Type 0} (e : HostErr) (i : HostImport) (words : List ℕ) (old new : HostLedger G) → IsReady old → (let r : Result Answer' HostErr = Err e in AnswersRow r i words old new)
+pub call_ends : {G V : Type 0} (e : HostErr) (i : HostImport) (words : List ℕ) (old new : HostLedger G V) → IsReady old → (let r : Result Answer' HostErr = Err e in AnswersRow r i words old new)
     → let q : Result ℕ HostErr = Err e in Calls q i words old new
 call_ends e i words old new ready h = record {
   does = λ env is opener rest trace.
@@ -136,7 +136,7 @@ call_ends e i words old new ready h = record {
   left = left_after old new h.stays;
 }
 
-ready_shown : {G : Type 0} (old new : HostLedger G) → IsReady old → Shows old new → AreIndices new.objects new.frame.shown → IsReady new
+ready_shown : {G V : Type 0} (old new : HostLedger G V) → IsReady old → Shows old new → AreIndices new.objects new.frame.shown → IsReady new
 ready_shown old new ready shows indices = record {
   bounds = subst (λ (h : _). HasBounds (next_seq h) h.settings) (sym shows.header) ready.bounds;
   number = ap (λ (s : Stored). s.n) shows.storage ∙ ready.number ∙ ap next_seq (sym shows.header);
@@ -145,7 +145,7 @@ ready_shown old new ready shows indices = record {
   copy = subst (λ (c : _). IsHeld c.storage) (sym shows.copy) ready.copy;
 }
 
-left_shown : {G : Type 0} (old middle new : HostLedger G) → Left old middle → Shows middle new → Left old new
+left_shown : {G V : Type 0} (old middle new : HostLedger G V) → Left old middle → Shows middle new → Left old new
 left_shown old middle new left shows = record {
   header = shows.header ∙ left.header;
   storage = subst (λ (s : Stored). IsLater old.storage s) (sym shows.storage) left.storage;
@@ -156,7 +156,7 @@ left_shown old middle new left shows = record {
 }
 
 -- a function that answers, and the word of its answer
-pub call_goes_on : {G : Type 0} (a : Answer') (q : Result ℕ HostErr) (i : HostImport) (words : List ℕ) (old middle new : HostLedger G) → IsReady old
+pub call_goes_on : {G V : Type 0} (a : Answer') (q : Result ℕ HostErr) (i : HostImport) (words : List ℕ) (old middle new : HostLedger G V) → IsReady old
     → (let r : Result Answer' HostErr = Ok a in AnswersRow r i words old middle)
     → ((rest : World) (trace : List Access) → Says q (λ n. n) (lift (given (answer_of a)) (world_at rest middle trace)) (quiet (world_at rest middle trace) (world_at rest new)))
     → AreIndices new.objects new.frame.shown → Shows middle new → Calls q i words old new
@@ -170,5 +170,5 @@ call_goes_on a q i words old middle new ready h shown indices shows = record {
 }
 
 -- an answer may be shown then
-pub middle_indices : {G : Type 0} (old middle : HostLedger G) → IsReady old → Stays old middle → AreIndices middle.objects middle.frame.shown
+pub middle_indices : {G V : Type 0} (old middle : HostLedger G V) → IsReady old → Stays old middle → AreIndices middle.objects middle.frame.shown
 middle_indices old middle ready stays = (ready_after old middle ready stays).indices

@@ -14,7 +14,7 @@ use Rattle.host_spec.specs.declared.error.HostErr.{HostErr}
 use Rattle.host_spec.specs.declared.error.HostErr.TheVariants as ends
 use Rattle.host_frame.specs.Answered.{answer_of}
 use Rattle.host_frame.specs.declared.answer.Answer.{Answer}
-use Rattle.host_frame.proofs.Making.{map_made, put_made}
+use Rattle.host_frame.proofs.Lemmas.{map_made, put_made}
 use Rattle.call_spec.specs.World.{Copied, World}
 use Rattle.call_spec.specs.Rules.{nothing}
 use Rattle.call_spec.specs.Storage.{members, put_in_copy}

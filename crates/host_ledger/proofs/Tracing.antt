@@ -1,21 +1,22 @@
 -- What a storage knows of the accesses, through an act.
-use Rattle.std.proofs.Common.{◌≡◌, List, ◌∷◌, Bool, Option, Result, Ok, Err, sym, ap, subst, ◌∙◌}
+use Rattle.std.proofs.Common.{◌≡◌, ℕ, List, ◌∷◌, Bool, Option, Result, Ok, Err, sym, ap, ap₂, subst, ◌∙◌}
 use Rattle.budget_meter.specs.declared.budget.Used.{Used}
 use Rattle.ledger_types.specs.declared.key.LedgerKey.{LedgerKey}
 use Rattle.host_spec.specs.declared.error.HostErr.{HostErr}
 use Rattle.host_spec.specs.declared.error.HostErr.TheVariants as ends
 use Rattle.contract_storage.specs.Stored.{Stored}
-use Rattle.contract_storage.specs.Touched.{noted, touch}
+use Rattle.contract_storage.specs.Touched.{Known, noted}
 use Rattle.call_spec.specs.World.{AccessKind, Access, World}
 use Rattle.call_spec.specs.Acts.{Out}
 use Rattle.call_spec.specs.Outcomes.{Leaves, Says, quiet}
-use Rattle.host_ledger.specs.Traced.{kind_of, IsTold, Tells, leaving}
+use Rattle.host_ledger.specs.Traced.{kind_of, known_of, IsTold, Tells, leaving}
 
 -- ---- what is told
 
 -- through no access, between storages that know the same
 pub tells_still : (old new : Stored) (before : List Access) → new.declared ≡ old.declared → new.touched ≡ old.touched → Tells old new before before
-tells_still old new before same is told none = is ∙ told (sym same ∙ none)
+tells_still old new before same is told =
+    is ∙ told ∙ ap₂ (λ (d : Option (List (LedgerKey × Bool))) (n : ℕ). known_of d n before) (sym same) (sym (ap (λ (k : Known). k.seen.limit) is))
 
 -- through no access, between equal storages
 pub tells_equal : (old new : Stored) (before : List Access) → new ≡ old → Tells old new before before
@@ -28,9 +29,9 @@ tells_then old mid new before between after one other told = other (one told)
 -- through an access that the storage allowed
 pub tells_access : (old new : Stored) (kind : AccessKind) (key : LedgerKey) (used : Used) (before : List Access) → new.declared ≡ old.declared
     → new.touched ≡ noted old.declared (kind_of kind) key old.touched → Tells old new before (record { kind = kind; key = key; used = used } ∷ before)
-tells_access old new kind key used before same is told none =
-    is ∙ ap (λ (d : Option (List (LedgerKey × Bool))). noted d (kind_of kind) key old.touched) (sym same ∙ none)
-    ∙ ap (touch (kind_of kind) key) (told (sym same ∙ none))
+tells_access old new kind key used before same is told =
+    is ∙ ap (noted old.declared (kind_of kind) key) told
+    ∙ ap₂ (λ (d : Option (List (LedgerKey × Bool))) (n : ℕ). noted d (kind_of kind) key (known_of d n before)) (sym same) (sym (ap (λ (k : Known). k.seen.limit) is))
 
 -- ---- what is said
 

@@ -18,8 +18,8 @@ IsMadeIfOk (Err e) = Unit {0}
 
 -- The body returns what the row's rule returns for these words. This holds for every environment and world of the state, and
 -- every earlier trace.
-pub record Answers {G : Type 0} (r : Result Answer' HostErr) (ks : List ArgKind) (rule : Env
-    → Rule ks) (words : List ℕ) (old new : HostLedger G) : Type 0 where
+pub record Answers {G V : Type 0} (r : Result Answer' HostErr) (ks : List ArgKind) (rule : Env
+    → Rule ks) (words : List ℕ) (old new : HostLedger G V) : Type 0 where
   pub does : (env : Env) → IsEnv env old → (rest : World) (trace : List Access)
       → Says r answer_of (answered ks (rule env) words (world_at rest old trace))
       (leaving old.storage new.storage trace (world_at rest new))

@@ -45,7 +45,7 @@ IsNamedCall None words = ⊥
 IsNamedCall (Some i) words = IsLedgerCall i words
 
 -- What a call leaves: writes and events were only added, and the frame is still the frame of this contract.
-pub record Left {G : Type 0} (old new : HostLedger G) : Type 0 where
+pub record Left {G V : Type 0} (old new : HostLedger G V) : Type 0 where
   pub header : new.header.now ≡ old.header.now
   pub storage : IsLater old.storage new.storage
   pub events : (more : List _) × (new.events ≡ old.events ++ more)
@@ -55,7 +55,7 @@ pub record Left {G : Type 0} (old new : HostLedger G) : Type 0 where
 
 -- A call does what the function does with these words, in each environment and world of the state, whatever its accesses were so
 -- far.
-pub record Calls {G : Type 0} (r : Result ℕ HostErr) (i : HostImport) (words : List ℕ) (old new : HostLedger G) : Type 0 where
+pub record Calls {G V : Type 0} (r : Result ℕ HostErr) (i : HostImport) (words : List ℕ) (old new : HostLedger G V) : Type 0 where
   pub does : (env : Env) → IsEnv env old → (opener : Opener) (rest : World) (trace : List Access)
       → Says r (λ n. n) (host_function env opener i words (world_at rest old trace))
       (leaving old.storage new.storage trace (world_at rest new))
@@ -63,6 +63,6 @@ pub record Calls {G : Type 0} (r : Result ℕ HostErr) (i : HostImport) (words :
   pub left : Left old new
 
 -- A call by name does what the function of that name does.
-abbrev pub CallsNamed : {G : Type 0} → Result ℕ HostErr → Option HostImport → List ℕ → HostLedger G → HostLedger G → Type 0
+abbrev pub CallsNamed : {G V : Type 0} → Result ℕ HostErr → Option HostImport → List ℕ → HostLedger G V → HostLedger G V → Type 0
 CallsNamed r None words old new = ⊥
 CallsNamed r (Some i) words old new = Calls r i words old new

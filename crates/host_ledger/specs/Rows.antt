@@ -24,8 +24,8 @@ SaysBy r ks (Some rule) words w left = Says r answer_of (answered ks rule words 
 
 -- A body returns what the rule of a function says for these words, in each environment and world of the state, whatever its
 -- accesses were so far.
-pub record AnswersRow {G : Type 0} (r : Result Answer HostErr) (i : HostImport) (words : List ℕ)
-    (old new : HostLedger G) : Type 0 where
+pub record AnswersRow {G V : Type 0} (r : Result Answer HostErr) (i : HostImport) (words : List ℕ)
+    (old new : HostLedger G V) : Type 0 where
   pub does : (env : Env) → IsEnv env old → (opener : Opener) (rest : World) (trace : List Access)
       → SaysBy r (arguments_of i) (world_rule env opener i) words (world_at rest old trace)
       (leaving old.storage new.storage trace (world_at rest new))

@@ -1,7 +1,9 @@
 -- What a storage knows of the accesses of a run.
-use Rattle.std.specs.Prelude.{◌≡◌, List, [], ◌∷◌, None}
+use Rattle.std.specs.Prelude.{◌≡◌, ℕ, Bool, List, [], ◌∷◌, Option, None}
+use Rattle.ledger_types.specs.declared.key.LedgerKey.{LedgerKey}
 use Rattle.contract_storage.specs.Stored.{Stored}
-use Rattle.contract_storage.specs.Touched.{touch}
+use Rattle.contract_storage.specs.Touched.{Known, touch, noted}
+use Rattle.contract_storage.specs.Watched.{unseen}
 use Rattle.contract_storage.specs.declared.access.Access.{Access as Access'}
 use Rattle.contract_storage.specs.declared.access.Access.TheVariants as kinds
 use Rattle.contract_storage.specs.declared.touched.Touch.{Touch}
@@ -19,11 +21,21 @@ abbrev pub touches_of : List Access → List Touch
 touches_of [] = []
 touches_of (a ∷ older) = touch (kind_of a.kind) a.key (touches_of older)
 
--- if the storage records, its touched keys are those of these accesses
-abbrev pub IsTold : Stored → List Access → Type 0
-IsTold s trace = s.declared ≡ None → s.touched ≡ touches_of trace
+-- What a storage with these declared keys knows of these accesses: the touched keys, if it records, and what its observer has
+-- seen, whose limit is given.
+abbrev pub known_of : Option (List (LedgerKey × Bool)) → ℕ → List Access → Known
+known_of declared limit [] = record { keys = []; seen = unseen limit }
+known_of declared limit (a ∷ older) = noted declared (kind_of a.kind) a.key (known_of declared limit older)
 
--- If the touched keys are those of the accesses before an act, they are those of the accesses after it.
+-- the storage knows these accesses
+abbrev pub IsTold : Stored → List Access → Type 0
+IsTold s trace = s.touched ≡ known_of s.declared s.touched.seen.limit trace
+
+-- the same of a storage that records
+abbrev pub IsRecorded : Stored → List Access → Type 0
+IsRecorded s trace = s.touched ≡ known_of None s.touched.seen.limit trace
+
+-- If the storage knows the accesses before an act, it knows those after it.
 abbrev pub Tells : Stored → Stored → List Access → List Access → Type 0
 Tells old new before after = IsTold old before → IsTold new after
 

@@ -28,7 +28,7 @@ address_of contract = Contract contract
 
 -- The world with these accesses that the program's state shows. What the state does not hold is that of the given world: the rest
 -- of the frame, the open contracts and the authorisations that were used.
-abbrev pub world_at : {G : Type 0} → World → HostLedger G → List Access → World
+abbrev pub world_at : {G V : Type 0} → World → HostLedger G V → List Access → World
 world_at rest h trace = record rest {
   entries = h.storage.map;
   events = h.events;
@@ -54,7 +54,7 @@ pub record Serves (env : Env) (s : Stored) : Type 0 where
       → admits s.declared (kind_of kind) key ≡ env.judge kind (key_bytes key)
 
 -- an environment of the program's state
-pub record IsEnv {G : Type 0} (env : Env) (h : HostLedger G) : Type 0 where
+pub record IsEnv {G V : Type 0} (env : Env) (h : HostLedger G V) : Type 0 where
   pub header : env.header ≡ h.header.now
   pub serves : Serves env h.storage
 
@@ -67,7 +67,7 @@ IsHeld (Some members) = IsHosted (map (members_of members))
 
 -- The storage was made with the number of the ledger that is made and with the header's settings, words index what was shown, and
 -- instance storage is held. A row needs this state, and leaves such a state.
-pub record IsReady {G : Type 0} (h : HostLedger G) : Type 0 where
+pub record IsReady {G V : Type 0} (h : HostLedger G V) : Type 0 where
   pub bounds : HasBounds (next_seq h.header.now) h.header.now.settings
   pub number : h.storage.n ≡ next_seq h.header.now
   pub lives : h.storage.lives ≡ h.header.now.settings
@@ -76,7 +76,7 @@ pub record IsReady {G : Type 0} (h : HostLedger G) : Type 0 where
 
 -- What every row leaves: writes and events were only added, and nothing else has changed but the budget and the frame's copy of
 -- the instance.
-pub record Stays {G : Type 0} (old new : HostLedger G) : Type 0 where
+pub record Stays {G V : Type 0} (old new : HostLedger G V) : Type 0 where
   pub header : new.header.now ≡ old.header.now
   pub storage : IsLater old.storage new.storage
   pub events : (more : List _) × (new.events ≡ old.events ++ more)
@@ -88,7 +88,7 @@ pub record Stays {G : Type 0} (old new : HostLedger G) : Type 0 where
   pub copy : IsHeld old.frame.copy.storage → IsHeld new.frame.copy.storage
 
 -- What showing a value leaves: only the budget, the values and what the frame was shown have changed.
-pub record Shows {G : Type 0} (old new : HostLedger G) : Type 0 where
+pub record Shows {G V : Type 0} (old new : HostLedger G V) : Type 0 where
   pub header : new.header.now ≡ old.header.now
   pub storage : new.storage ≡ old.storage
   pub events : new.events ≡ old.events

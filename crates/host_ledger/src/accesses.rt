@@ -20,7 +20,7 @@ ghost use Rattle.host_ledger.specs.Accessed.{Accesses, Pays, opens, end_of};
 use crate::errors::NO_ENTRY;
 use crate::values::{clone_key, clone_value};
 use budget_meter::{Budget, Kind};
-use contract_storage::{StoErr, Storage};
+use contract_storage::{StoErr, Storage, Watch};
 use entry_lookup::Ground;
 use host_frame::{Answer, charge, entry};
 use host_spec::HostErr;
@@ -42,8 +42,8 @@ pub fn end_of(key: LedgerKey, error: StoErr) -> HostErr
 
 /// Whether there is a live entry at a key.
 #[tactic(auto, using(crate::proofs::Linking::has_yields, crate::proofs::Linking::reads_read))]
-pub(crate) fn has<G: Ground>(
-    storage: &mut Storage<'_, G>,
+pub(crate) fn has<G: Ground, W: Watch>(
+    storage: &mut Storage<'_, G, W>,
     key: LedgerKey,
 ) -> Result<Answer, HostErr>
     requires { key_format.fits key }
@@ -59,8 +59,8 @@ pub(crate) fn has<G: Ground>(
 
 /// Deletes the live entry at a key, if there is one.
 #[tactic(auto, using(crate::proofs::Linking::del_yields))]
-pub(crate) fn del<G: Ground>(
-    storage: &mut Storage<'_, G>,
+pub(crate) fn del<G: Ground, W: Watch>(
+    storage: &mut Storage<'_, G, W>,
     key: LedgerKey,
 ) -> Result<Answer, HostErr>
     requires { key_format.fits key }
@@ -83,8 +83,8 @@ pub(crate) fn is_backward(threshold: u32, extend_to: u32) -> bool
 
 /// Extends the life of a live entry.
 #[tactic(auto, using(crate::proofs::Linking::extend_yields))]
-pub(crate) fn extend<G: Ground>(
-    storage: &mut Storage<'_, G>,
+pub(crate) fn extend<G: Ground, W: Watch>(
+    storage: &mut Storage<'_, G, W>,
     key: LedgerKey,
     threshold: u32,
     extend_to: u32,
@@ -122,8 +122,8 @@ fn opened(budget: &mut Budget, found: &LedgerEntry) -> Result<Answer, HostErr>
 
 /// The value of the live entry at a key.
 #[tactic(auto, using(crate::proofs::Linking::get_refused, crate::proofs::Linking::get_opened))]
-pub(crate) fn get<G: Ground>(
-    storage: &mut Storage<'_, G>,
+pub(crate) fn get<G: Ground, W: Watch>(
+    storage: &mut Storage<'_, G, W>,
     budget: &mut Budget,
     key: LedgerKey,
 ) -> Result<Answer, HostErr>
@@ -164,8 +164,8 @@ pub fn size_of(entry: &LedgerEntry) -> u64
 /// Puts an entry at its key. The charge comes after the put. If it exceeds a limit, the run ends and its writes are dropped, so
 /// the order cannot be seen.
 #[tactic(auto, using(crate::proofs::Putting::put_refused))]
-pub(crate) fn put<G: Ground>(
-    storage: &mut Storage<'_, G>,
+pub(crate) fn put<G: Ground, W: Watch>(
+    storage: &mut Storage<'_, G, W>,
     budget: &mut Budget,
     key: LedgerKey,
     entry: LedgerEntry,

@@ -15,6 +15,7 @@ ghost use Rattle.host_ledger.specs.Rows.{AnswersRow};
 
 use crate::groups::{four_words, one_word, three_words, two_words, without_words};
 use crate::state::HostLedger;
+use contract_storage::Watch;
 use entry_lookup::Ground;
 use host_frame::{Answer, give};
 use host_interface::{HostImport, import_named};
@@ -22,8 +23,8 @@ use host_spec::HostErr;
 
 /// Returns what a function answers.
 #[tactic(auto, using(crate::proofs::Grouping::group_words, crate::proofs::Grouping::no_more))]
-fn answer<G: Ground>(
-    host: &mut HostLedger<'_, G>,
+fn answer<G: Ground, W: Watch>(
+    host: &mut HostLedger<'_, G, W>,
     import: HostImport,
     words: &[u64],
 ) -> Result<Answer, HostErr>
@@ -42,7 +43,10 @@ fn answer<G: Ground>(
 }
 
 /// Shows an answer in the running frame.
-fn show<G: Ground>(host: &mut HostLedger<'_, G>, answer: Answer) -> Result<u64, HostErr>
+fn show<G: Ground, W: Watch>(
+    host: &mut HostLedger<'_, G, W>,
+    answer: Answer,
+) -> Result<u64, HostErr>
     requires made { IsAnswerMade (answer_of answer) }
     requires indices { AreIndices host.old.objects host.old.frame.shown }
     ensures does { (rest : World) (trace : List Access)
@@ -62,8 +66,8 @@ fn show<G: Ground>(host: &mut HostLedger<'_, G>, answer: Answer) -> Result<u64, 
 
 /// Calls a function over the ledger and the running frame. It charges the budget and shows what it returns, as the function's row
 /// of the host interface says. If memory runs out, the state is to be dropped.
-pub fn call_function<G: Ground>(
-    host: &mut HostLedger<'_, G>,
+pub fn call_function<G: Ground, W: Watch>(
+    host: &mut HostLedger<'_, G, W>,
     import: HostImport,
     words: &[u64],
 ) -> Result<u64, HostErr>
@@ -79,8 +83,8 @@ pub fn call_function<G: Ground>(
 
 /// Calls the function with this module and this name, as `call_function` does. It searches the table: a caller that has the
 /// function itself uses `call_function`.
-pub fn ledger_call<G: Ground>(
-    host: &mut HostLedger<'_, G>,
+pub fn ledger_call<G: Ground, W: Watch>(
+    host: &mut HostLedger<'_, G, W>,
     module: &[u8],
     name: &[u8],
     args: &[u64],

@@ -17,6 +17,7 @@ ghost use Rattle.host_ledger.specs.Answered.{Answers};
 
 use crate::errors::NO_CONTRACT_ERROR;
 use crate::state::HostLedger;
+use contract_storage::Watch;
 use entry_lookup::Ground;
 use host_frame::{Answer, Values, enter};
 use host_spec::{HostErr, ValueErr};
@@ -42,7 +43,7 @@ fn furthest(header: &Header) -> u32
 }
 
 /// A U64.
-#[tactic(auto, using(host_frame::proofs::Making::scalar_made), unfolding(xdr_spec::specs::Format::number64))]
+#[tactic(auto, using(host_frame::proofs::Lemmas::scalar_made), unfolding(xdr_spec::specs::Format::number64))]
 fn number64(number: u64) -> Answer
     ensures value { answer_of result ≡ value (u64 number) }
     ensures made { IsAnswerMade (answer_of result) }
@@ -70,7 +71,9 @@ fn bytes_of(alloc: Global, hash: &Hash) -> Result<Answer, ValueErr>
 }
 
 /// `get_ledger_version`: the version of the protocol.
-pub fn get_ledger_version<G: Ground>(host: &mut HostLedger<'_, G>) -> Result<Answer, HostErr>
+pub fn get_ledger_version<G: Ground, W: Watch>(
+    host: &mut HostLedger<'_, G, W>,
+) -> Result<Answer, HostErr>
     requires { IsReady host.old }
     ensures { Answers result [] get_ledger_version [] host.old host.new }
 {
@@ -79,7 +82,9 @@ pub fn get_ledger_version<G: Ground>(host: &mut HostLedger<'_, G>) -> Result<Ans
 }
 
 /// `get_ledger_sequence`: the number of the ledger that is made.
-pub fn get_ledger_sequence<G: Ground>(host: &mut HostLedger<'_, G>) -> Result<Answer, HostErr>
+pub fn get_ledger_sequence<G: Ground, W: Watch>(
+    host: &mut HostLedger<'_, G, W>,
+) -> Result<Answer, HostErr>
     requires { IsReady host.old }
     ensures { Answers result [] get_ledger_sequence [] host.old host.new }
 {
@@ -88,7 +93,9 @@ pub fn get_ledger_sequence<G: Ground>(host: &mut HostLedger<'_, G>) -> Result<An
 }
 
 /// `get_ledger_timestamp`: its close time.
-pub fn get_ledger_timestamp<G: Ground>(host: &mut HostLedger<'_, G>) -> Result<Answer, HostErr>
+pub fn get_ledger_timestamp<G: Ground, W: Watch>(
+    host: &mut HostLedger<'_, G, W>,
+) -> Result<Answer, HostErr>
     requires { IsReady host.old }
     ensures { Answers result [] get_ledger_timestamp [] host.old host.new }
 {
@@ -97,7 +104,9 @@ pub fn get_ledger_timestamp<G: Ground>(host: &mut HostLedger<'_, G>) -> Result<A
 }
 
 /// `get_ledger_network_id`: the SHA-256 of the network's passphrase.
-pub fn get_ledger_network_id<G: Ground>(host: &mut HostLedger<'_, G>) -> Result<Answer, HostErr>
+pub fn get_ledger_network_id<G: Ground, W: Watch>(
+    host: &mut HostLedger<'_, G, W>,
+) -> Result<Answer, HostErr>
     requires { IsReady host.old }
     ensures { Answers result [] get_ledger_network_id [] host.old host.new }
 {
@@ -107,7 +116,9 @@ pub fn get_ledger_network_id<G: Ground>(host: &mut HostLedger<'_, G>) -> Result<
 }
 
 /// `get_max_live_until_ledger`: the last ledger that an extension may reach.
-pub fn get_max_live_until_ledger<G: Ground>(host: &mut HostLedger<'_, G>) -> Result<Answer, HostErr>
+pub fn get_max_live_until_ledger<G: Ground, W: Watch>(
+    host: &mut HostLedger<'_, G, W>,
+) -> Result<Answer, HostErr>
     requires { IsReady host.old }
     ensures { Answers result [] get_max_live_until_ledger [] host.old host.new }
 {
@@ -116,8 +127,8 @@ pub fn get_max_live_until_ledger<G: Ground>(host: &mut HostLedger<'_, G>) -> Res
 }
 
 /// `get_current_contract_address`: the address of the contract that runs.
-pub fn get_current_contract_address<G: Ground>(
-    host: &mut HostLedger<'_, G>,
+pub fn get_current_contract_address<G: Ground, W: Watch>(
+    host: &mut HostLedger<'_, G, W>,
 ) -> Result<Answer, HostErr>
     requires { IsReady host.old }
     ensures { Answers result [] (λ _. get_current_contract_address) [] host.old host.new }
@@ -127,7 +138,10 @@ pub fn get_current_contract_address<G: Ground>(
 }
 
 /// `fail_with_error`: fails with an error of type CONTRACT.
-pub fn fail_with_error<G: Ground>(host: &mut HostLedger<'_, G>, a: u64) -> Result<Answer, HostErr>
+pub fn fail_with_error<G: Ground, W: Watch>(
+    host: &mut HostLedger<'_, G, W>,
+    a: u64,
+) -> Result<Answer, HostErr>
     requires { IsReady host.old }
     ensures { Answers result (kinds.Error ∷ []) (λ _. fail_with_error) (a ∷ []) host.old host.new }
 {

@@ -24,7 +24,7 @@ use std::alloc::Global;
 use value_types::{Entries, Entry, ScVal};
 
 /// The value of a key.
-#[tactic(auto, using(host_frame::proofs::KeyLaws::value_there, host_frame::proofs::KeyLaws::value_gap, host_frame::proofs::KeyLaws::val_made))]
+#[tactic(auto, using(host_frame::proofs::Lemmas::value_there, host_frame::proofs::Lemmas::value_gap, host_frame::proofs::Lemmas::val_made))]
 fn value_at<'a>(key: &ScVal, entries: &'a [Entry]) -> Option<&'a ScVal>
     requires { IsHosted (map (members_of (datum_pairs entries.now))) }
     ensures found { MatchOption result (value_in (datum key.now) (datum_pairs entries.now) ≡ None)

@@ -32,7 +32,7 @@ use crate::place::{Place, place_of};
 use crate::state::{HostLedger, InstanceCopy};
 use crate::values::clone_value;
 use budget_meter::Budget;
-use contract_storage::Storage;
+use contract_storage::{Storage, Watch};
 use entry_lookup::Ground;
 use host_frame::{Answer, Values, enter};
 use host_spec::{HostErr, ValueErr};
@@ -70,8 +70,8 @@ fn data_entry(
 }
 
 /// Puts the entry of a contract's data.
-fn put_entry<G: Ground>(
-    storage: &mut Storage<'_, G>,
+fn put_entry<G: Ground, W: Watch>(
+    storage: &mut Storage<'_, G, W>,
     budget: &mut Budget,
     n: u32,
     contract: Hash,
@@ -97,8 +97,8 @@ fn put_entry<G: Ground>(
 }
 
 /// The body of `put_contract_data`.
-fn put_data<G: Ground>(
-    storage: &mut Storage<'_, G>,
+fn put_data<G: Ground, W: Watch>(
+    storage: &mut Storage<'_, G, W>,
     budget: &mut Budget,
     values: &Values<'_>,
     n: u32,
@@ -136,8 +136,8 @@ fn put_data<G: Ground>(
 }
 
 /// `put_contract_data`: puts data at a key.
-pub fn put_contract_data<G: Ground>(
-    host: &mut HostLedger<'_, G>,
+pub fn put_contract_data<G: Ground, W: Watch>(
+    host: &mut HostLedger<'_, G, W>,
     a: u64,
     b: u64,
     c: u64,
@@ -161,8 +161,8 @@ pub fn put_contract_data<G: Ground>(
 }
 
 /// Deletes the entry of a contract's data.
-fn del_entry<G: Ground>(
-    storage: &mut Storage<'_, G>,
+fn del_entry<G: Ground, W: Watch>(
+    storage: &mut Storage<'_, G, W>,
     contract: Hash,
     key: &ScVal,
     durability: Durability,
@@ -205,8 +205,8 @@ fn data_key(contract: Hash, key: &ScVal, durability: Durability) -> Result<Ledge
 }
 
 /// The body of `has_contract_data`.
-fn has_data<G: Ground>(
-    storage: &mut Storage<'_, G>,
+fn has_data<G: Ground, W: Watch>(
+    storage: &mut Storage<'_, G, W>,
     budget: &mut Budget,
     values: &Values<'_>,
     contract: Hash,
@@ -232,8 +232,8 @@ fn has_data<G: Ground>(
 }
 
 /// `has_contract_data`: whether there is data at a key.
-pub fn has_contract_data<G: Ground>(
-    host: &mut HostLedger<'_, G>,
+pub fn has_contract_data<G: Ground, W: Watch>(
+    host: &mut HostLedger<'_, G, W>,
     a: u64,
     b: u64,
 ) -> Result<Answer, HostErr>
@@ -253,8 +253,8 @@ pub fn has_contract_data<G: Ground>(
 }
 
 /// Extends the life of the entry of a contract's data.
-fn extend_entry<G: Ground>(
-    storage: &mut Storage<'_, G>,
+fn extend_entry<G: Ground, W: Watch>(
+    storage: &mut Storage<'_, G, W>,
     contract: Hash,
     key: &ScVal,
     durability: Durability,
@@ -277,8 +277,8 @@ fn extend_entry<G: Ground>(
 }
 
 /// The body of `extend_contract_data_ttl`.
-fn extend_data<G: Ground>(
-    storage: &mut Storage<'_, G>,
+fn extend_data<G: Ground, W: Watch>(
+    storage: &mut Storage<'_, G, W>,
     budget: &mut Budget,
     values: &Values<'_>,
     contract: Hash,
@@ -313,8 +313,8 @@ fn extend_data<G: Ground>(
 }
 
 /// `extend_contract_data_ttl`: extends the life of data. Instance storage has no extension of its own.
-pub fn extend_contract_data_ttl<G: Ground>(
-    host: &mut HostLedger<'_, G>,
+pub fn extend_contract_data_ttl<G: Ground, W: Watch>(
+    host: &mut HostLedger<'_, G, W>,
     a: u64,
     b: u64,
     c: u64,
@@ -338,8 +338,8 @@ pub fn extend_contract_data_ttl<G: Ground>(
 }
 
 /// The body of `get_contract_data`.
-fn get_data<G: Ground>(
-    storage: &mut Storage<'_, G>,
+fn get_data<G: Ground, W: Watch>(
+    storage: &mut Storage<'_, G, W>,
     budget: &mut Budget,
     values: &Values<'_>,
     contract: Hash,
@@ -365,8 +365,8 @@ fn get_data<G: Ground>(
 }
 
 /// `get_contract_data`: the data at a key.
-pub fn get_contract_data<G: Ground>(
-    host: &mut HostLedger<'_, G>,
+pub fn get_contract_data<G: Ground, W: Watch>(
+    host: &mut HostLedger<'_, G, W>,
     a: u64,
     b: u64,
 ) -> Result<Answer, HostErr>
@@ -386,8 +386,8 @@ pub fn get_contract_data<G: Ground>(
 }
 
 /// The body of `del_contract_data`.
-fn del_data<G: Ground>(
-    storage: &mut Storage<'_, G>,
+fn del_data<G: Ground, W: Watch>(
+    storage: &mut Storage<'_, G, W>,
     budget: &mut Budget,
     values: &Values<'_>,
     contract: Hash,
@@ -414,8 +414,8 @@ fn del_data<G: Ground>(
 }
 
 /// `del_contract_data`: deletes the data at a key.
-pub fn del_contract_data<G: Ground>(
-    host: &mut HostLedger<'_, G>,
+pub fn del_contract_data<G: Ground, W: Watch>(
+    host: &mut HostLedger<'_, G, W>,
     a: u64,
     b: u64,
 ) -> Result<Answer, HostErr>

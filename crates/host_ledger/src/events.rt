@@ -21,6 +21,7 @@ use crate::event_list::Events;
 use crate::state::HostLedger;
 use crate::values::{clone_value, clone_values};
 use budget_meter::{Budget, Kind};
+use contract_storage::Watch;
 use entry_lookup::Ground;
 use host_frame::{Answer, Values, charge, enter};
 use host_spec::{HostErr, ValueErr};
@@ -105,8 +106,8 @@ fn emit_event(
 }
 
 /// `contract_event`: appends an event of the contract that runs.
-pub fn contract_event<G: Ground>(
-    host: &mut HostLedger<'_, G>,
+pub fn contract_event<G: Ground, W: Watch>(
+    host: &mut HostLedger<'_, G, W>,
     a: u64,
     b: u64,
 ) -> Result<Answer, HostErr>

@@ -17,6 +17,7 @@ use crate::ids::get_contract_id;
 use crate::instance::extend_current_contract_instance_and_code_ttl;
 use crate::state::HostLedger;
 use crate::updates::update_current_contract_wasm;
+use contract_storage::Watch;
 use entry_lookup::Ground;
 use host_frame::Answer;
 use host_interface::HostImport;
@@ -24,8 +25,8 @@ use host_spec::HostErr;
 
 /// Calls a function without arguments.
 #[tactic(auto, using(crate::proofs::Grouping::after_without_words))]
-pub(crate) fn without_words<G: Ground>(
-    host: &mut HostLedger<'_, G>,
+pub(crate) fn without_words<G: Ground, W: Watch>(
+    host: &mut HostLedger<'_, G, W>,
     import: HostImport,
 ) -> Result<Answer, HostErr>
     requires group { group_of «import» ≡ 1 }
@@ -45,8 +46,8 @@ pub(crate) fn without_words<G: Ground>(
 
 /// Calls a function of one argument.
 #[tactic(auto, using(crate::proofs::Grouping::after_one_word))]
-pub(crate) fn one_word<G: Ground>(
-    host: &mut HostLedger<'_, G>,
+pub(crate) fn one_word<G: Ground, W: Watch>(
+    host: &mut HostLedger<'_, G, W>,
     import: HostImport,
     a: u64,
 ) -> Result<Answer, HostErr>
@@ -63,8 +64,8 @@ pub(crate) fn one_word<G: Ground>(
 
 /// Calls a function of two arguments.
 #[tactic(auto, using(crate::proofs::Grouping::after_two_words))]
-pub(crate) fn two_words<G: Ground>(
-    host: &mut HostLedger<'_, G>,
+pub(crate) fn two_words<G: Ground, W: Watch>(
+    host: &mut HostLedger<'_, G, W>,
     import: HostImport,
     a: u64,
     b: u64,
@@ -87,8 +88,8 @@ pub(crate) fn two_words<G: Ground>(
 
 /// Calls a function of three arguments.
 #[tactic(auto, using(crate::proofs::Grouping::after_three_words))]
-pub(crate) fn three_words<G: Ground>(
-    host: &mut HostLedger<'_, G>,
+pub(crate) fn three_words<G: Ground, W: Watch>(
+    host: &mut HostLedger<'_, G, W>,
     import: HostImport,
     a: u64,
     b: u64,
@@ -106,8 +107,8 @@ pub(crate) fn three_words<G: Ground>(
 
 /// Calls a function of four arguments.
 #[tactic(auto, using(crate::proofs::Grouping::after_four_words))]
-pub(crate) fn four_words<G: Ground>(
-    host: &mut HostLedger<'_, G>,
+pub(crate) fn four_words<G: Ground, W: Watch>(
+    host: &mut HostLedger<'_, G, W>,
     import: HostImport,
     a: u64,
     b: u64,

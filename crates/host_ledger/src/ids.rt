@@ -26,6 +26,7 @@ use crate::errors::OTHER_SIZE;
 use crate::events::hold_hash;
 use crate::state::HostLedger;
 use budget_meter::{Budget, Kind};
+use contract_storage::Watch;
 use entry_lookup::Ground;
 use host_frame::{Answer, Values, charge, enter};
 use host_spec::{HostErr, ValueErr};
@@ -151,8 +152,8 @@ fn id_of_words(
 }
 
 /// `get_contract_id`: the id of the contract that an address deploys with a salt.
-pub fn get_contract_id<G: Ground>(
-    host: &mut HostLedger<'_, G>,
+pub fn get_contract_id<G: Ground, W: Watch>(
+    host: &mut HostLedger<'_, G, W>,
     a: u64,
     b: u64,
 ) -> Result<Answer, HostErr>

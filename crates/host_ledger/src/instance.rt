@@ -22,7 +22,7 @@ use crate::errors::INVALID_STORAGE_INPUT;
 use crate::events::hold_hash;
 use crate::state::HostLedger;
 use budget_meter::Budget;
-use contract_storage::Storage;
+use contract_storage::{Storage, Watch};
 use entry_lookup::Ground;
 use host_frame::{Answer, Values, enter};
 use host_spec::HostErr;
@@ -54,8 +54,8 @@ pub fn code_key(code: Hash) -> LedgerKey
 }
 
 /// Extends the life of a contract's instance, then that of a code.
-fn extend_both<G: Ground>(
-    storage: &mut Storage<'_, G>,
+fn extend_both<G: Ground, W: Watch>(
+    storage: &mut Storage<'_, G, W>,
     contract: Hash,
     code: Hash,
     threshold: u32,
@@ -75,8 +75,8 @@ fn extend_both<G: Ground>(
 }
 
 /// Extends both lives, unless the threshold is above the number of ledgers that is asked for.
-fn extend_lives<G: Ground>(
-    storage: &mut Storage<'_, G>,
+fn extend_lives<G: Ground, W: Watch>(
+    storage: &mut Storage<'_, G, W>,
     contract: Hash,
     code: Hash,
     threshold: u32,
@@ -98,8 +98,8 @@ fn extend_lives<G: Ground>(
 }
 
 /// The body of `extend_current_contract_instance_and_code_ttl`.
-fn extend_instance<G: Ground>(
-    storage: &mut Storage<'_, G>,
+fn extend_instance<G: Ground, W: Watch>(
+    storage: &mut Storage<'_, G, W>,
     budget: &mut Budget,
     values: &Values<'_>,
     contract: Hash,
@@ -123,8 +123,8 @@ fn extend_instance<G: Ground>(
 }
 
 /// `extend_current_contract_instance_and_code_ttl`: extends the life of the contract's instance, then that of the code that runs.
-pub fn extend_current_contract_instance_and_code_ttl<G: Ground>(
-    host: &mut HostLedger<'_, G>,
+pub fn extend_current_contract_instance_and_code_ttl<G: Ground, W: Watch>(
+    host: &mut HostLedger<'_, G, W>,
     a: u64,
     b: u64,
 ) -> Result<Answer, HostErr>

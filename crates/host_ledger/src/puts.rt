@@ -27,7 +27,7 @@ pub(crate) enum Unput {
 }
 
 /// Puts an entry over the one at an index, which is returned too.
-#[tactic(auto, using(crate::proofs::Editing::pairs_set, crate::proofs::Editing::set_back, host_frame::proofs::Making::pairs_length))]
+#[tactic(auto, using(crate::proofs::Editing::pairs_set, crate::proofs::Editing::set_back, host_frame::proofs::Lemmas::pairs_length))]
 fn overwrite(entries: Entries, index: usize, entry: Entry) -> (Entries, Entry)
     requires { index < length entries }
     ensures over { result.0 ≡ slice_set entries index (datum_pair entry) }
@@ -39,7 +39,7 @@ fn overwrite(entries: Entries, index: usize, entry: Entry) -> (Entries, Entry)
 }
 
 /// Inserts an entry before the one at an index.
-#[tactic(auto, using(crate::proofs::Editing::pairs_insert, host_frame::proofs::Making::pairs_length))]
+#[tactic(auto, using(crate::proofs::Editing::pairs_insert, host_frame::proofs::Lemmas::pairs_length))]
 fn insert_at(entries: Entries, index: usize, entry: Entry) -> Result<Entries, ValueErr>
     requires { index ≤ length entries }
     ensures items { IfOk result (λ e. e ≡ insert entries index (datum_pair entry)) }
@@ -51,7 +51,7 @@ fn insert_at(entries: Entries, index: usize, entry: Entry) -> Result<Entries, Va
 }
 
 /// Removes the entry at an index.
-#[tactic(auto, using(crate::proofs::Editing::pairs_remove, host_frame::proofs::Making::pairs_length))]
+#[tactic(auto, using(crate::proofs::Editing::pairs_remove, host_frame::proofs::Lemmas::pairs_length))]
 fn remove_at(entries: Entries, index: usize) -> Entries
     requires { index < length entries }
     ensures { result ≡ remove entries index }
@@ -135,7 +135,7 @@ fn put_between(code: Hash, entries: Entries, index: usize, entry: Entry) -> Resu
 }
 
 /// Puts an entry at its key, if the instance with this code is within the limits of values then.
-#[tactic(auto, using(host_frame::proofs::Making::pairs_length))]
+#[tactic(auto, using(host_frame::proofs::Lemmas::pairs_length))]
 pub(crate) fn put_in(code: Hash, entries: Entries, entry: Entry) -> Result<Entries, Unput>
     requires hosted { IsHosted (map (members_of entries)) }
     requires key { IsMade (datum entry.key) }
@@ -149,7 +149,7 @@ pub(crate) fn put_in(code: Hash, entries: Entries, entry: Entry) -> Result<Entri
 }
 
 /// Deletes a key's entry. It takes no memory.
-#[tactic(auto, using(crate::proofs::KeyLaws::without_there, crate::proofs::KeyLaws::without_gap, host_frame::proofs::Making::pairs_length))]
+#[tactic(auto, using(crate::proofs::KeyLaws::without_there, crate::proofs::KeyLaws::without_gap, host_frame::proofs::Lemmas::pairs_length))]
 pub(crate) fn delete_in(entries: Entries, key: &ScVal) -> Entries
     requires { IsHosted (map (members_of entries)) }
     ensures { result ≡ without (datum key.now) entries }

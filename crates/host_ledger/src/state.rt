@@ -2,7 +2,7 @@
 
 use crate::event_list::Events;
 use budget_meter::Budget;
-use contract_storage::Storage;
+use contract_storage::{Storage, Watch};
 use entry_lookup::Ground;
 use ledger_types::Header;
 use object_store::{Objects, Shown};
@@ -33,10 +33,10 @@ pub struct Running {
 /// The state in which contracts run: the ledger's entries, events and budget of one transaction, and the running frame with its
 /// values.
 #[derive(Drop)]
-pub struct HostLedger<'a, G: Ground> {
+pub struct HostLedger<'a, G: Ground, W: Watch> {
     /// The header of the ledger before the one that is made, with the close time of the one that is made.
     pub header: &'a Header,
-    pub storage: Storage<'a, G>,
+    pub storage: Storage<'a, G, W>,
     /// All events so far, the newest last.
     pub events: Events,
     pub budget: Budget,

@@ -33,7 +33,7 @@ use crate::ids::hash_of;
 use crate::instance::code_key;
 use crate::state::{HostLedger, InstanceCopy};
 use budget_meter::Budget;
-use contract_storage::{StoErr, Storage};
+use contract_storage::{StoErr, Storage, Watch};
 use entry_lookup::Ground;
 use host_frame::{Answer, Values, enter};
 use host_spec::{HostErr, ValueErr};
@@ -55,9 +55,12 @@ fn code_of(found: &LedgerEntry) -> Result<&[u8], StoErr>
 }
 
 /// The code with a hash.
-fn code_at<'s, G: Ground>(storage: &'s mut Storage<'_, G>, hash: Hash) -> Result<&'s [u8], StoErr>
+fn code_at<'s, G: Ground, W: Watch>(
+    storage: &'s mut Storage<'_, G, W>,
+    hash: Hash,
+) -> Result<&'s [u8], StoErr>
     // Once the entry is no longer borrowed.
-    ensures* lent { sem 𝓛 (Rests (the_row (record { mir = named 1; lft = [] }) G.row G.Ground) storage.entry
+    ensures* lent { sem 𝓛 (Rests (the_row (record { mir = named 1; lft = [] }) G.row W.row G.Ground W.Watch) storage.entry
         (λ new. (Accesses (named_by (code_key_of hash) result) (λ code. code.now) (λ env. code_in env hash) storage.old new)
         × IsRead storage.old new)) }
 {
@@ -166,8 +169,8 @@ fn replace_code(
 }
 
 /// Updates the code of the frame's copy to one that is in the ledger.
-fn update_to<G: Ground>(
-    storage: &mut Storage<'_, G>,
+fn update_to<G: Ground, W: Watch>(
+    storage: &mut Storage<'_, G, W>,
     events: &mut Events,
     budget: &mut Budget,
     alloc: Global,
@@ -199,8 +202,8 @@ fn update_to<G: Ground>(
 }
 
 /// The body of `update_current_contract_wasm`.
-fn update_code<G: Ground>(
-    storage: &mut Storage<'_, G>,
+fn update_code<G: Ground, W: Watch>(
+    storage: &mut Storage<'_, G, W>,
     events: &mut Events,
     budget: &mut Budget,
     values: &Values<'_>,
@@ -240,8 +243,8 @@ fn update_code<G: Ground>(
 }
 
 /// `update_current_contract_wasm`: changes the contract's code to one that is in the ledger. The frame goes on with the old one.
-pub fn update_current_contract_wasm<G: Ground>(
-    host: &mut HostLedger<'_, G>,
+pub fn update_current_contract_wasm<G: Ground, W: Watch>(
+    host: &mut HostLedger<'_, G, W>,
     a: u64,
 ) -> Result<Answer, HostErr>
     requires { IsReady host.old }

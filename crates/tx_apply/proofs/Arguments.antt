@@ -7,7 +7,7 @@ use Rattle.value_types.specs.Formats.{scval_format}
 use Rattle.value_types.specs.Views.{datums}
 use Rattle.value_types.specs.declared.value.ScVal.{ScVal}
 use Rattle.host_spec.specs.declared.error.ValueErr.{ValueErr}
-use Rattle.host_frame.proofs.Decoding.{spelled_bounded}
+use Rattle.host_frame.proofs.Lemmas.{spelled_bounded}
 use Rattle.call_spec.specs.Entering.{entering}
 use Rattle.call_spec.specs.WholeRuns.{arguments_in}
 use Rattle.auth_parts.specs.Entering.{IsEncodable, Passes, Enters}

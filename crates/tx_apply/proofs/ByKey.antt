@@ -14,14 +14,13 @@ use Rattle.std.proofs.lemmas.List.Sums.{fold_more}
 use Rattle.ledger_types.specs.Key.{key_format}
 use Rattle.ledger_types.specs.KeyOrder.{ranked_key, key_cmp}
 use Rattle.ledger_types.specs.declared.key.LedgerKey.{LedgerKey}
-use Rattle.ledger_types.proofs.Ranking.{key_ranked}
+use Rattle.ledger_types.proofs.Lemmas.{key_ranked}
 use Rattle.ledger_spec.specs.declared.Kept.{Kept}
 use Rattle.ledger_spec.specs.LedgerMap.{LedgerMap, find, key_bytes, IsKeptAt}
 use Rattle.contract_storage.specs.Layered.{set_at}
 use Rattle.contract_storage.specs.Differences.{change_all, AreDifferences}
 use Rattle.contract_storage.specs.declared.changes.Change.{Change}
-use Rattle.contract_storage.proofs.Laying.{order, set_gets, at, at_lookup, at_inserted, equal_from}
-use Rattle.contract_storage.proofs.Sound.{same_bytes}
+use Rattle.contract_storage.proofs.Lemmas.{at, at_inserted, at_lookup, equal_from, order, same_bytes, set_gets}
 use Rattle.stage_runs.specs.declared.Extension.{Extension}
 use Rattle.stage_runs.specs.Whole.{extension_of, extensions_of}
 use Rattle.tx_apply.specs.Changed.{CanStand, CanLie, now_at, found_in, with_change, longer_in, Leads}

@@ -12,7 +12,7 @@ use Rattle.ledger_spec.specs.Seen.{Seen, live, absent, archived, seen}
 use Rattle.tx_results.specs.Report.{has_preimage}
 use Rattle.tx_results.specs.Results.{outcome_format}
 use Rattle.tx_results.specs.Operations.{invoke_format}
-use Rattle.tx_results.proofs.Fits.{extend_fits, not_supported_fits, invoke_fits, invoke_success_fits, success_fits, failed_fits, too_early_fits, too_late_fits, missing_operation_fits, malformed_fits, soroban_invalid_fits}
+use Rattle.tx_results.proofs.Lemmas.{extend_fits, failed_fits, invoke_fits, invoke_success_fits, malformed_fits, missing_operation_fits, not_supported_fits, soroban_invalid_fits, success_fits, too_early_fits, too_late_fits}
 use Rattle.tx_xdr.specs.declared.transaction.Footprint.{Footprint}
 use Rattle.tx_xdr.specs.declared.transaction.Transaction.{Transaction}
 use Rattle.tx_results.specs.declared.codes.ExtendResult.TheVariants as extends
@@ -36,7 +36,7 @@ use Rattle.apply_spec.specs.Enforced.{may_extend}
 use Rattle.apply_spec.specs.Extending.{extensions_of, extension_seen}
 use Rattle.tx_apply.specs.Outcomes.{Ended, without_changes, without_effect, unsuccessful, extended}
 use Rattle.tx_apply.specs.Done.{CanChange, CanEnd}
-use Rattle.tx_apply.proofs.Declared.{AreSpelled}
+use Rattle.stage_runs.proofs.Lemmas.{AreSpelled}
 
 abbrev Spelled : Extension → Type 0
 Spelled e = key_format.fits e.key

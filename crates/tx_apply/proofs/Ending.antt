@@ -19,7 +19,7 @@ use Rattle.call_spec.specs.World.{Judge, Access, World}
 use Rattle.call_spec.specs.Acts.{Failed, Spent, Archived, Out, Good, Bad, Undeclared, world_of, then_do, gives, lifted, paying}
 use Rattle.call_spec.specs.Footprints.{by_footprint, first_rejected}
 use Rattle.call_spec.specs.WholeRuns.{Work, all_allowed, done_under}
-use Rattle.host_ledger.specs.Traced.{touches_of}
+use Rattle.host_ledger.specs.Traced.{known_of, IsRecorded}
 use Rattle.contract_call.specs.Worlds.{authority_of, world_around}
 use Rattle.contract_call.specs.Ended.{IsEnd, EndsBy, Ends, UnlessMemory, EndsRecorded}
 use Rattle.contract_call.specs.declared.host.Host.{Host}
@@ -27,7 +27,7 @@ use Rattle.auth_parts.specs.Entering.{with_meter, Enters}
 use Rattle.tx_apply.specs.Running.{charging, Charges, EndsCharged, EndsChargedRecorded}
 use Rattle.tx_apply.proofs.Running.{charged_traced}
 
-module _ {A B G : Type 0} (f : A → Datum) (g : B → Datum) (may : Judge) (m : LedgerMap) (old new : Host G) where
+module _ {A B G U V : Type 0} (f : A → Datum) (g : B → Datum) (may : Judge) (m : LedgerMap) (old new : Host G U V) where
   abbrev ByA : Option Access → Out Datum → Result A HostErr → Type 0
   ByA first out r = EndsBy may m first out r f old new
 
@@ -56,13 +56,13 @@ module _ {A B G : Type 0} (f : A → Datum) (g : B → Datum) (may : Judge) (m :
 
   pub viewed_by : (first : Option Access) (out : Out Datum) (a : A) (b : B) → f a ≡ g b → ByA first out (Ok a) → ByB first out (Ok b)
   viewed_by (Some c) out a b e h = absurd h
-  viewed_by None (Good d w) a b e h = (h.0 ∙ e, h.1, h.2, h.3, h.4)
+  viewed_by None (Good d w) a b e h = (h.0 ∙ e, h.1, h.2, h.3, h.4, h.5)
   viewed_by None (Bad (Failed d) w) a b e h = absurd h
   viewed_by None (Bad Spent w) a b e h = absurd h
   viewed_by None (Bad (Archived key) w) a b e h = absurd h
   viewed_by None (Undeclared c w) a b e h = absurd h
 
-pub memory_by : {B G : Type 0} (g : B → Datum) (may : Judge) (m : LedgerMap) (old new : Host G) (first : Option Access) (out : Out Datum)
+pub memory_by : {B G U V : Type 0} (g : B → Datum) (may : Judge) (m : LedgerMap) (old new : Host G U V) (first : Option Access) (out : Out Datum)
     → (let none : Result B HostErr = Err ends.NoMemory in EndsBy may m first out none g old new)
 memory_by g may m old new (Some a) out = tt
 memory_by g may m old new None (Good d w) = tt
@@ -89,7 +89,7 @@ failed_unless A B ends.NoMemory P p = tt
 
 -- ---- the calls of the program
 
-module _ {A B G : Type 0} (work : Work) (f : A → Datum) (g : B → Datum) (old new : Host G) where
+module _ {A B G U V : Type 0} (work : Work) (f : A → Datum) (g : B → Datum) (old new : Host G U V) where
   pub ends_failed : (e : HostErr) → (let r : Result A HostErr = Err e in Ends work r f old new) → let r : Result B HostErr = Err e in Ends work r g old new
   ends_failed e h footprint is m agree rest = failed_by f g (by_footprint footprint) m old new _ _ e (h footprint is m agree rest)
 
@@ -101,7 +101,7 @@ module _ {A B G : Type 0} (work : Work) (f : A → Datum) (g : B → Datum) (old
   recorded_failed e h free rest trace told =
       let out = done_under all_allowed old.ledger.header.now (authority_of old) work (world_around rest old trace) in
       let p = h free rest trace told in
-      (failed_by f g all_allowed old.ledger.storage.map old new None out e p.0, failed_unless A B e (new.ledger.storage.touched ≡ touches_of (world_of out).trace) p.1)
+      (failed_by f g all_allowed old.ledger.storage.map old new None out e p.0, failed_unless A B e (IsRecorded new.ledger.storage (world_of out).trace) p.1)
 
   pub recorded_viewed : (a : A) (b : B) → f a ≡ g b → (let r : Result A HostErr = Ok a in EndsRecorded work r f old new) → let r : Result B HostErr = Ok b in EndsRecorded work r g old new
   recorded_viewed a b e h free rest trace told =
@@ -109,10 +109,10 @@ module _ {A B G : Type 0} (work : Work) (f : A → Datum) (g : B → Datum) (old
       let p = h free rest trace told in
       (viewed_by f g all_allowed old.ledger.storage.map old new None out a b e p.0, p.1)
 
-pub ends_memory : {B G : Type 0} (work : Work) (g : B → Datum) (old new : Host G) → (let none : Result B HostErr = Err ends.NoMemory in Ends work none g old new)
+pub ends_memory : {B G U V : Type 0} (work : Work) (g : B → Datum) (old new : Host G U V) → (let none : Result B HostErr = Err ends.NoMemory in Ends work none g old new)
 ends_memory work g old new footprint is m agree rest = memory_by g (by_footprint footprint) m old new _ _
 
-pub recorded_memory : {B G : Type 0} (work : Work) (g : B → Datum) (old new : Host G) → (let none : Result B HostErr = Err ends.NoMemory in EndsRecorded work none g old new)
+pub recorded_memory : {B G U V : Type 0} (work : Work) (g : B → Datum) (old new : Host G U V) → (let none : Result B HostErr = Err ends.NoMemory in EndsRecorded work none g old new)
 recorded_memory work g old new free rest trace told = (memory_by g all_allowed old.ledger.storage.map old new None _, tt)
 
 -- ---- the charge for the value
@@ -133,9 +133,9 @@ never_fails : (d : Datum) (w : World) (e : ScError) (v : World) → charging d w
 unfolding charged
 never_fails d w e v is = charge_never_fails w d _ _ (values.state w.frame.shown w.frame.memory w.meter) e v is
 
-module _ {G : Type 0} (work : Work) (old mid : Host G) where
+module _ {G U V : Type 0} (work : Work) (old mid : Host G U V) where
   -- the host after the charge
-  abbrev pub paid : Meter → Host G
+  abbrev pub paid : Meter → Host G U V
   paid after = record mid { ledger = record mid.ledger { budget = after } }
 
   module _ (may : Judge) (m : LedgerMap) where
@@ -145,7 +145,7 @@ module _ {G : Type 0} (work : Work) (old mid : Host G) where
     charged_by after value (Some a) out r h c = absurd h
     charged_by after value None (Good b w) (Ok v) h c =
         let is : charging b w ≡ Good (datum value) (with_meter after w) = ap (λ (d : Datum). charging d w) h.0 ∙ c.1 (gives (datum value)) w (sym h.1) in
-        subst (λ (x : Out Datum). let given : Result ScVal HostErr = Ok v in IsEnd may m x given datum old (paid after)) (sym is) (sym (ap datum c.0), refl, h.2, h.3, h.4)
+        subst (λ (x : Out Datum). let given : Result ScVal HostErr = Ok v in IsEnd may m x given datum old (paid after)) (sym is) (sym (ap datum c.0), refl, h.2, h.3, h.4, h.5)
     charged_by after value None (Good b w) (Err ends.Spent) h c =
         let is : charging b w ≡ Bad Spent (with_meter after w) = ap (λ (d : Datum). charging d w) h.0 ∙ c (gives (datum value)) w (sym h.1) in
         subst (λ (x : Out Datum). let none : Result ScVal HostErr = Err ends.Spent in IsEnd may m x none datum old (paid after)) (sym is) refl
@@ -191,7 +191,7 @@ module _ {G : Type 0} (work : Work) (old mid : Host G) where
   charged_recorded after value r h c free rest trace told =
       let out = done_under all_allowed old.ledger.header.now (authority_of old) work (world_around rest old trace) in
       let p = h free rest trace told in
-      (charged_by all_allowed old.ledger.storage.map after value None out r p.0 c, unless_memory r _ (p.1 ∙ ap touches_of (sym (charged_traced out))))
+      (charged_by all_allowed old.ledger.storage.map after value None out r p.0 c, unless_memory r _ (p.1 ∙ ap (known_of None mid.ledger.storage.touched.seen.limit) (sym (charged_traced out))))
 
   pub failed_recorded : (e : HostErr) → (let none : Result ScVal HostErr = Err e in EndsRecorded work none datum old mid) → let none : Result ScVal HostErr = Err e in EndsChargedRecorded work none old mid
   failed_recorded e h free rest trace told =
@@ -199,5 +199,5 @@ module _ {G : Type 0} (work : Work) (old mid : Host G) where
       let out = done_under all_allowed old.ledger.header.now (authority_of old) work (world_around rest old trace) in
       let p = h free rest trace told in (
         failed_charged_by all_allowed old.ledger.storage.map None out e p.0,
-        subst (λ (t : List Access). UnlessMemory none (mid.ledger.storage.touched ≡ touches_of t)) (sym (charged_traced out)) p.1,
+        subst (λ (t : List Access). UnlessMemory none (IsRecorded mid.ledger.storage t)) (sym (charged_traced out)) p.1,
       )

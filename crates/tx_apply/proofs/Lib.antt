@@ -1,18 +1,17 @@
-pub mod Keys
-pub mod Extending
-pub mod Checked
-pub mod Declared
-pub mod Effects
-pub mod Told
-pub mod Running
-pub mod Ending
-pub mod Sums
-pub mod ByKey
-pub mod Fitting
-pub mod Mapped
-pub mod Adding
-pub mod Making
-pub mod Arguments
-pub mod Simulation
-pub mod Recorded
-pub mod Needing
+mod Adding
+mod Arguments
+mod ByKey
+mod Checked
+mod Effects
+mod Ending
+mod Extending
+mod Fitting
+mod Keys
+mod Making
+mod Mapped
+mod Needing
+mod Recorded
+mod Running
+mod Simulation
+mod Sums
+mod Told

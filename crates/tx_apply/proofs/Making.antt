@@ -8,7 +8,7 @@ use Rattle.value_types.specs.Hash.{hash_format}
 use Rattle.value_types.specs.declared.hash.Hash.{Hash}
 use Rattle.value_types.specs.declared.address.ScAddress.TheVariants.{Contract}
 use Rattle.host_spec.specs.Hosted.{size_of, IsHosted}
-use Rattle.host_frame.proofs.Making.{bytes_made}
+use Rattle.host_frame.proofs.Lemmas.{bytes_made}
 
 pub hash_hosted : (hash : Hash) → hash_format.fits hash → IsHosted (bytes hash.0)
 unfolding hash_format size_of opaque

@@ -30,11 +30,13 @@ use Rattle.tx_apply.specs.Running.{charging, EndsChargedRecorded, entered_run}
 use Rattle.tx_apply.specs.Needed.{needs_in}
 use Rattle.tx_apply.specs.Recording.{ran_out, touched_in}
 use Rattle.tx_apply.proofs.Running.{Starts, started_same}
-use Rattle.tx_apply.proofs.Recorded.{footprint_same}
+use Rattle.tx_apply.proofs.Recorded.{known_keys, footprint_same}
+use Rattle.contract_storage.specs.Touched.{Known}
+use Rattle.host_ledger.specs.Traced.{IsRecorded}
 
 -- ---- the end of a run
 
-ended_used : {G : Type 0} (may : Judge) (m : LedgerMap) (old new : Host G) (out : Out Datum) (r : Result ScVal HostErr) → IsEnd may m out r datum old new → ran_out r ≡ false
+ended_used : {G U V : Type 0} (may : Judge) (m : LedgerMap) (old new : Host G U V) (out : Out Datum) (r : Result ScVal HostErr) → IsEnd may m out r datum old new → ran_out r ≡ false
     → new.ledger.budget.used ≡ (world_of out).meter.used
 ended_used may m old new (Good b w) (Ok v) h n = ap (λ (x : Meter). x.used) h.1
 ended_used may m old new (Bad (Failed f) w) (Err (ends.Failed d)) h n = ap (λ (x : Meter). x.used) h.1
@@ -53,21 +55,22 @@ not_memory (Err ends.NoMemory) P n p = cc
 
 -- ---- from a host at its start
 
-module _ {G : Type 0} (old new : Host G) (header : Header) (authority : Authority) (meter : Meter) (entries : LedgerMap) (work : Work) (r : Result ScVal HostErr)
-    (starts : Starts old header authority meter entries) (free : old.ledger.storage.declared ≡ None) (empty : old.ledger.storage.touched ≡ []) (recorded : EndsChargedRecorded work r old new) where
-  started_needs : ran_out r ≡ false → (footprint : Footprint) (used : Used) → footprint ≡ footprint_by (touched_in new.ledger.storage.touched) → used ≡ new.ledger.budget.used
+module _ {G U V : Type 0} (old new : Host G U V) (header : Header) (authority : Authority) (meter : Meter) (entries : LedgerMap) (work : Work) (r : Result ScVal HostErr)
+    (starts : Starts old header authority meter entries) (free : old.ledger.storage.declared ≡ None) (empty : IsRecorded old.ledger.storage []) (recorded : EndsChargedRecorded work r old new) where
+  started_needs : ran_out r ≡ false → (footprint : Footprint) (used : Used) → footprint ≡ footprint_by (touched_in new.ledger.storage.touched.keys) → used ≡ new.ledger.budget.used
       → (let n : Needs = record { footprint = footprint; used = used } in n ≡ needs_of (entered_run header authority meter work entries))
   started_needs n footprint used is same =
       let start = start_of header 0 entries in
       let out = after (done_under all_allowed old.ledger.header.now (authority_of old) work) charging (world_around start old []) in
       let p = recorded free start [] empty in
-      let keys = is ∙ footprint_same (world_of out).trace new.ledger.storage.touched (not_memory r _ n p.1) in
+      let keys = is ∙ footprint_same (world_of out).trace new.ledger.storage.touched.keys
+      (ap (λ (k : Known). k.keys) (not_memory r _ n p.1) ∙ known_keys new.ledger.storage.touched.seen.limit (world_of out).trace) in
       let sums = same ∙ ended_used all_allowed old.ledger.storage.map old new out r p.0 n in
       (λ i. let m : Needs = record { footprint = keys i; used = sums i } in m)
       ∙ ap needs_of (started_same old header authority meter entries work starts)
 
   -- the same of what the code returns
-  pub run_needs : (given : Result code.Needs NoMemory) → IfOk given (λ n. ran_out r ≡ false) → IfOk given (λ n. n.footprint ≡ footprint_by (touched_in new.ledger.storage.touched))
+  pub run_needs : (given : Result code.Needs NoMemory) → IfOk given (λ n. ran_out r ≡ false) → IfOk given (λ n. n.footprint ≡ footprint_by (touched_in new.ledger.storage.touched.keys))
       → IfOk given (λ n. n.used ≡ new.ledger.budget.used) → IfOk given (λ n. needs_in n ≡ needs_of (entered_run header authority meter work entries))
   run_needs (Ok n) ended is same = started_needs ended n.footprint n.used is same
   run_needs (Err e) ended is same = tt

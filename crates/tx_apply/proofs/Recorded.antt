@@ -7,14 +7,14 @@ use Rattle.std.specs.Cmp.Lexicographic.{slice_cmp}
 use Rattle.std.specs.List.{AllByRecursion, filter, fold}
 use Rattle.std.specs.Ordering.{nat_cmp, match_ordering}
 use Rattle.std.specs.Str.{bytes_eq}
-use Rattle.std.proofs.Common.{◌≡◌, ℕ, ◌+◌, ◌<◌, ◌≤◌, ◌^◌, Bool, true, false, cond, List, [], ◌∷◌, suc, length, get_or, drop, map, if◌then◌else◌, refl, sym, ap, ap₂, subst, ◌∙◌, add-one, arith}
+use Rattle.std.proofs.Common.{◌≡◌, ℕ, ◌+◌, ◌<◌, ◌≤◌, ◌^◌, Bool, true, false, cond, List, [], ◌∷◌, suc, length, None, get_or, drop, map, if◌then◌else◌, refl, sym, ap, ap₂, subst, ◌∙◌, add-one, arith}
 use Rattle.std.proofs.Math.Seq.{drop-cons, drop-length}
 use Rattle.std.proofs.lemmas.List.Elements.{All-from_recursion, recursion_from_All}
 use Rattle.xdr_spec.specs.Format.{list}
 use Rattle.ledger_types.specs.Key.{key_format}
 use Rattle.ledger_types.specs.KeyOrder.{key_cmp}
 use Rattle.ledger_types.specs.declared.key.LedgerKey.{LedgerKey}
-use Rattle.ledger_types.proofs.Ranking.{key_ranked}
+use Rattle.ledger_types.proofs.Lemmas.{key_ranked}
 use Rattle.ledger_spec.specs.LedgerMap.{key_bytes}
 use Rattle.tx_xdr.specs.Soroban.{footprint_format}
 use Rattle.tx_xdr.specs.declared.transaction.Footprint.{Footprint}
@@ -23,11 +23,11 @@ use Rattle.contract_storage.specs.Touched.{AreSpelled}
 use Rattle.contract_storage.specs.declared.access.Access.{Access as Access'}
 use Rattle.contract_storage.specs.declared.access.Access.TheVariants as accesses
 use Rattle.contract_storage.specs.declared.touched.Touch.{Touch}
-use Rattle.host_ledger.specs.Traced.{kind_of, touches_of}
+use Rattle.host_ledger.specs.Traced.{kind_of, known_of, touches_of}
 use Rattle.call_spec.specs.World.{AccessKind, Read, Extend, Write, Access}
 use Rattle.call_spec.specs.Laws.{is_write}
 use Rattle.apply_spec.specs.Recorded.{Touched, stronger, touch, touched, bytes_cmp, keys_where, footprint_by, recorded}
-use Rattle.apply_spec.proofs.Rising.{all_rising_of}
+use Rattle.apply_spec.proofs.Lemmas.{all_rising_of}
 use Rattle.tx_apply.specs.Recording.{kind_in, touched_in, keys_in}
 
 -- ---- recorded keys, as the definitions name them
@@ -57,6 +57,11 @@ touch_same kind key (t ∷ ts) = at (bytes_eq (key_bytes key) (key_bytes t.key))
         ≡ cond b (keyed t.key (stronger (kind_in t.access) kind) ∷ touched_in ts) (keyed t.key (kind_in t.access) ∷ touch kind key (touched_in ts))
     at true r = ap (λ (k : AccessKind). keyed t.key k ∷ touched_in ts) (stronger_same t.access kind)
     at false r = ap (λ (xs : List Touched). keyed t.key (kind_in t.access) ∷ xs) r
+
+-- the touched keys of a storage that records
+pub known_keys : (limit : ℕ) (trace : List Access) → (known_of None limit trace).keys ≡ touches_of trace
+known_keys limit [] = refl
+known_keys limit (a ∷ older) = ap (stored.touch (kind_of a.kind) a.key) (known_keys limit older)
 
 touched_same : (trace : List Access) → touched_in (touches_of trace) ≡ touched trace
 touched_same [] = refl

@@ -7,14 +7,14 @@ use Rattle.budget_meter.specs.Meter.{Meter}
 use Rattle.budget_meter.specs.declared.kind.Kind.TheVariants.{ValSer}
 use Rattle.value_types.specs.Datum.{Datum}
 use Rattle.value_types.specs.Views.{datum, datums, scval}
-use Rattle.value_types.proofs.Lawful.{scval-datum}
+use Rattle.value_types.proofs.Lemmas.{scval-datum}
 use Rattle.value_types.specs.declared.value.ScVal.{ScVal}
 use Rattle.ledger_types.specs.declared.header.Header.{Header}
 use Rattle.invoke_types.specs.declared.event.ContractEvent.{ContractEvent}
 use Rattle.tx_xdr.specs.declared.transaction.SorobanData.{SorobanData}
 use Rattle.tx_results.specs.declared.operation.InvokeResult.TheVariants.{Trapped, ResourceLimitExceeded}
 use Rattle.ledger_spec.specs.LedgerMap.{LedgerMap}
-use Rattle.contract_storage.proofs.Laying.{antisymmetric}
+use Rattle.contract_storage.proofs.Lemmas.{antisymmetric}
 use Rattle.host_spec.specs.Acts as values
 use Rattle.host_spec.specs.Hosted.{size_of}
 use Rattle.host_spec.specs.Ends.{host_end}
@@ -88,13 +88,14 @@ charged_traced (Undeclared a w) = refl
 
 -- ---- from a host at its start
 
-module _ {G : Type 0} (old : Host G) where
+module _ {G U V : Type 0} (old : Host G U V) where
   pub record Starts (header : Header) (authority : Authority) (meter : Meter) (entries : LedgerMap) : Type 0 where
     pub header-is : old.ledger.header.now ≡ header
     pub authority-is : authority_of old ≡ authority
     pub map-is : old.ledger.storage.map ≡ entries
     pub events-is : old.ledger.events ≡ []
     pub pairs-is : old.marks.pairs ≡ []
+    pub noted-is : old.marks.noted ≡ None
     pub open-is : old.open.items ≡ []
     pub function-is : old.place.function.items ≡ []
     pub args-is : old.place.args.items ≡ []
@@ -114,6 +115,7 @@ module _ {G : Type 0} (old : Host G) where
     entries = is.map-is i;
     events = is.events-is i;
     pairs = is.pairs-is i;
+    noted = is.noted-is i;
     frame = record outside { function = is.function-is i; args = datums (is.args-is i); path = is.path-is i; begun = is.begun-is i };
     contracts = reverse (is.open-is i);
     meter = is.meter-is i;
@@ -130,7 +132,7 @@ module _ {G : Type 0} (old : Host G) where
 
 -- ---- the outcome
 
-module _ {G : Type 0} (n : ℕ) (resources : SorobanData) (old new : Host G) where
+module _ {G U V : Type 0} (n : ℕ) (resources : SorobanData) (old new : Host G U V) where
   -- what the program makes of its result over this map is what becomes of the operation
   abbrev pub Comes : LedgerMap → Result ScVal HostErr → Invoked → Type 0
   Comes m (Ok v) end = outcome_with n resources m v new.ledger.storage.map new.ledger.events new.ledger.budget.used ≡ end
@@ -151,7 +153,7 @@ module _ {G : Type 0} (n : ℕ) (resources : SorobanData) (old new : Host G) whe
   returned may b w v h =
       let value : v ≡ scval b = sym (scval-datum v) ∙ sym (ap scval h.0) in
       ap (λ (x : ScVal). outcome_with n resources before x new.ledger.storage.map new.ledger.events new.ledger.budget.used) value
-      ∙ ap (λ (x : LedgerMap). outcome_with n resources before (scval b) x new.ledger.events new.ledger.budget.used) (same_entries may before w.entries new.ledger.storage.map h.4)
+      ∙ ap (λ (x : LedgerMap). outcome_with n resources before (scval b) x new.ledger.events new.ledger.budget.used) (same_entries may before w.entries new.ledger.storage.map h.5)
       ∙ ap (λ (x : List ContractEvent). outcome_with n resources before (scval b) w.entries x new.ledger.budget.used) h.2
       ∙ ap (λ (x : Meter). outcome_with n resources before (scval b) w.entries w.events x.used) h.1
 

@@ -22,8 +22,7 @@ use Rattle.apply_spec.specs.Recorded.{IsSmaller}
 use Rattle.apply_spec.specs.Enforced.{enforced}
 use Rattle.apply_spec.specs.Simulated.{ext_with, tx_with, with_footprint, Needs, needs, Simulated, simulated_with, simulated}
 use Rattle.apply_spec.specs.SimulatedLaws.{IsTrapped}
-use Rattle.apply_spec.proofs.Framed.{step_framed}
-use Rattle.apply_spec.proofs.Halves.{smaller_traps}
+use Rattle.apply_spec.proofs.Lemmas.{smaller_traps, step_framed}
 
 -- ---- another footprint
 

@@ -20,7 +20,7 @@ use Rattle.ledger_spec.specs.Seen.{Seen, live, absent, archived, seen_of}
 use Rattle.contract_storage.specs.Layered.{set_at}
 use Rattle.contract_storage.specs.Differences.{change_all, IsDifference, AreDifferences}
 use Rattle.contract_storage.specs.declared.changes.Change.{Change}
-use Rattle.contract_storage.proofs.Laying.{order, antisymmetric, set_gets, equal_from}
+use Rattle.contract_storage.proofs.Lemmas.{antisymmetric, equal_from, order, set_gets}
 use Rattle.call_spec.specs.Accesses.{entry_size}
 use Rattle.call_spec.specs.Invoked.{altered_bytes, written_at, written_bytes}
 use Rattle.tx_apply.specs.Changed.{changed_bytes}

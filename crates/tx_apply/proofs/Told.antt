@@ -25,8 +25,7 @@ use Rattle.call_spec.specs.World.{Authority}
 use Rattle.call_spec.specs.Invoked.{Invoked, invoked}
 use Rattle.apply_spec.specs.Checks.{refusal_of}
 use Rattle.apply_spec.specs.Enforced as whole
-use Rattle.apply_spec.proofs.Exact.{extended_effect}
-use Rattle.apply_spec.proofs.Called.{call_effect, invoked_tells}
+use Rattle.apply_spec.proofs.Lemmas.{call_effect, extended_effect, invoked_tells}
 use Rattle.tx_apply.specs.Outcomes.{Ended, extended, ended_of_call, called, performed, first_performed, unless_refused, ended}
 
 -- the effect of a transaction that ended

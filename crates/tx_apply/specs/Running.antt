@@ -26,7 +26,7 @@ use Rattle.call_spec.specs.Acts.{Failed, Spent, Out, Act, after, gives, paying, 
 use Rattle.call_spec.specs.Footprints.{by_footprint, first_rejected}
 use Rattle.call_spec.specs.WholeRuns.{Work, start_of, all_allowed, done_under}
 use Rattle.call_spec.specs.Invoked.{Invoked, written_bytes, unsuccessful}
-use Rattle.host_ledger.specs.Traced.{touches_of}
+use Rattle.host_ledger.specs.Traced.{IsRecorded}
 use Rattle.contract_call.specs.Worlds.{authority_of, world_around}
 use Rattle.contract_call.specs.Ended.{IsEnd, EndsBy, UnlessMemory}
 use Rattle.contract_call.specs.declared.host.Host.{Host}
@@ -47,7 +47,7 @@ Charges (Err (ends.Undeclared key)) value before after = ⊥
 Charges (Err (ends.Archived key)) value before after = ⊥
 
 -- `Ends` for a work followed by the charge for its value, over the storage's own map
-abbrev pub EndsCharged : {G : Type 0} → Work → Result ScVal HostErr → Host G → Host G → Type 0
+abbrev pub EndsCharged : {G U V : Type 0} → Work → Result ScVal HostErr → Host G U V → Host G U V → Type 0
 EndsCharged work r old new = (footprint : Footprint)
     → IsSomeAnd old.ledger.storage.declared (IsFootprint footprint.read_only footprint.read_write) → (rest : World)
     → (let out = after (done_under all_allowed old.ledger.header.now (authority_of old) work) charging
@@ -56,13 +56,13 @@ EndsCharged work r old new = (footprint : Footprint)
     (first_rejected (by_footprint footprint) (world_of out).trace) out r datum old new)
 
 -- `EndsRecorded` for a work followed by the charge for its value
-abbrev pub EndsChargedRecorded : {G : Type 0} → Work → Result ScVal HostErr → Host G → Host G → Type 0
+abbrev pub EndsChargedRecorded : {G U V : Type 0} → Work → Result ScVal HostErr → Host G U V → Host G U V → Type 0
 EndsChargedRecorded work r old new =
-    old.ledger.storage.declared ≡ None → (rest : World) (trace : List Access) → old.ledger.storage.touched ≡ touches_of trace
+    old.ledger.storage.declared ≡ None → (rest : World) (trace : List Access) → IsRecorded old.ledger.storage trace
     → (let out = after (done_under all_allowed old.ledger.header.now (authority_of old) work) charging
     (world_around rest old trace) in
     IsEnd all_allowed old.ledger.storage.map out r datum old new
-    × UnlessMemory r (new.ledger.storage.touched ≡ touches_of (world_of out).trace))
+    × UnlessMemory r (IsRecorded new.ledger.storage (world_of out).trace))
 
 -- the whole run after its arguments have entered the host, with this budget then
 abbrev pub entered_run : Header → Authority → Meter → Work → LedgerMap → Out Datum

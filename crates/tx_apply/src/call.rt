@@ -33,7 +33,7 @@ use auth_trees::Marks;
 use budget_meter::{Budget, Limits, Used};
 use code_cache::Cache;
 use contract_call::Host;
-use contract_storage::Storage;
+use contract_storage::{NoWatch, Storage};
 use entry_lookup::Ground;
 use host_ledger::{Events, HostLedger};
 use host_spec::HostErr;
@@ -128,7 +128,7 @@ fn succeeded<G: Ground>(
 }
 
 /// Returns the events of a run.
-fn events_of<G: Ground>(host: Host<'_, G>) -> Events
+fn events_of<G: Ground>(host: Host<'_, G, Marks<'_>, NoWatch>) -> Events
     ensures { result ≡ host.entry.ledger.events }
 {
     let Host {
@@ -156,7 +156,7 @@ fn returned<G: Ground>(
     ground: &G,
     n: u32,
     resources: &SorobanData,
-    host: Host<'_, G>,
+    host: Host<'_, G, Marks<'_>, NoWatch>,
     value: ScVal,
 ) -> Result<TransactionDone, NoMemory>
     requires read_only { All (λ key. key_format.fits key) resources.now.footprint.read_only }
@@ -208,6 +208,7 @@ fn run<G: Ground>(
         &header.settings,
         resources.footprint.read_only.as_slice(),
         resources.footprint.read_write.as_slice(),
+        NoWatch,
     )?;
     let marks = Marks::prepare(alloc, authority.entries, authority.source)?;
     let mut host = Host::new(

@@ -132,10 +132,9 @@ fn extension<G: Ground>(
     ensures { IfOk result (λ extension. extension ≡ extension_in key.now (find_in (G.map ground.now) key.now)
         (found_in (G.map ground.now) changed.now.entries key.now)) }
 {
-    match changed.get(key) {
-        None => return Ok(None),
-        Some(_) => {}
-    }
+    let Some(_changed) = changed.get(key) else {
+        return Ok(None);
+    };
     let Some(old) = ground.find(key) else {
         return Ok(None);
     };

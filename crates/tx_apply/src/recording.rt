@@ -29,7 +29,7 @@ use auth_trees::Marks;
 use budget_meter::{Budget, Used};
 use code_cache::Cache;
 use contract_call::Host;
-use contract_storage::{Access, Storage, Touch};
+use contract_storage::{Access, NoWatch, Storage, Touch};
 use entry_lookup::Ground;
 use host_spec::{HostErr, ValueErr};
 use ledger_types::{Header, LedgerKey};
@@ -120,11 +120,11 @@ fn ran_out(end: &Result<ScVal, HostErr>) -> bool
 /// The needs of a run that ended so, from what its host has recorded.
 fn needs_after<G: Ground>(
     alloc: Global,
-    host: &Host<'_, G>,
+    host: &Host<'_, G, Marks<'_>, NoWatch>,
     end: &Result<ScVal, HostErr>,
 ) -> Result<Needs, NoMemory>
     ensures ended { IfOk result (λ n. ran_out end.now ≡ false) }
-    ensures footprint { IfOk result (λ n. n.footprint ≡ footprint_by (touched_in host.now.ledger.storage.touched)) }
+    ensures footprint { IfOk result (λ n. n.footprint ≡ footprint_by (touched_in host.now.ledger.storage.touched.keys)) }
     ensures used { IfOk result (λ n. n.used ≡ host.now.ledger.budget.used) }
     ensures fits { IfOk result (λ n. footprint_format.fits n.footprint) }
 {
@@ -156,7 +156,7 @@ fn run_recorded<G: Ground>(
         ≡ needs_of (entered_run header.now (authority_in authority.now) budget (work_in job.now) (G.map ground.now))) }
     ensures fits { IfOk result (λ n. footprint_format.fits n.footprint) }
 {
-    let storage = Storage::recording(alloc, ground, header.seq + 1, &header.settings);
+    let storage = Storage::recording(alloc, ground, header.seq + 1, &header.settings, NoWatch);
     let marks = Marks::prepare(alloc, authority.entries, authority.source)?;
     let mut host = Host::new(
         alloc,

@@ -18,8 +18,10 @@ ghost use Rattle.auth_parts.specs.Entering.{Enters};
 ghost use Rattle.tx_apply.specs.Running.{Charges, EndsCharged, EndsChargedRecorded};
 
 use crate::job::Job;
+use auth_trees::Authority;
 use budget_meter::{Budget, Kind};
 use contract_call::{Host, NewContract, create, invoke, upload};
+use contract_storage::Watch;
 use entry_lookup::Ground;
 use host_frame::{charge, size_of};
 use host_ledger::clone_values;
@@ -56,9 +58,9 @@ fn contract_value(id: Hash) -> ScVal
 }
 
 /// Calls a function of a contract.
-fn call<G: Ground>(
+fn call<G: Ground, A: Authority, W: Watch>(
     alloc: Global,
-    host: &mut Host<'_, G>,
+    host: &mut Host<'_, G, A, W>,
     contract: ScAddress,
     function: &[u8],
     args: &[ScVal],
@@ -76,9 +78,9 @@ fn call<G: Ground>(
 }
 
 /// Uploads a code.
-fn upload_code<G: Ground>(
+fn upload_code<G: Ground, A: Authority, W: Watch>(
     alloc: Global,
-    host: &mut Host<'_, G>,
+    host: &mut Host<'_, G, A, W>,
     code: &[u8],
 ) -> Result<ScVal, HostErr>
     requires ready { MayRun host.old }
@@ -106,8 +108,8 @@ fn clone_args(alloc: Global, args: Option<&[ScVal]>) -> Result<Option<Vec<ScVal>
 }
 
 /// Creates a contract.
-fn create_contract<G: Ground>(
-    host: &mut Host<'_, G>,
+fn create_contract<G: Ground, A: Authority, W: Watch>(
+    host: &mut Host<'_, G, A, W>,
     contract: NewContract,
 ) -> Result<ScVal, HostErr>
     requires ready { MayRun host.old }
@@ -125,9 +127,9 @@ fn create_contract<G: Ground>(
 }
 
 /// Calls, uploads or creates.
-fn perform<G: Ground>(
+fn perform<G: Ground, A: Authority, W: Watch>(
     alloc: Global,
-    host: &mut Host<'_, G>,
+    host: &mut Host<'_, G, A, W>,
     job: &Job<'_>,
 ) -> Result<ScVal, HostErr>
     requires ready { MayRun host.old }
@@ -184,9 +186,9 @@ fn charged(budget: &mut Budget, value: ScVal) -> Result<ScVal, HostErr>
 }
 
 /// Runs a host function whose arguments have entered the host. Returns its value after the charge for it.
-pub(crate) fn run_job<G: Ground>(
+pub(crate) fn run_job<G: Ground, A: Authority, W: Watch>(
     alloc: Global,
-    host: &mut Host<'_, G>,
+    host: &mut Host<'_, G, A, W>,
     job: &Job<'_>,
 ) -> Result<ScVal, HostErr>
     requires ready { MayRun host.old }

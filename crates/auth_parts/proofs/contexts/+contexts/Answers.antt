@@ -2,7 +2,7 @@ use Rattle.std.proofs.Common.{◌≤◌, arith}
 use Rattle.value_types.specs.Views.{datums}
 use Rattle.auth_types.specs.Tree.{size, row_size}
 use Rattle.auth_types.specs.Views.{tree_of, forest_of}
-use Rattle.auth_types.proofs.Parts.{size_at}
+use Rattle.auth_types.proofs.Lemmas.{size_at}
 use Rattle.auth_parts.proofs.Rows.{row_more}
 use Rattle.auth_parts.proofs.contexts.+contexts.Goals as goal
 

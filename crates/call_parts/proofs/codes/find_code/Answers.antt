@@ -12,7 +12,7 @@ use Rattle.call_spec.specs.Accesses.{effected}
 use Rattle.call_spec.specs.Found.{finds_code, code_of_data, code_at}
 use Rattle.call_spec.specs.Keys.{code_key}
 use Rattle.host_ledger.specs.Accessed.{end_of, named, Accesses}
-use Rattle.host_ledger.proofs.Linking.{reads_read}
+use Rattle.host_ledger.proofs.Lemmas.{reads_read}
 use Rattle.call_parts.specs.Steps.{Returns}
 use Rattle.call_parts.proofs.InstanceLaws.{code_opens}
 use Rattle.call_parts.proofs.Reading.{read_found, read_refused}

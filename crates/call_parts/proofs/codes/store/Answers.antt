@@ -1,5 +1,5 @@
-use Rattle.contract_storage.proofs.Going.{again}
-use Rattle.host_ledger.proofs.Rows.{later_read}
+use Rattle.contract_storage.proofs.Lemmas.{again}
+use Rattle.host_ledger.proofs.Lemmas.{later_read}
 use Rattle.call_parts.proofs.Stepping.{code_seen, code_stored, code_unseen}
 use Rattle.call_parts.proofs.codes.store.Goals as goal
 

@@ -1,5 +1,5 @@
 use Rattle.std.proofs.Common.{refl}
-use Rattle.host_ledger.proofs.Rows.{later_same}
+use Rattle.host_ledger.proofs.Lemmas.{later_same}
 use Rattle.call_parts.proofs.Stepping.{uploaded, not_uploaded}
 use Rattle.call_parts.proofs.codes.upload.Goals as goal
 

@@ -4,7 +4,7 @@ use Rattle.call_spec.specs.Found.{finds_instance, instance_at}
 use Rattle.call_spec.specs.Keys.{instance_key}
 use Rattle.contract_storage.specs.Acts.{get_act, lent}
 use Rattle.host_ledger.specs.Worlds.{copied}
-use Rattle.host_ledger.proofs.Linking.{reads_read}
+use Rattle.host_ledger.proofs.Lemmas.{reads_read}
 use Rattle.call_parts.specs.Entered.{opens_instance}
 use Rattle.call_parts.proofs.InstanceLaws.{instance_opens}
 use Rattle.call_parts.proofs.Joining.{accesses_steps}

@@ -5,7 +5,7 @@ use Rattle.host_spec.specs.declared.error.HostErr.{HostErr}
 use Rattle.wasm_run.specs.Suspended.{Suspended, Does, IsFresh}
 use Rattle.wasm_run.specs.declared.instance.Event.TheVariants as event
 use Rattle.wasm_spec.specs.declared.module.Module.{Module}
-use Rattle.contract_call.specs.Worlds.{DoesIn, DoesAround}
+use Rattle.contract_call.specs.Worlds.{DoesIn, DoesAround, Stays}
 use Rattle.call_parts.specs.Started.{IsStarted}
 use Rattle.contract_call.proofs.Looping.{Told, follows_first, run_answered, run_done, run_trapped, run_spent, run_refused, stays_same, stays_twice, may_pay, env_in, refilled, still_room}
 use Rattle.value_types.specs.Views.{datum, datums}
@@ -15,7 +15,9 @@ use Rattle.wasm_spec.specs.Instances.{Ready, start_of}
 use Rattle.contract_call.specs.Running.{entered}
 use Rattle.contract_call.proofs.Calling.{env_later, around_begins, numbered_stays, stays_then, call_enters, target_enters, call_refused, start_ready, start_refused}
 use Rattle.contract_call.specs.Targets.{may_name, call_of, call_at}
+use Rattle.contract_call.specs.Demanded.{settled}
 use Rattle.contract_call.specs.Made.{authorising, constructing}
+use Rattle.contract_call.proofs.Between.{told_between}
 use Rattle.call_spec.specs.Found.{with_start}
 use Rattle.value_types.specs.declared.value.ScVal.{ScVal}
 use Rattle.std.specs.Prelude.{Vec}
@@ -39,7 +41,7 @@ use Rattle.value_types.specs.declared.address.ScAddress.TheVariants.{Contract}
 use Rattle.host_interface.specs.declared.import.HostImport.TheVariants as imports
 use Rattle.call_spec.specs.World.{Env}
 use Rattle.call_spec.specs.Asking.{check_of}
-use Rattle.call_spec.specs.Calling.{try_call, catching, calls, calls_for_host}
+use Rattle.call_spec.specs.Calling.{try_call, catching, calls, calls_if, calls_for_host}
 use Rattle.call_spec.specs.Creating.{creates, creates_at, create_contract, create_contract_with_constructor, upload_wasm, CONSTRUCTOR}
 use Rattle.call_spec.specs.Demands.{demanded, require_auth, require_auth_for_args}
 use Rattle.call_spec.specs.HostFunctions.{host_function}
@@ -56,13 +58,22 @@ use Rattle.contract_call.proofs.Arity.{event_arity}
 use Rattle.contract_call.proofs.Rowing.{taken_does, called_by, over_same, row_answers, stays_on, valued_does, in_around}
 use Rattle.contract_call.proofs.calls.+calls.Goals as goal
 
-pub call-returns-in-Ok-clause-does : goal.call-returns-in-Ok-clause-does
-call-returns-in-Ok-clause-does g t c =
+pub call-returns-clause-does : goal.call-returns-clause-does
+call-returns-clause-does g t c =
+    told_between (λ h k. DoesAround c.call_counted-result.result datum (λ env. calls_if (may_name c.args.call) env (opener_of env c.args.room) (call_of c.args.call)) h k)
+    c.args.host.now c.tell_called.new.host c.call_counted-result.new.host c.tell_returned.new.host c.tell_called.ensures c.tell_returned.ensures c.call_counted-result.ensures.does
+
+pub call-returns-clause-stays : goal.call-returns-clause-stays
+call-returns-clause-stays g t c =
+    told_between (λ h k. Stays h k) c.args.host.now c.tell_called.new.host c.call_counted-result.new.host c.tell_returned.new.host c.tell_called.ensures c.tell_returned.ensures c.call_counted-result.ensures.stays
+
+pub call_counted-returns-in-Ok-clause-does : goal.call_counted-returns-in-Ok-clause-does
+call_counted-returns-in-Ok-clause-does g t c =
     around_begins c.call_below.result datum (λ env path. call_at (may_name c.args.call) env (opener_of env c.args.room) (call_of c.args.call) path) c.in-Ok.path.items c.args.host.now c.begin.new.self c.call_below.new.host c.in-Ok.ensures.path
     c.in-Ok.ensures.count c.call_below.ensures.does
 
-pub call-returns-in-Ok-clause-stays : goal.call-returns-in-Ok-clause-stays
-call-returns-in-Ok-clause-stays g t c =
+pub call_counted-returns-in-Ok-clause-stays : goal.call_counted-returns-in-Ok-clause-stays
+call_counted-returns-in-Ok-clause-stays g t c =
     stays_then c.args.host.now c.begin.new.self c.call_below.new.host (numbered_stays c.args.host.now c.begin.new.self c.in-Ok.ensures.count) c.call_below.ensures.stays
 
 pub call_below-returns-in-Err-clause-does : goal.call_below-returns-in-Err-clause-does
@@ -366,15 +377,21 @@ pub run-answer-requires : goal.run-answer-requires
 run-answer-requires g t c κs lives = (
   omega (arith, c.decreases),
   (
-    lives,
+    lives.0,
     (
-      may_pay c.loop-instance.host c.step_to.new.budget c.loop-instance.invariant.0.ready,
+      lives.1.0,
       (
-        still_room c.args.room c.args.host.now c.loop-instance.host c.loop-instance.invariant.0.place c.requires.path,
+        lives.1.1,
         (
-          event_arity c.args.module.now c.loop-instance.instance.source c.in-Ok-HostCall.field-0 c.in-Ok-HostCall.import c.as_slice.result.now (row_of c.row-row.result)
-              (c.in-Ok-HostCall.field-0-is ∙ ap (event.HostCall c.in-Ok-HostCall.import) (sym c.as_slice.ensures)) c.in-Ok-HostCall.ensures.names c.loop-instance.invariant.2 c.row-row.ensures,
-          c.memory_mut-memory.ensures.small,
+          may_pay c.loop-instance.host c.step_to.new.budget c.loop-instance.invariant.0.ready,
+          (
+            still_room c.args.room c.args.host.now c.loop-instance.host c.loop-instance.invariant.0.place c.requires.path,
+            (
+              event_arity c.args.module.now c.loop-instance.instance.source c.in-Ok-HostCall.field-0 c.in-Ok-HostCall.import c.as_slice.result.now (row_of c.row-row.result)
+                  (c.in-Ok-HostCall.field-0-is ∙ ap (event.HostCall c.in-Ok-HostCall.import) (sym c.as_slice.ensures)) c.in-Ok-HostCall.ensures.names c.loop-instance.invariant.2 c.row-row.ensures,
+              c.memory_mut-memory.ensures.small,
+            ),
+          ),
         ),
       ),
     ),
@@ -412,24 +429,25 @@ authorise-returns-in-Ok-create_function-clause-does g t c =
     let creator = option_map address_of c.args.creator in
     let made = creation_of c.args.contract.now in
     let function = c.in-Ok-create_function.function in
-    let used = record mid { marks = c.demand-met.new.self } in
-    let used_is = ap (λ marks. record mid { marks = marks }) c.demand-met.ensures.pairs in
+    let marks = c.demand-met.new.self in
     let met = c.settle-settled.result in
-    let stays = stays_then mid used new (marked_stays mid used path caller made.deployer function used_is) c.settle-settled.ensures.stays in
+    let stays = stays_then mid (record mid { marks = marks }) new (marked_stays mid path caller made.deployer function c.demand-met.result marks c.demand-met.ensures) (subst (λ h. Stays h new) c.tell_demanded.ensures c.settle-settled.ensures.stays) in
     authorises_does room creator made path c.in-Ok.id c.granted.result c.args.host.now mid new c.in-Ok.ensures.stays c.in-Ok.ensures.does
     (grants_does room creator made path c.in-Ok.id met c.granted.result mid new (env_later mid new stays) c.granted.ensures
     (subst (λ f. DoesAround met (λ u. u) (λ env. demanded env (opener_of env room) path creator made.deployer f) mid new) c.in-Ok-create_function.ensures.ok
     (subst (λ a. DoesAround met (λ u. u) (λ env. demanded env (opener_of env room) path a made.deployer function) mid new) c.contract_address-caller.ensures
-    (demanded_does room path caller made.deployer function c.demand-met.result met mid used new c.demand-met.ensures.answer used_is c.settle-settled.ensures.does))))
+    (demanded_does room path caller made.deployer function c.demand-met.result met mid marks new c.demand-met.ensures c.settle-settled.ensures.memory
+    (subst (λ h. DoesAround met (λ u. u) (λ env. settled env (opener_of env room) c.demand-met.result) h new) c.tell_demanded.ensures c.settle-settled.ensures.does)))))
 
 pub authorise-returns-in-Ok-create_function-clause-stays : goal.authorise-returns-in-Ok-create_function-clause-stays
 authorise-returns-in-Ok-create_function-clause-stays g t c =
     let mid = c.paid_id.new.host in
     let new = c.settle-settled.new.host in
-    let used = record mid { marks = c.demand-met.new.self } in
+    let marks = c.demand-met.new.self in
     stays_then c.args.host.now mid new c.in-Ok.ensures.stays
-    (stays_then mid used new
-    (marked_stays mid used c.args.path.now c.contract_address-caller.result c.args.contract.now.deployer c.in-Ok-create_function.function (ap (λ marks. record mid { marks = marks }) c.demand-met.ensures.pairs)) c.settle-settled.ensures.stays)
+    (stays_then mid (record mid { marks = marks }) new
+    (marked_stays mid c.args.path.now c.contract_address-caller.result c.args.contract.now.deployer c.in-Ok-create_function.function c.demand-met.result marks c.demand-met.ensures)
+    (subst (λ h. Stays h new) c.tell_demanded.ensures c.settle-settled.ensures.stays))
 
 pub authorise-returns-in-Err-clause-does : goal.authorise-returns-in-Err-clause-does
 authorise-returns-in-Err-clause-does g t c =
@@ -465,22 +483,24 @@ demand_here-returns-clause-does g t c =
     let new = c.settle-settled.new.host in
     let path = c.as_slice-path.result.now in
     let caller = c.contract_address-caller.result in
-    let used = record h { marks = c.demand-met.new.self } in
-    let used_is = ap (λ marks. record h { marks = marks }) c.demand-met.ensures.pairs in
+    let marks = c.demand-met.new.self in
     let met = c.settle-settled.result in
-    let stays = stays_then h used new (marked_stays h used path caller c.args.address c.args.function used_is) c.settle-settled.ensures.stays in
+    let stays = stays_then h (record h { marks = marks }) new (marked_stays h path caller c.args.address c.args.function c.demand-met.result marks c.demand-met.ensures) (subst (λ x. Stays x new) c.tell_demanded.ensures c.settle-settled.ensures.stays) in
     here_does room c.args.address c.args.function met c.authorised.result h new stays c.authorised.ensures
     (subst (λ a. DoesAround met (λ u. u) (λ env. demanded env (opener_of env room) h.place.path.items a c.args.address c.args.function) h new) c.contract_address-caller.ensures
     (subst (λ p. DoesAround met (λ u. u) (λ env. demanded env (opener_of env room) p caller c.args.address c.args.function) h new) c.as_slice-path.ensures.value
-    (demanded_does room path caller c.args.address c.args.function c.demand-met.result met h used new c.demand-met.ensures.answer used_is c.settle-settled.ensures.does)))
+    (demanded_does room path caller c.args.address c.args.function c.demand-met.result met h marks new c.demand-met.ensures c.settle-settled.ensures.memory
+    (subst (λ x. DoesAround met (λ u. u) (λ env. settled env (opener_of env room) c.demand-met.result) x new) c.tell_demanded.ensures c.settle-settled.ensures.does))))
 
 pub demand_here-returns-clause-stays : goal.demand_here-returns-clause-stays
 demand_here-returns-clause-stays g t c =
     let h = c.args.host.now in
     let new = c.settle-settled.new.host in
-    let used = record h { marks = c.demand-met.new.self } in
+    let marks = c.demand-met.new.self in
     stays_on h h new (stays_same h c.requires.ready)
-    (stays_then h used new (marked_stays h used c.as_slice-path.result.now c.contract_address-caller.result c.args.address c.args.function (ap (λ marks. record h { marks = marks }) c.demand-met.ensures.pairs)) c.settle-settled.ensures.stays)
+    (stays_then h (record h { marks = marks }) new
+    (marked_stays h c.as_slice-path.result.now c.contract_address-caller.result c.args.address c.args.function c.demand-met.result marks c.demand-met.ensures)
+    (subst (λ x. Stays x new) c.tell_demanded.ensures c.settle-settled.ensures.stays))
 
 pub prove-returns-in-Ok-Proved-clause-does : goal.prove-returns-in-Ok-Proved-clause-does
 prove-returns-in-Ok-Proved-clause-does g t c =
@@ -506,3 +526,16 @@ check-returns-clause-does g t c =
     let new = c.call-returned.new.host in
     checks_does c.call-returned.result c.checked.result (λ env. calls_for_host env (opener_of env c.args.room) (check_of c.args.contract (datums c.args.args.items))) h new (env_later h new c.call-returned.ensures.stays) c.checked.ensures
     c.call-returned.ensures.does
+
+pub call_target-returns-in-Err-clause-stays : goal.call_target-returns-in-Err-clause-stays
+call_target-returns-in-Err-clause-stays g t c = stays_equal c.args.host.now c.args.host.now refl refl
+
+pub inside-returns-in-Ok-clause-stays : goal.inside-returns-in-Ok-clause-stays
+inside-returns-in-Ok-clause-stays g t c =
+    let h1 = c.begin.new.host in
+    stays_twice c.args.host.now h1 c.run.new.host h1.ledger.budget c.in-Ok.ensures.stays c.in-Err-run.ensures.stays
+
+pub run-returns-in-Err-answer-clause-stays : goal.run-returns-in-Err-answer-clause-stays
+run-returns-in-Err-answer-clause-stays g t c =
+    stays_twice c.args.host.now c.loop-instance.host c.answer.new.host c.step_to.new.budget c.loop-instance.invariant.0
+    c.in-Err-answer.ensures.stays

@@ -1,5 +1,5 @@
-use Rattle.contract_storage.proofs.Going.{again}
-use Rattle.host_ledger.proofs.Rows.{later_read}
+use Rattle.contract_storage.proofs.Lemmas.{again}
+use Rattle.host_ledger.proofs.Lemmas.{later_read}
 use Rattle.contract_call.proofs.Constructing.{built}
 use Rattle.contract_call.proofs.creating.build.Goals as goal
 

@@ -9,7 +9,7 @@ use Rattle.std.specs.declared.alloc.Global.{Global}
 use Rattle.call_spec.specs.Creating.{function_of}
 use Rattle.contract_call.specs.Creations.{creation_of}
 use Rattle.contract_call.specs.declared.works.NewContract.{NewContract}
-use Rattle.host_ledger.proofs.Emitting.{all_same}
+use Rattle.host_ledger.proofs.Lemmas.{all_same}
 use Rattle.contract_call.proofs.creating.named_create.Goals as goal
 
 pub returns-in-Some : goal.returns-in-Some

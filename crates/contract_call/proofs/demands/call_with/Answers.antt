@@ -3,7 +3,7 @@ use Rattle.value_types.specs.declared.value.ScVal.{ScVal}
 use Rattle.value_types.specs.declared.address.ScAddress.TheVariants as addresses
 use Rattle.invoke_types.specs.declared.function.Function.{Function}
 use Rattle.invoke_types.specs.declared.function.Function.TheVariants as functions
-use Rattle.host_ledger.proofs.Emitting.{all_same}
+use Rattle.host_ledger.proofs.Lemmas.{all_same}
 use Rattle.contract_call.proofs.demands.call_with.Goals as goal
 
 pub returns-in-Ok-clause-ok : goal.returns-in-Ok-clause-ok

@@ -6,7 +6,7 @@ use Rattle.object_store.specs.Shown.{shown_of}
 use Rattle.call_spec.specs.Outcomes.{Says}
 use Rattle.call_spec.specs.Frames.{finished}
 use Rattle.host_ledger.specs.Traced.{leaving}
-use Rattle.auth_parts.proofs.Passing.{by_error}
+use Rattle.auth_parts.proofs.Lemmas.{by_error}
 use Rattle.contract_call.proofs.Framing.{write_failed}
 use Rattle.contract_call.proofs.frames.finish.Goals as goal
 

@@ -1,5 +1,5 @@
 use Rattle.host_ledger.specs.Worlds.{copied}
-use Rattle.host_ledger.proofs.Rows.{row}
+use Rattle.host_ledger.proofs.Lemmas.{row}
 use Rattle.contract_call.proofs.rows.upload_in.Goals as goal
 
 pub returns : goal.returns

@@ -1,10 +1,9 @@
-use Rattle.std.proofs.Common.{refl}
 use Rattle.wasm_spec.specs.declared.module.Module.{Module}
 use Rattle.call_spec.specs.Acts.{after, gives}
 use Rattle.call_spec.specs.World.{Copied}
 use Rattle.call_spec.specs.Found.{instance_at}
 use Rattle.host_ledger.specs.Worlds.{copied}
-use Rattle.host_ledger.proofs.Rows.{later_read}
+use Rattle.host_ledger.proofs.Lemmas.{later_read}
 use Rattle.contract_call.specs.Targets.{Target, target, module_at}
 use Rattle.contract_call.proofs.Stepping.{steps_on, steps_stop}
 use Rattle.contract_call.proofs.targets.target_at.Goals as goal

@@ -1,7 +1,7 @@
 use Rattle.std.proofs.Common.{◌<◌, ◌^◌, refl, arith}
 use Rattle.value_types.specs.Datum.{error}
 use Rattle.value_types.specs.declared.error.ScError.TheVariants as errors
-use Rattle.object_store.proofs.SmallHosted.{scalar_hosted}
+use Rattle.object_store.proofs.Lemmas.{scalar_hosted}
 use Rattle.contract_call.proofs.Undoing.{contract_bounded}
 use Rattle.contract_call.proofs.undo.contract_error.Goals as goal
 

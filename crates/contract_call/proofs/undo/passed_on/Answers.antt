@@ -1,6 +1,6 @@
 use Rattle.std.proofs.Common.{refl}
 use Rattle.value_types.specs.Datum.{error}
-use Rattle.object_store.proofs.SmallHosted.{scalar_hosted}
+use Rattle.object_store.proofs.Lemmas.{scalar_hosted}
 use Rattle.call_spec.specs.Errors.{HIDDEN_ERROR}
 use Rattle.contract_call.proofs.Undoing.{hidden_bounded, passed_hidden}
 use Rattle.contract_call.proofs.undo.passed_on.Goals as goal

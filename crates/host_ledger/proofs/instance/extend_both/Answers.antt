@@ -1,4 +1,4 @@
-use Rattle.contract_storage.proofs.Going.{again}
+use Rattle.contract_storage.proofs.Lemmas.{again}
 use Rattle.host_ledger.proofs.Living.{extend_stops, extend_goes}
 use Rattle.host_ledger.proofs.instance.extend_both.Goals as goal
 

@@ -1,5 +1,5 @@
 use Rattle.std.specs.Prelude.{IfSome, IsSomeAnd}
-use Rattle.std.proofs.Common.{◌≡◌, ℕ, List, [], All, Result, Ok, Err, ap, sym, subst, ◌∙◌, arith}
+use Rattle.std.proofs.Common.{◌≡◌, ℕ, List, [], All, None, Result, Ok, Err, ap, sym, subst, ◌∙◌, arith}
 use Rattle.budget_meter.specs.declared.budget.Used.{Used}
 use Rattle.value_types.specs.declared.value.ScVal.{ScVal}
 use Rattle.ledger_types.specs.declared.key.LedgerKey.{LedgerKey}
@@ -9,6 +9,7 @@ use Rattle.host_spec.specs.declared.error.HostErr.{HostErr}
 use Rattle.auth_types.specs.AuthEntry.{auth_entry_format}
 use Rattle.auth_types.specs.declared.auth_entry.AuthEntry.{AuthEntry}
 use Rattle.auth_trees.specs.Demands.{Marked}
+use Rattle.auth_trees.specs.Authorities.{Authorised, by_entries}
 use Rattle.call_spec.specs.World.{next_seq, Authority}
 use Rattle.call_spec.specs.Invoked as spec
 use Rattle.call_spec.specs.Invoked.{by_run}
@@ -38,7 +39,7 @@ returns-in-Ok-clause-done g c =
     let entries = g.G.Ground.map c.args.ground.now in
     let authority = authority_in c.args.authority.now in
     let old = c.new-host.result in
-    let marks : old.marks ≡ record { entries = authority.entries; source = authority.source; pairs = [] } = c.new-host.ensures.marks ∙ c.in_ok-marks.ensures in
+    let marks : old.marks ≡ record { entries = authority.entries; source = authority.source; pairs = []; noted = None } = c.new-host.ensures.marks ∙ ap by_entries c.in_ok-marks.ensures in
     let stored = c.new-host.ensures.storage ∙ c.in_ok-storage.ensures.starts in
     let one = subst (λ (keys : List LedgerKey). IsSomeAnd c.in_ok-storage.storage.declared (IsFootprint keys c.as_slice-2.result.now)) c.as_slice.ensures c.in_ok-storage.ensures.declared in
     let two = subst (λ (keys : List LedgerKey). IsSomeAnd c.in_ok-storage.storage.declared (IsFootprint resources.footprint.read_only keys)) c.as_slice-2.ensures one in
@@ -49,7 +50,8 @@ returns-in-Ok-clause-done g c =
       authority-is = λ i. let a : Authority = record { entries = (marks i).entries; source = (marks i).source; verdicts = c.new-host.ensures.verdicts i } in a;
       map-is = ap (λ (s : Stored). s.map) stored;
       events-is = c.new-host.ensures.events;
-      pairs-is = ap (λ (m : Marked). m.pairs) marks;
+      pairs-is = ap (λ (m : Authorised). m.pairs) marks;
+      noted-is = ap (λ (m : Authorised). m.noted) marks;
       open-is = c.new-host.ensures.contracts;
       function-is = c.new-host.ensures.function;
       args-is = c.new-host.ensures.args;
@@ -66,7 +68,7 @@ returns-in-Err-clause-done g c =
     let entries = g.G.Ground.map c.args.ground.now in
     let authority = authority_in c.args.authority.now in
     let old = c.new-host.result in
-    let marks : old.marks ≡ record { entries = authority.entries; source = authority.source; pairs = [] } = c.new-host.ensures.marks ∙ c.in_ok-marks.ensures in
+    let marks : old.marks ≡ record { entries = authority.entries; source = authority.source; pairs = []; noted = None } = c.new-host.ensures.marks ∙ ap by_entries c.in_ok-marks.ensures in
     let stored = c.new-host.ensures.storage ∙ c.in_ok-storage.ensures.starts in
     let one = subst (λ (keys : List LedgerKey). IsSomeAnd c.in_ok-storage.storage.declared (IsFootprint keys c.as_slice-2.result.now)) c.as_slice.ensures c.in_ok-storage.ensures.declared in
     let two = subst (λ (keys : List LedgerKey). IsSomeAnd c.in_ok-storage.storage.declared (IsFootprint resources.footprint.read_only keys)) c.as_slice-2.ensures one in
@@ -77,7 +79,8 @@ returns-in-Err-clause-done g c =
       authority-is = λ i. let a : Authority = record { entries = (marks i).entries; source = (marks i).source; verdicts = c.new-host.ensures.verdicts i } in a;
       map-is = ap (λ (s : Stored). s.map) stored;
       events-is = c.new-host.ensures.events;
-      pairs-is = ap (λ (m : Marked). m.pairs) marks;
+      pairs-is = ap (λ (m : Authorised). m.pairs) marks;
+      noted-is = ap (λ (m : Authorised). m.noted) marks;
       open-is = c.new-host.ensures.contracts;
       function-is = c.new-host.ensures.function;
       args-is = c.new-host.ensures.args;

@@ -4,7 +4,7 @@ use Rattle.xdr_spec.specs.Format.{list}
 use Rattle.invoke_types.specs.Event.{event_format}
 use Rattle.invoke_types.specs.Success.{success_format}
 use Rattle.invoke_types.specs.declared.event.ContractEvent.{ContractEvent}
-use Rattle.host_frame.proofs.Fitting.{hosted_fits}
+use Rattle.host_frame.proofs.Lemmas.{hosted_fits}
 use Rattle.tx_apply.proofs.call.success_of.Goals as goal
 
 pub returns-clause-fits : goal.returns-clause-fits

@@ -1,11 +1,11 @@
 use Rattle.std.proofs.Common.{sym, ap, subst, ◌∙◌}
 use Rattle.tx_xdr.specs.Transaction.{transaction_format}
 use Rattle.tx_xdr.specs.declared.transaction.Transaction.{Transaction}
-use Rattle.tx_xdr.proofs.Fits.{transaction_in_fits}
+use Rattle.tx_xdr.proofs.Lemmas.{transaction_in_fits}
 use Rattle.tx_results.specs.Report.{has_preimage}
 use Rattle.tx_results.specs.Results.{outcome_in}
 use Rattle.tx_results.specs.declared.results.TransactionResultPair.{TransactionResultPair}
-use Rattle.apply_spec.proofs.Framed.{step_framed}
+use Rattle.apply_spec.proofs.Lemmas.{step_framed}
 use Rattle.tx_apply.specs.Outcomes.{ended}
 use Rattle.tx_apply.specs.Done.{ended_of}
 use Rattle.tx_apply.proofs.Told.{told_done, told_same}

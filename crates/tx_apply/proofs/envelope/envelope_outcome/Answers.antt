@@ -1,8 +1,8 @@
 use Rattle.std.proofs.Common.{sym, subst}
 use Rattle.tx_xdr.specs.Transaction.{transaction_format}
 use Rattle.tx_xdr.specs.declared.transaction.Transaction.{Transaction}
-use Rattle.tx_xdr.proofs.Fits.{transaction_in_fits}
-use Rattle.tx_results.proofs.Fits.{transaction_alone_fits}
+use Rattle.tx_xdr.proofs.Lemmas.{transaction_in_fits}
+use Rattle.tx_results.proofs.Lemmas.{transaction_alone_fits}
 use Rattle.tx_apply.proofs.envelope.envelope_outcome.Goals as goal
 
 pub returns-in-Transaction-clause-fits : goal.returns-in-Transaction-clause-fits

@@ -1,6 +1,6 @@
 use Rattle.std.proofs.Common.{pos, arith}
 use Rattle.tx_results.specs.declared.results.InnerTransactionResultPair.{InnerTransactionResultPair}
-use Rattle.tx_results.proofs.Fits.{inner_pair_fits, inner_success_fits, inner_failed_fits}
+use Rattle.tx_results.proofs.Lemmas.{inner_failed_fits, inner_pair_fits, inner_success_fits}
 use Rattle.tx_apply.proofs.envelope.fee_bump_outcome.Goals as goal
 
 pub returns-then-succeeded-clause-fits : goal.returns-then-succeeded-clause-fits

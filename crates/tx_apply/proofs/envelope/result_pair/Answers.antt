@@ -1,6 +1,6 @@
 use Rattle.std.proofs.Common.{pos, arith}
 use Rattle.tx_results.specs.declared.results.TransactionResultPair.{TransactionResultPair}
-use Rattle.tx_results.proofs.Fits.{pair_fits}
+use Rattle.tx_results.proofs.Lemmas.{pair_fits}
 use Rattle.tx_apply.proofs.envelope.result_pair.Goals as goal
 
 pub returns-clause-fits : goal.returns-clause-fits

@@ -1,7 +1,7 @@
 use Rattle.std.proofs.Common.{◌≡◌, ℕ, arith, refl, sym, ap, ◌∙◌, take}
 use Rattle.std.proofs.Math.Seq.{take-length}
 use Rattle.list_laws.specs.Twice.{stand_twice}
-use Rattle.list_laws.proofs.Twice.{found_twice, none_twice, still_holds}
+use Rattle.list_laws.proofs.Lemmas.{found_twice, none_twice, still_holds}
 use Rattle.tx_apply.specs.Spellings.{items_of, bytes_of}
 use Rattle.tx_apply.proofs.footprint.has_twice.Goals as goal
 

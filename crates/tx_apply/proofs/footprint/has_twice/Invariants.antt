@@ -1,6 +1,6 @@
 use Rattle.std.proofs.Common.{◌≡◌, take, false}
 use Rattle.list_laws.specs.Twice.{stand_twice}
-use Rattle.list_laws.proofs.Twice.{Holds}
+use Rattle.list_laws.proofs.Lemmas.{Holds}
 use Rattle.tx_apply.specs.Spellings.{bytes_of}
 use Rattle.tx_apply.proofs.footprint.has_twice.Given as goal
 

@@ -1,4 +1,4 @@
-use Rattle.contract_storage.proofs.Sound.{kept_below}
+use Rattle.contract_storage.proofs.Lemmas.{kept_below}
 use Rattle.tx_apply.proofs.reading.look.Goals as goal
 
 pub returns-clause-kept : goal.returns-clause-kept

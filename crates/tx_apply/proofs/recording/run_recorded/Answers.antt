@@ -1,8 +1,10 @@
-use Rattle.std.proofs.Common.{◌≡◌, ℕ, List, [], All, ap, sym, subst, ◌∙◌, arith}
+use Rattle.std.proofs.Common.{◌≡◌, ℕ, List, [], All, None, refl, ap, sym, subst, ◌∙◌, arith}
 use Rattle.auth_types.specs.AuthEntry.{auth_entry_format}
 use Rattle.auth_types.specs.declared.auth_entry.AuthEntry.{AuthEntry}
 use Rattle.auth_trees.specs.Demands.{Marked}
+use Rattle.auth_trees.specs.Authorities.{Authorised, by_entries}
 use Rattle.contract_storage.specs.Stored.{Stored}
+use Rattle.host_ledger.specs.Traced.{IsRecorded}
 use Rattle.call_spec.specs.World.{Authority}
 use Rattle.contract_call.specs.Placed.{IsPathFor}
 use Rattle.tx_apply.specs.Authorities.{authority_in}
@@ -22,19 +24,20 @@ returns-clause-needs g c =
     let header = c.args.header.now in
     let entries = g.G.Ground.map c.args.ground.now in
     let authority = authority_in c.args.authority.now in
-    let marks : c.new-host.result.marks ≡ record { entries = authority.entries; source = authority.source; pairs = [] } = c.new-host.ensures.marks ∙ c.in_ok-marks.ensures in
+    let marks : c.new-host.result.marks ≡ record { entries = authority.entries; source = authority.source; pairs = []; noted = None } = c.new-host.ensures.marks ∙ ap by_entries c.in_ok-marks.ensures in
     let stored = c.new-host.ensures.storage ∙ c.recording-storage.ensures in
     run_needs c.new-host.result c.run_job-end.new.host header authority c.args.budget entries (work_in c.args.job.now) c.run_job-end.result (record {
       header-is = c.new-host.ensures.header;
       authority-is = λ i. let a : Authority = record { entries = (marks i).entries; source = (marks i).source; verdicts = c.new-host.ensures.verdicts i } in a;
       map-is = ap (λ (s : Stored). s.map) stored;
       events-is = c.new-host.ensures.events;
-      pairs-is = ap (λ (m : Marked). m.pairs) marks;
+      pairs-is = ap (λ (m : Authorised). m.pairs) marks;
+      noted-is = ap (λ (m : Authorised). m.noted) marks;
       open-is = c.new-host.ensures.contracts;
       function-is = c.new-host.ensures.function;
       args-is = c.new-host.ensures.args;
       path-is = c.new-host.ensures.path;
       begun-is = c.new-host.ensures.begun;
       meter-is = c.new-host.ensures.budget;
-    }) (ap (λ (s : Stored). s.declared) stored) (ap (λ (s : Stored). s.touched) stored) c.run_job-end.ensures.recorded
+    }) (ap (λ (s : Stored). s.declared) stored) (subst (λ (s : Stored). IsRecorded s []) (sym stored) refl) c.run_job-end.ensures.recorded
     c.needs_after.result c.needs_after.ensures.ended c.needs_after.ensures.footprint c.needs_after.ensures.used

@@ -2,7 +2,7 @@ use Rattle.std.proofs.Common.{◌≡◌, sym, ap, ap₂, subst, ◌∙◌}
 use Rattle.tx_xdr.specs.Envelope.{transaction_in}
 use Rattle.tx_xdr.specs.Transaction.{transaction_format}
 use Rattle.tx_xdr.specs.declared.transaction.Transaction.{Transaction}
-use Rattle.tx_xdr.proofs.Fits.{transaction_in_fits}
+use Rattle.tx_xdr.proofs.Lemmas.{transaction_in_fits}
 use Rattle.apply_spec.specs.Simulated.{with_footprint, needs}
 use Rattle.tx_apply.specs.Done.{effect_of}
 use Rattle.tx_apply.specs.Needed.{needs_in}

@@ -2,7 +2,7 @@ use Rattle.std.proofs.Common.{[], ◌∷◌, sym, subst, ◌∙◌, List}
 use Rattle.ledger_types.specs.declared.key.LedgerKey.{LedgerKey}
 use Rattle.tx_results.specs.declared.results.TransactionOutcome.TheVariants.{Failed}
 use Rattle.tx_apply.specs.Outcomes.{without_effect}
-use Rattle.tx_apply.proofs.Declared.{AreSpelled}
+use Rattle.stage_runs.proofs.Lemmas.{AreSpelled}
 use Rattle.tx_apply.proofs.Effects.{extend_malformed_can, extend_done_can}
 use Rattle.tx_apply.proofs.Mapped.{can_from}
 use Rattle.tx_apply.proofs.transaction.extend.Goals as goal
