@@ -1,0 +1,10 @@
+pub mod Entry
+pub mod Change
+pub mod Log
+pub mod Groups
+pub mod Read
+pub mod Play
+pub mod Views
+pub mod Fits
+pub mod Keys
+pub mod Laws
