@@ -262,6 +262,41 @@ def generated_applied(count, seed, time):
     return applied_text(101, int(count), generated_report(count, seed), generated_next(count, seed, time))
 
 
+# ---- what `build` makes of those transactions
+
+
+def generated_list(count, seed):
+    """The list of the transactions, in the order in which they were drawn."""
+    return array([envelope(bump_transaction(index + 1, number)) for index, number in enumerate(drawn(int(count), int(seed)))])
+
+
+@functools.lru_cache(maxsize=2)
+def built_stage(count, seed, most):
+    """The only stage of the built set. Calls conflict if they are of one contract, so no call conflicts with two clusters."""
+    clusters, cluster_of = [], {}
+    for index, number in enumerate(drawn(count, seed)):
+        if number not in cluster_of:
+            if len(clusters) < most:
+                clusters.append([])
+                cluster_of[number] = len(clusters) - 1
+            else:
+                cluster_of[number] = min(range(most), key=lambda cluster: len(clusters[cluster]))
+        clusters[cluster_of[number]].append(bump_transaction(index + 1, number))
+    return clusters
+
+
+def built_set(count, seed, most):
+    return set_file([built_stage(int(count), int(seed), int(most))])
+
+
+def built_report(count, seed, most):
+    return report_file([(it, BUMPED) for cluster in built_stage(int(count), int(seed), int(most)) for it in cluster])
+
+
+def built_applied(count, seed, most, time):
+    return applied_text(101, int(count), built_report(count, seed, most), generated_next(count, seed, time))
+
+
 def base64(maker, *words):
     """The text of what another function makes."""
     return base64_text.b64encode(globals()[maker](*words)) + b"\n"

@@ -65,6 +65,16 @@ gen_app =
     (with_option (codes "ledger")
     (with_option (codes "set") (with_option (codes "seed") (with_option (codes "count") (new_app (codes "gen"))))))
 
+-- build --list FILE --clusters COUNT --set FILE
+unfoldable pub build_app : App
+build_app = with_option (codes "set") (with_option (codes "clusters") (with_option (codes "list") (new_app (codes "build"))))
+
+-- play --log FILE --ledger FILE --ledger-out FILE --back 0|1
+unfoldable pub play_app : App
+play_app =
+    with_option (codes "back")
+    (with_option (codes "ledger-out") (with_option (codes "ledger") (with_option (codes "log") (new_app (codes "play")))))
+
 -- the program before it has commands: without help, and without its own name among the words
 abbrev pub bare_app : App
 bare_app =
@@ -81,5 +91,7 @@ soroban_app =
     with_subcommand
     (with_subcommand
     (with_subcommand
+    (with_subcommand
+    (with_subcommand
     (with_subcommand (with_subcommand (with_subcommand bare_app apply_app.top) simulate_app.top) show_app.top) vet_app.top)
-    migrate_app.top) gen_app.top
+    migrate_app.top) gen_app.top) build_app.top) play_app.top

@@ -1,6 +1,6 @@
 -- The values of options (own).
 use Rattle.std.specs.Prelude.{ℕ, ◌^◌, ◌-◌, Bool, true, false, ◌&&◌, not, ◌==◌, List, [], ◌∷◌, length, Option, Some, None, nat_le}
-use Rattle.std.specs.Prelude.{if◌then◌else◌, codes}
+use Rattle.std.specs.Prelude.{if◌then◌else◌, codes, option_map}
 use Rattle.std.specs.List.{list_any}
 use Rattle.std.specs.Str.{all_ascii_digits, bytes_eq}
 use Rattle.std.specs.Str.Parse.{digits_value}
@@ -37,6 +37,14 @@ workers_in = number_in 1 64
 -- from 1 to 100,000
 abbrev pub count_in : Text → Option ℕ
 count_in = number_in 1 100000
+
+-- from 1 to 1,024
+abbrev pub clusters_in : Text → Option ℕ
+clusters_in = number_in 1 1024
+
+-- 1 says that a log is played backwards, 0 that it is not
+abbrev pub back_in : Text → Option Bool
+back_in text = option_map (λ n. n == 1) (number_in 0 1 text)
 
 -- one of four words
 abbrev pub kind_in : Text → Option ShowKind

@@ -7,10 +7,12 @@ use Rattle.clap.specs.Kinds.{Kinds}
 use Rattle.clap.specs.Simple.{subcommand_of}
 use Rattle.clap.specs.Walk.{Row, Text, first_of}
 use Rattle.command_words.specs.Commands.{soroban_app}
-use Rattle.command_words.specs.Values.{all_steps, are_names, count_in, is_set, kind_in, number64_in, with_name, workers_in}
+use Rattle.command_words.specs.Values.{all_steps, are_names, back_in, clusters_in, count_in, is_set, kind_in, number64_in}
+use Rattle.command_words.specs.Values.{with_name}
+use Rattle.command_words.specs.Values.{workers_in}
 use Rattle.command_words.specs.declared.request.Request.{Request}
 use Rattle.command_words.specs.declared.request.ScheduleOptions.{ScheduleOptions}
-use Rattle.command_words.specs.declared.request.Request.TheVariants.{Apply, Simulate, Show, Vet, Migrate, Gen}
+use Rattle.command_words.specs.declared.request.Request.TheVariants.{Apply, Simulate, Show, Vet, Migrate, Gen, Build, Play}
 
 infixl 10 ◌>>=◌
 abbrev ◌>>=◌ : {A B : Type 0} → Option A → (A → Option B) → Option B
@@ -111,10 +113,30 @@ gen_from rows = do
   _ ← guard (are_names (set ∷ ledger ∷ verdicts ∷ []))
   Some (Gen (record { count = count; seed = seed; set = set; ledger = ledger; verdicts = verdicts }))
 
+-- build, with the values of its options
+abbrev pub build_from : List Row → Option Request
+build_from rows = do
+  list ← first_of (codes "list") rows
+  clusters ← option_and_then clusters_in (first_of (codes "clusters") rows)
+  set ← first_of (codes "set") rows
+  _ ← guard (are_names (list ∷ set ∷ []))
+  Some (Build (record { list = list; clusters = clusters; set = set }))
+
+-- play, with the values of its options
+abbrev pub play_from : List Row → Option Request
+play_from rows = do
+  log ← first_of (codes "log") rows
+  ledger ← first_of (codes "ledger") rows
+  ledger_out ← first_of (codes "ledger-out") rows
+  back ← option_and_then back_in (first_of (codes "back") rows)
+  _ ← guard (are_names (log ∷ ledger ∷ ledger_out ∷ []))
+  Some (Play (record { log = log; ledger = ledger; ledger_out = ledger_out; back = back }))
+
 -- the numbers of a request are in their ranges
 abbrev pub IsInRange : Request → Type 0
 IsInRange (Apply a) = (1 ≤ a.workers) × (a.workers ≤ 64)
 IsInRange (Gen g) = (1 ≤ g.count) × (g.count ≤ 100000)
+IsInRange (Build b) = (1 ≤ b.clusters) × (b.clusters ≤ 1024)
 IsInRange _ = ⊤
 
 -- the command of a subcommand's matches
@@ -125,7 +147,9 @@ asked_from (Some found) = if bytes_eq found.0 (codes "apply") then apply_from fo
     else (if bytes_eq found.0 (codes "show") then show_from found.1
     else (if bytes_eq found.0 (codes "vet") then vet_from found.1
     else (if bytes_eq found.0 (codes "migrate") then migrate_from found.1
-    else (if bytes_eq found.0 (codes "gen") then gen_from found.1 else None)))))
+    else (if bytes_eq found.0 (codes "gen") then gen_from found.1
+    else (if bytes_eq found.0 (codes "build") then build_from found.1
+    else (if bytes_eq found.0 (codes "play") then play_from found.1 else None)))))))
 
 -- clap finds no fault
 abbrev pub are_right : Kinds → Bool

@@ -4,9 +4,10 @@ ghost use Rattle.std.specs.Prelude.{◌≡◌, false, IfOk};
 ghost use Rattle.clap.specs.Simple.{app_of, new_app, with_rule, with_subcommand};
 ghost use Rattle.clap.specs.Walk.{rule_of};
 ghost use Rattle.clap.specs.declared.builder.command.Command.TheViews.{out-Command as fields_of};
-ghost use Rattle.command_words.specs.Commands.{apply_app, bare_app, flag_rule, gen_app, migrate_app, option_rule, optional_rule};
-ghost use Rattle.command_words.specs.Commands.{show_app, simulate_app, soroban_app, vet_app, with_flag, with_option};
-ghost use Rattle.command_words.specs.Commands.{with_optional};
+ghost use Rattle.command_words.specs.Commands.{apply_app, bare_app, build_app, flag_rule, gen_app, migrate_app, option_rule};
+ghost use Rattle.command_words.specs.Commands.{play_app};
+ghost use Rattle.command_words.specs.Commands.{optional_rule, show_app, simulate_app, soroban_app, vet_app, with_flag};
+ghost use Rattle.command_words.specs.Commands.{with_option, with_optional};
 
 use clap::{Arg, ArgAction, Command};
 use std::alloc::{AllocError, Global};
@@ -21,6 +22,8 @@ pub fn soroban_command<'a>(alloc: Global) -> Result<Command<'a>, AllocError>
     let command = with_command(command, vet_command(alloc)?)?;
     let command = with_command(command, migrate_command(alloc)?)?;
     let command = with_command(command, gen_command(alloc)?)?;
+    let command = with_command(command, build_command(alloc)?)?;
+    let command = with_command(command, play_command(alloc)?)?;
     Ok(command)
 }
 
@@ -98,6 +101,30 @@ fn gen_command<'a>(alloc: Global) -> Result<Command<'a>, AllocError>
     let command = with_options(command, alloc, "count", "seed", "set")?;
     let command = with_option(command, alloc, "ledger")?;
     with_option(command, alloc, "verdicts")
+}
+
+#[tactic(auto, unfolding(crate::specs::Commands::build_app))]
+fn build_command<'a>(alloc: Global) -> Result<Command<'a>, AllocError>
+    ensures app { IfOk result (λ c. app_of c ≡ build_app) }
+    ensures local { IfOk result (λ c. (fields_of c).has_globals ≡ false) }
+{
+    with_options(
+        Command::new(alloc, "build"),
+        alloc,
+        "list",
+        "clusters",
+        "set",
+    )
+}
+
+#[tactic(auto, unfolding(crate::specs::Commands::play_app))]
+fn play_command<'a>(alloc: Global) -> Result<Command<'a>, AllocError>
+    ensures app { IfOk result (λ c. app_of c ≡ play_app) }
+    ensures local { IfOk result (λ c. (fields_of c).has_globals ≡ false) }
+{
+    let command = Command::new(alloc, "play");
+    let command = with_options(command, alloc, "log", "ledger", "ledger-out")?;
+    with_option(command, alloc, "back")
 }
 
 fn with_command<'a>(

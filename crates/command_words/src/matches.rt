@@ -5,14 +5,14 @@ ghost use Rattle.clap.specs.Matches.{found_of};
 ghost use Rattle.clap.specs.Simple.{subcommand_rows_of};
 ghost use Rattle.clap.specs.Walk.{first_of, rows_of};
 ghost use Rattle.command_words.specs.Answers.{ReadsWords};
-ghost use Rattle.command_words.specs.Values.{is_set, kind_in, number_in};
-ghost use Rattle.command_words.specs.Words.{IsInRange, apply_from, asked_from, gen_from, migrate_from, schedule_from, show_from};
-ghost use Rattle.command_words.specs.Words.{simulate_from, vet_from};
+ghost use Rattle.command_words.specs.Values.{back_in, is_set, kind_in, number_in};
+ghost use Rattle.command_words.specs.Words.{IsInRange, apply_from, asked_from, build_from, gen_from, migrate_from, schedule_from};
+ghost use Rattle.command_words.specs.Words.{play_from, show_from, simulate_from, vet_from};
 
 use crate::values::{are_names, are_names_with, kind_in, number_in};
 use crate::{
-    ApplyRequest, GenRequest, MigrateRequest, Request, ScheduleOptions, ShowKind, ShowRequest,
-    SimulateRequest, VetRequest, WordsErr,
+    ApplyRequest, BuildRequest, GenRequest, MigrateRequest, PlayRequest, Request, ScheduleOptions,
+    ShowKind, ShowRequest, SimulateRequest, VetRequest, WordsErr,
 };
 use clap::ArgMatches;
 use edge_io::Word;
@@ -22,6 +22,9 @@ const MAX_WORKERS: u64 = 64;
 
 /// The largest number of transactions that `gen` makes.
 const MAX_COUNT: u64 = 100_000;
+
+/// The largest number of clusters of a stage of a built set.
+const MAX_CLUSTERS: u64 = 1024;
 
 /// The request of the command that clap found.
 pub fn request_from(alloc: Global, matches: &ArgMatches<'_>) -> Result<Request, WordsErr>
@@ -38,6 +41,8 @@ pub fn request_from(alloc: Global, matches: &ArgMatches<'_>) -> Result<Request, 
         "vet" => vet_request(alloc, found),
         "migrate" => migrate_request(alloc, found),
         "gen" => gen_request(alloc, found),
+        "build" => build_request(alloc, found),
+        "play" => play_request(alloc, found),
         _ => Err(WordsErr::Usage),
     }
 }
@@ -179,6 +184,50 @@ fn gen_request(alloc: Global, found: &ArgMatches<'_>) -> Result<Request, WordsEr
         ledger,
         verdicts,
     }))
+}
+
+fn build_request(alloc: Global, found: &ArgMatches<'_>) -> Result<Request, WordsErr>
+    ensures request { ReadsWords result (build_from (rows_of (found_of found.now))) }
+    ensures range { IfOk result IsInRange }
+{
+    let list = value_of(alloc, found, "list")?;
+    let clusters = number_of(found, "clusters", 1, MAX_CLUSTERS)?;
+    let set = value_of(alloc, found, "set")?;
+    if !are_names(&[&list, &set]) {
+        return Err(WordsErr::Usage);
+    }
+    Ok(Request::Build(BuildRequest {
+        list,
+        clusters,
+        set,
+    }))
+}
+
+fn play_request(alloc: Global, found: &ArgMatches<'_>) -> Result<Request, WordsErr>
+    ensures request { ReadsWords result (play_from (rows_of (found_of found.now))) }
+    ensures range { IfOk result IsInRange }
+{
+    let log = value_of(alloc, found, "log")?;
+    let ledger = value_of(alloc, found, "ledger")?;
+    let ledger_out = value_of(alloc, found, "ledger-out")?;
+    let back = back_of(found, "back")?;
+    if !are_names(&[&log, &ledger, &ledger_out]) {
+        return Err(WordsErr::Usage);
+    }
+    Ok(Request::Play(PlayRequest {
+        log,
+        ledger,
+        ledger_out,
+        back,
+    }))
+}
+
+/// The value of an option, as 1 or 0.
+fn back_of(found: &ArgMatches<'_>, id: &str) -> Result<bool, WordsErr>
+    ensures { ReadsWords result (option_and_then back_in (first_of id.now (rows_of (found_of found.now)))) }
+{
+    let number = number_of(found, id, 0, 1)?;
+    Ok(number == 1)
 }
 
 /// Whether an option is given.

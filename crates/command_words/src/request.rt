@@ -98,6 +98,30 @@ pub struct GenRequest {
     pub verdicts: Word,
 }
 
+/// The options of `build`.
+#[derive(Debug, Drop)]
+pub struct BuildRequest {
+    /// The file of the envelopes.
+    pub list: Word,
+    /// The largest number of clusters of a stage, from 1 to 1,024.
+    pub clusters: u64,
+    /// The file that gets the transaction set.
+    pub set: Word,
+}
+
+/// The options of `play`.
+#[derive(Debug, Drop)]
+pub struct PlayRequest {
+    /// The file of the change log.
+    pub log: Word,
+    /// The file of the ledger that the log is played on.
+    pub ledger: Word,
+    /// The file that gets the ledger that the log leads to.
+    pub ledger_out: Word,
+    /// Whether the log is played backwards.
+    pub back: bool,
+}
+
 /// A command, with its options.
 #[derive(Debug, Drop)]
 pub enum Request {
@@ -107,4 +131,6 @@ pub enum Request {
     Vet(VetRequest),
     Migrate(MigrateRequest),
     Gen(GenRequest),
+    Build(BuildRequest),
+    Play(PlayRequest),
 }

@@ -1,6 +1,6 @@
 -- The order in which a set runs, and sets that run by a schedule.
 use Rattle.std.specs.List.{AllByRecursion}
-use Rattle.std.proofs.Common.{◌≡◌, ◌≤◌, ℕ, List, Option, Some, None, Result, Ok, Err, refl, sym, ap, ◌∙◌}
+use Rattle.std.proofs.Common.{◌≡◌, ◌≤◌, ℕ, List, Option, Some, None, Result, Ok, Err, refl, sym, ap}
 use Rattle.apply_spec.specs.Outputs.{outputs_after}
 use Rattle.apply_spec.specs.Runs.{new_header}
 use Rattle.command_words.specs.declared.request.ScheduleOptions.{ScheduleOptions}
@@ -10,12 +10,11 @@ use Rattle.ledger_types.specs.declared.header.Header.{Header}
 use Rattle.ledger_types.specs.declared.verdicts.Verdicts.{Verdicts}
 use Rattle.schedule_runs.specs.Plans.{first_incomplete, steps_of}
 use Rattle.schedule_runs.specs.Schedule.{schedule_format, schedule_lawful}
-use Rattle.schedule_runs.proofs.Few.{few_steps}
-use Rattle.schedule_runs.proofs.Stopping.{whole_set}
+use Rattle.schedule_runs.proofs.Lemmas.{few_steps, whole_set}
 use Rattle.stage_runs.specs.Conflicts.{IsFirstConflict}
 use Rattle.stage_runs.specs.Runs.{HasNoConflict}
 use Rattle.tx_xdr.specs.declared.set.TxSet.{TxSet}
-use Rattle.xdr_spec.proofs.Decoding.{spells_decoded}
+use Rattle.xdr_spec.proofs.Lemmas.{spells_decoded}
 use Rattle.soroban_top.specs.FirstConflict.{stages_in}
 use Rattle.soroban_top.specs.Laws.{AllStepsLaw, CanRun, IsScheduled}
 use Rattle.soroban_top.specs.Scheduled.{complete_for, may_run, scheduled_at, outputs_of, outputs_stopped, schedule_in, unless_incomplete}

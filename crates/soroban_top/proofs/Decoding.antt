@@ -16,8 +16,7 @@ use Rattle.ledger_spec.specs.declared.LedgerRefusal.{LedgerRefusal}
 use Rattle.soroban_top.specs.Counts.{IsOfBytes}
 use Rattle.soroban_top.specs.Judged.{as_ledger, as_spelled, unread, unread_ledger}
 use Rattle.soroban_top.specs.Steps.{Gives}
-use Rattle.xdr_spec.proofs.Decoding.{decoded_refuses, decoded_spells}
-use Rattle.xdr_spec.proofs.Refused.{not_both, one_refusal}
+use Rattle.xdr_spec.proofs.Lemmas.{decoded_refuses, decoded_spells, not_both, one_refusal}
 
 xdr_err : ℕ → Why → XdrErr
 xdr_err at why = record { at = at; why = why }

@@ -21,7 +21,7 @@ use Rattle.xdr_spec.specs.Format.{IsBytes}
 use Rattle.xdr_spec.specs.Refusal.{Refuses}
 use Rattle.xdr_spec.specs.declared.Why.{Why}
 use Rattle.xdr_spec.specs.declared.XdrErr.{XdrErr}
-use Rattle.xdr_spec.proofs.Decoding.{decoded_refuses, spells_decoded}
+use Rattle.xdr_spec.proofs.Lemmas.{decoded_refuses, spells_decoded}
 use Rattle.soroban_top.specs.FirstConflict.{FoundConflict, first_conflict, free_of_conflict, stages_in, unless_found}
 use Rattle.soroban_top.specs.Judged.{as_verdicts, envelope_in, set_in, verdicts_in}
 use Rattle.soroban_top.specs.Laws.{CanRun, ConflictLaw, DoneLaw, IncompleteLaw, IsIncompleteAt, MalformedLaw, ScheduleLaw, SimulateDoneLaw, SimulateMalformedLaw, SimulateVerdictsLaw, VerdictsLaw}

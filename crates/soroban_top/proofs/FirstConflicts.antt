@@ -15,8 +15,7 @@ use Rattle.stage_runs.specs.Maps.{Bytes, LedgerKey, key_bytes, has_bytes}
 use Rattle.stage_runs.specs.Transactions.{declared_by, writes, declares}
 use Rattle.stage_runs.specs.Runs.{Cluster, Stage, writes_in, declares_in, HasNoConflict}
 use Rattle.stage_runs.specs.Conflicts.{meet_at, IsConflict, IsNotAfter, IsLeastConflict, IsFirstConflict}
-use Rattle.stage_runs.proofs.Conflicts.{free_from, none_from}
-use Rattle.stage_runs.proofs.Points.{both_first, both_second, left_true, one_true, right_true}
+use Rattle.stage_runs.proofs.Lemmas.{both_first, both_second, free_from, left_true, none_from, one_true, right_true}
 use Rattle.soroban_top.specs.FirstConflict.{FoundConflict, first_conflict, first_in, first_with, in_stage, keys_of, bytes_declared, least_meeting, least_of, lesser, stage_later}
 use Rattle.soroban_top.specs.ConflictLaws.{FirstConflictLaw, NoConflictLaw}
 

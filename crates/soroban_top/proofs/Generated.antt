@@ -10,15 +10,13 @@ use Rattle.ledger_file.specs.FileOf.{IsFileOf}
 use Rattle.ledger_spec.specs.LedgerFile.{ledger_bytes}
 use Rattle.ledger_spec.specs.LedgerMap.{HasCodeHash, IsKeptAt, IsLedgerMap, LedgerMap, key_bytes}
 use Rattle.ledger_spec.specs.declared.Kept.{Kept}
-use Rattle.ledger_spec.proofs.Keeping.{inserted}
+use Rattle.ledger_spec.proofs.Lemmas.{inserted}
 use Rattle.ledger_types.specs.Entry.{entry_format, key_of}
 use Rattle.ledger_types.specs.Verdicts.{verdicts_format}
 use Rattle.set_generator.specs.GeneratedFiles.{generated_files}
 use Rattle.set_generator.specs.GeneratedLedger.{code_entry, counter_of, entries_for, generated_entries, generated_header, instance_of, with_entry}
 use Rattle.set_generator.specs.GeneratedSet.{generated_set, stage_at, stage_count}
-use Rattle.set_generator.proofs.Entries.{entries_at_first, entries_next}
-use Rattle.set_generator.proofs.LedgerFits.{code_fits, code_hashed, counter_fits, header_fits, instance_fits}
-use Rattle.set_generator.proofs.SetFits.{generated_set_fits}
+use Rattle.set_generator.proofs.Lemmas.{code_fits, code_hashed, counter_fits, entries_at_first, entries_next, generated_set_fits, header_fits, instance_fits}
 use Rattle.tx_xdr.specs.Set.{set_format}
 use Rattle.tx_xdr.specs.Stages.{stages_of}
 use Rattle.xdr_spec.specs.Format.{list}

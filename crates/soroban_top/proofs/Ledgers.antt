@@ -4,14 +4,12 @@ use Rattle.std.specs.FinMap.{get}
 use Rattle.apply_spec.specs.Outputs.{Outputs}
 use Rattle.apply_spec.specs.Runs.{running_header}
 use Rattle.apply_spec.specs.Simulated.{simulated as simulated_in}
-use Rattle.apply_spec.proofs.Framed.{step_framed}
+use Rattle.apply_spec.proofs.Lemmas.{step_framed}
 use Rattle.command_words.specs.declared.request.ApplyRequest.{ApplyRequest}
 use Rattle.command_words.specs.declared.request.ScheduleOptions.{ScheduleOptions}
 use Rattle.edge_io.specs.Contents.{FileMap}
 use Rattle.ledger_file.specs.FileOf.{IsFileOf}
-use Rattle.ledger_file.proofs.FromFile.{file_read}
-use Rattle.ledger_file.proofs.Refused.{xdr_refused}
-use Rattle.ledger_file.proofs.ToFile.{file_is_read}
+use Rattle.ledger_file.proofs.Lemmas.{file_is_read, file_read, xdr_refused}
 use Rattle.ledger_spec.specs.LedgerFile.{ledger_of, refusal}
 use Rattle.ledger_spec.specs.LedgerMap.{LedgerMap}
 use Rattle.ledger_spec.specs.declared.LedgerRefusal.{LedgerRefusal}
@@ -29,7 +27,7 @@ use Rattle.tx_xdr.specs.declared.set.TxSet.{TxSet}
 use Rattle.xdr_spec.specs.Format.{IsBytes}
 use Rattle.xdr_spec.specs.Refusal.{Refuses}
 use Rattle.xdr_spec.specs.declared.Why.{Why}
-use Rattle.xdr_spec.proofs.Decoding.{spells_decoded}
+use Rattle.xdr_spec.proofs.Lemmas.{spells_decoded}
 use Rattle.soroban_top.specs.FirstConflict.{free_of_conflict, stages_in}
 use Rattle.soroban_top.specs.Judged.{as_ledger, envelope_in, ledger_at, ledger_in, set_at, set_in, verdicts_at, verdicts_in}
 use Rattle.soroban_top.specs.Laws.{AppliedLaw, CanRun, found, IsFree, IsScheduled, IsSpelledIn, LedgerDoneLaw, LedgerLaw, LedgerShownLaw, MigrateDoneLaw, MigrateLaw, MigrateRefusedLaw, NoLedgerLaw, SimulateEnforcedLaw, SimulateLaw, SimulateLedgerLaw, SimulateNoLedgerLaw, StoppedLaw, WholeLaw}

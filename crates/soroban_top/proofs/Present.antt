@@ -5,7 +5,7 @@ use Rattle.std.specs.FinMap.{get}
 use Rattle.base64_text.specs.Text.{bytes_in}
 use Rattle.command_words.specs.declared.request.Request.{Request}
 use Rattle.command_words.specs.declared.request.ScheduleOptions.{ScheduleOptions}
-use Rattle.command_words.specs.declared.request.Request.TheVariants.{Apply, Simulate, Show, Vet, Migrate, Gen}
+use Rattle.command_words.specs.declared.request.Request.TheVariants.{Apply, Simulate, Show, Vet, Migrate, Gen, Build, Play}
 use Rattle.command_words.specs.declared.request.ShowKind.{ShowKind}
 use Rattle.command_words.specs.declared.request.ShowKind.TheVariants as kinds
 use Rattle.edge_io.specs.Contents.{Contents, FileMap}
@@ -19,6 +19,7 @@ use Rattle.module_vet.specs.declared.Sizes.{Sizes}
 use Rattle.schedule_runs.specs.Plans.{first_incomplete}
 use Rattle.schedule_runs.specs.Schedule.{schedule_format}
 use Rattle.schedule_runs.specs.declared.schedule.Schedule.{Schedule}
+use Rattle.set_build.specs.Built.{envelopes_format}
 use Rattle.tx_xdr.specs.Set.{set_format}
 use Rattle.tx_xdr.specs.Envelope.{envelope_format}
 use Rattle.tx_xdr.specs.declared.set.TxSet.{TxSet}
@@ -31,6 +32,15 @@ use Rattle.soroban_top.specs.Judged.{AreThere, as_bytes, as_ledger, as_spelled, 
 use Rattle.soroban_top.specs.Migrated.{any_ledger_at}
 use Rattle.soroban_top.specs.Scheduled.{as_schedule, complete_for, may_run, scheduled_at, schedule_at, schedule_in, unless_incomplete}
 use Rattle.soroban_top.specs.Outcome.{due}
+use Rattle.change_log.specs.Log.{log_format}
+use Rattle.change_log.specs.Play.{played}
+use Rattle.change_log.specs.declared.error.ListIndex.{ListIndex}
+use Rattle.change_log.specs.declared.log.Log.{Log}
+use Rattle.ledger_spec.specs.LedgerMap.{LedgerMap}
+use Rattle.ledger_types.specs.declared.header.Header.{Header}
+use Rattle.soroban_top.specs.Product.{File, file}
+use Rattle.soroban_top.specs.Replayed.{log_at, log_in, played_ledger_at, played_to, replayed}
+use Rattle.soroban_top.specs.SetBuilt.{list_at, list_in}
 use Rattle.soroban_top.specs.Shown.{any_ledger_in, shown, shown_at, shown_opened, value_in}
 use Rattle.soroban_top.specs.Steps.{◌>>=◌, UnlessFault, status_of}
 use Rattle.soroban_top.specs.Vetted.{as_vetted, vetted, vetted_at}
@@ -78,6 +88,10 @@ any_ledger_judged bytes = as_ledger_judged (ledger_of false bytes)
 verdicts_judged : (bytes : List ℕ) → IsNoFault (status_of (verdicts_in bytes))
 unfolding verdicts_in
 verdicts_judged bytes = as_verdicts_judged (decoded verdicts_format bytes)
+
+list_judged : (bytes : List ℕ) → IsNoFault (status_of (list_in bytes))
+unfolding list_in
+list_judged bytes = as_spelled_judged (decoded envelopes_format bytes)
 
 set_judged : (bytes : List ℕ) → IsNoFault (status_of (set_in bytes))
 unfolding set_in
@@ -158,6 +172,22 @@ scheduled_judged : (m : FileMap) (options : Option ScheduleOptions) → AreThere
 scheduled_judged m None there = tt
 scheduled_judged m (Some options) there = both (schedule_at m options.file) _ (judged m options.file schedule_in there.0 schedule_judged) (λ s. tt)
 
+log_judged : (bytes : List ℕ) → IsNoFault (status_of (log_in bytes))
+unfolding log_in
+log_judged bytes = as_spelled_judged (decoded log_format bytes)
+
+played_ledger_judged : (m : FileMap) (back : Bool) (name : List ℕ) → IsSome (get m name) → IsNoFault (status_of (played_ledger_at m back name))
+played_ledger_judged m false name there = judged m name ledger_in there ledger_judged
+played_ledger_judged m true name there = judged m name any_ledger_in there any_ledger_judged
+
+played_to_judged : (file : File) (stages : ℕ) (r : Result (Header × LedgerMap) (Option ListIndex)) → IsNoFault (status_of (played_to file stages r))
+played_to_judged file stages (Ok ledger) = tt
+played_to_judged file stages (Err at) = tt
+
+replayed_judged : (file : File) (back : Bool) (log : Log) (ledger : Header × LedgerMap) → IsNoFault (status_of (replayed file back log ledger))
+unfolding replayed
+replayed_judged file back log ledger = played_to_judged file (length log.stages) (played back log ledger.0 ledger.1)
+
 no_fault : (asked : Option Request) (m : FileMap) → AreThere (reads_named asked) m → IsNoFault (due asked m)
 no_fault None m there = tt
 no_fault (Some (Apply a)) m there =
@@ -176,6 +206,11 @@ no_fault (Some (Vet v)) m there =
 no_fault (Some (Migrate g)) m there =
     both (any_ledger_at m g.ledger) _ (judged m g.ledger any_ledger_in there.0 any_ledger_judged) (λ ledger. tt)
 no_fault (Some (Gen g)) m there = tt
+no_fault (Some (Play p)) m there =
+    both (played_ledger_at m p.back p.ledger) _ (played_ledger_judged m p.back p.ledger there.0)
+    (λ ledger. both (log_at m p.log) _ (judged m p.log log_in there.1.0 log_judged)
+    (λ log. replayed_judged (file 2 p.ledger_out) p.back log ledger))
+no_fault (Some (Build b)) m there = both (list_at m b.list) _ (judged m b.list list_in there.0 list_judged) (λ list. tt)
 
 unless : (P : Type 0) (status : Status) → IsNoFault status → UnlessFault status P → P
 unless P (Fault name) none h = absurd none

@@ -5,7 +5,7 @@ use Rattle.show_lines.specs.LedgerLines.{value_line}
 use Rattle.tx_xdr.specs.Set.{set_format, set_lawful}
 use Rattle.tx_xdr.specs.Envelope.{envelope_format, envelope_lawful}
 use Rattle.value_types.specs.Formats.{scval_format}
-use Rattle.value_types.proofs.Lawful.{scval_lawful}
+use Rattle.value_types.proofs.Lemmas.{scval_lawful}
 use Rattle.xdr_spec.specs.Decoded.{decoded}
 use Rattle.xdr_spec.specs.declared.XdrErr.{XdrErr}
 use Rattle.soroban_top.specs.Judged.{as_spelled, envelope_in, set_in}

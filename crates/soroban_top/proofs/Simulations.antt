@@ -20,7 +20,7 @@ use Rattle.tx_xdr.specs.declared.envelope.Envelope.{Envelope}
 use Rattle.tx_xdr.specs.declared.transaction.Transaction.{Transaction}
 use Rattle.tx_xdr.specs.declared.transaction.TransactionExt.{TransactionExt}
 use Rattle.tx_xdr.specs.declared.transaction.TransactionExt.TheVariants as exts
-use Rattle.tx_xdr.proofs.Fits.{transaction_in_fits}
+use Rattle.tx_xdr.proofs.Lemmas.{transaction_in_fits}
 use Rattle.xdr_core.specs.declared.error.NoMemory.{NoMemory}
 use Rattle.xdr_spec.specs.Format.{list, number32, optional, signed64}
 use Rattle.soroban_top.specs.Outcome.{simulation_of}

@@ -6,7 +6,7 @@ use Rattle.xdr_spec.specs.Laws.{IsFormat}
 use Rattle.xdr_spec.specs.Refusal.{Refuses, Spells}
 use Rattle.xdr_spec.specs.declared.Why.{Why}
 use Rattle.xdr_spec.specs.declared.XdrErr.{XdrErr}
-use Rattle.xdr_spec.proofs.Decoding.{decoded_refuses, decoded_spells, spells_decoded}
+use Rattle.xdr_spec.proofs.Lemmas.{decoded_refuses, decoded_spells, spells_decoded}
 use Rattle.soroban_top.specs.Judged.{as_spelled}
 use Rattle.soroban_top.specs.Steps.{◌>>=◌, status_of}
 use Rattle.soroban_top.specs.declared.status.Status.{Status}

@@ -1,6 +1,6 @@
 -- What vet comes to, of the module that the file spells.
 use Rattle.std.proofs.Common.{refl}
-use Rattle.module_vet.proofs.Exact.{exact}
+use Rattle.module_vet.proofs.Lemmas.{exact}
 use Rattle.soroban_top.specs.Laws.{VetLaw}
 use Rattle.soroban_top.specs.Vetted.{vetted}
 

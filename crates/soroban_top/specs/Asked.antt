@@ -3,7 +3,7 @@ use Rattle.std.specs.Prelude.{List, [], ◌∷◌, ◌++◌, Option, Some, None}
 use Rattle.soroban_top.specs.Product.{File, file}
 use Rattle.command_words.specs.declared.request.Request.{Request}
 use Rattle.command_words.specs.declared.request.ScheduleOptions.{ScheduleOptions}
-use Rattle.command_words.specs.declared.request.Request.TheVariants.{Apply, Simulate, Show, Vet, Migrate, Gen}
+use Rattle.command_words.specs.declared.request.Request.TheVariants.{Apply, Simulate, Show, Vet, Migrate, Gen, Build, Play}
 
 -- the file of a schedule, if one is given
 abbrev pub schedule_files : Option ScheduleOptions → List File
@@ -18,6 +18,8 @@ reads_of (Show s) = file 0 s.file ∷ []
 reads_of (Vet v) = file 0 v.module_file ∷ []
 reads_of (Migrate g) = file 0 g.ledger ∷ []
 reads_of (Gen g) = []
+reads_of (Build b) = file 0 b.list ∷ []
+reads_of (Play p) = file 1 p.ledger ∷ file 0 p.log ∷ []
 
 -- the files that it stores, in order
 abbrev pub writes_of : Request → List File
@@ -27,6 +29,8 @@ writes_of (Show s) = []
 writes_of (Vet v) = []
 writes_of (Migrate g) = file 1 g.ledger_out ∷ []
 writes_of (Gen g) = file 0 g.set ∷ file 1 g.ledger ∷ file 2 g.verdicts ∷ []
+writes_of (Build b) = file 1 b.set ∷ []
+writes_of (Play p) = file 2 p.ledger_out ∷ []
 
 -- the files that the words name and the command reads
 abbrev pub reads_named : Option Request → List File

@@ -5,7 +5,7 @@ use Rattle.edge_io.specs.Counts.{Rose}
 use Rattle.soroban_top.specs.Product.{File}
 use Rattle.soroban_top.specs.declared.status.Status.{Status}
 use Rattle.soroban_top.specs.declared.status.Status.TheVariants.{Done, Usage, Fault, Ledger, Verdicts, Malformed, NotBase64}
-use Rattle.soroban_top.specs.declared.status.Status.TheVariants.{Conflict, Schedule, Incomplete, NotAModule, Ill, Unlinked}
+use Rattle.soroban_top.specs.declared.status.Status.TheVariants.{Conflict, Schedule, Incomplete, Unfit, NotAModule, Ill, Unlinked}
 use Rattle.soroban_top.specs.declared.status.Status.TheVariants.{NoMemory}
 
 abbrev pub NoLower : (ℕ → ℕ) → (ℕ → ℕ) → Type 0
@@ -40,6 +40,7 @@ IsOfBytes (NotBase64 name) = ⊤
 IsOfBytes (Conflict stage a b key) = ⊤
 IsOfBytes (Schedule at) = ⊤
 IsOfBytes (Incomplete stage) = ⊤
+IsOfBytes (Unfit at) = ⊤
 IsOfBytes NotAModule = ⊤
 IsOfBytes (Ill func) = ⊤
 IsOfBytes (Unlinked k) = ⊤

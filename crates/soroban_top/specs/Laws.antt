@@ -1,5 +1,6 @@
 -- The outcomes of the commands, in terms of the spellings (RFC 4506) of their files' bytes alone.
-use Rattle.std.specs.Prelude.{◌≡◌, ◌↔◌, ◌≤◌, ℕ, Bool, true, false, List, [], ◌∷◌, Result, Ok, Option, Some, None, length}
+use Rattle.std.specs.Prelude.{◌≡◌, ◌↔◌, ◌≤◌, ℕ, Bool, true, false, List, [], ◌∷◌, Result, Ok, Err, IsOk, Option, Some, None}
+use Rattle.std.specs.Prelude.{length}
 use Rattle.std.specs.List.{AllByRecursion}
 use Rattle.apply_spec.specs.Enforced.{enforced}
 use Rattle.apply_spec.specs.Outputs.{outputs, outputs_after}
@@ -7,9 +8,15 @@ use Rattle.apply_spec.specs.Runs.{new_header, running_header}
 use Rattle.apply_spec.specs.Simulated.{Simulated, simulated}
 use Rattle.apply_spec.specs.SimulationFile.{simulation_bytes, simulation_lines}
 use Rattle.command_words.specs.declared.request.ApplyRequest.{ApplyRequest}
+use Rattle.change_log.specs.Log.{log_format}
+use Rattle.change_log.specs.Play.{played}
+use Rattle.change_log.specs.declared.error.ListIndex.{ListIndex}
+use Rattle.change_log.specs.declared.log.Log.{Log}
+use Rattle.command_words.specs.declared.request.BuildRequest.{BuildRequest}
 use Rattle.command_words.specs.declared.request.GenRequest.{GenRequest}
 use Rattle.command_words.specs.declared.request.MigrateRequest.{MigrateRequest}
-use Rattle.command_words.specs.declared.request.Request.TheVariants.{Apply, Simulate, Show, Vet, Migrate, Gen}
+use Rattle.command_words.specs.declared.request.PlayRequest.{PlayRequest}
+use Rattle.command_words.specs.declared.request.Request.TheVariants.{Apply, Simulate, Show, Vet, Migrate, Gen, Build, Play}
 use Rattle.command_words.specs.Values.{all_steps}
 use Rattle.command_words.specs.declared.request.ScheduleOptions.{ScheduleOptions}
 use Rattle.command_words.specs.declared.request.ShowKind.{ShowKind}
@@ -19,6 +26,7 @@ use Rattle.command_words.specs.declared.request.SimulateRequest.{SimulateRequest
 use Rattle.command_words.specs.declared.request.VetRequest.{VetRequest}
 use Rattle.edge_io.specs.Contents.{FileMap}
 use Rattle.ledger_file.specs.FileOf.{IsFileOf}
+use Rattle.ledger_spec.specs.LedgerFile.{ledger_bytes}
 use Rattle.ledger_spec.specs.LedgerMap.{LedgerMap}
 use Rattle.ledger_spec.specs.declared.LedgerWhy.{LedgerWhy}
 use Rattle.ledger_spec.specs.declared.LedgerWhy.TheVariants as ledger_why
@@ -32,6 +40,7 @@ use Rattle.module_vet.specs.declared.Sizes.{Sizes}
 use Rattle.schedule_runs.specs.Plans.{first_incomplete, run_stopped, steps_of}
 use Rattle.schedule_runs.specs.Schedule.{schedule_format}
 use Rattle.schedule_runs.specs.declared.schedule.Schedule.{Schedule}
+use Rattle.set_build.specs.Built.{envelopes_format}
 use Rattle.set_generator.specs.GeneratedLedger.{generated_entries, generated_header}
 use Rattle.set_generator.specs.GeneratedSet.{generated_set}
 use Rattle.stage_runs.specs.Conflicts.{IsFirstConflict}
@@ -50,8 +59,10 @@ use Rattle.xdr_spec.specs.declared.Why.{Why}
 use Rattle.soroban_top.specs.FirstConflict.{stages_in}
 use Rattle.soroban_top.specs.Generating.{job, made_line}
 use Rattle.soroban_top.specs.Judged.{content_of, ledger_at, opened}
-use Rattle.soroban_top.specs.Migrated.{migrated}
+use Rattle.soroban_top.specs.Migrated.{migrated, stored_and_said}
+use Rattle.soroban_top.specs.Replayed.{played_ledger_at, played_line}
 use Rattle.soroban_top.specs.Scheduled.{with_steps}
+use Rattle.soroban_top.specs.SetBuilt.{set_built}
 use Rattle.soroban_top.specs.Outcome.{applied, due, only_said, outcome_of}
 use Rattle.soroban_top.specs.Product.{Made, file}
 use Rattle.soroban_top.specs.Steps.{◌>>=◌}
@@ -375,3 +386,59 @@ pub record IsGenerated (g : GenRequest) (made : Made) : Type 0 where
 -- The generated files are stored, whatever files there are.
 abbrev pub GenLaw : Type 0
 GenLaw = (g : GenRequest) (m : FileMap) → g.count ≤ 100000 → (made : Made) × (outcome_of (Gen g) m ≡ Ok made) × IsGenerated g made
+
+-- ---- build
+
+-- the list's file has these bytes
+pub record HasListed (b : BuildRequest) (m : FileMap) (bytes : List ℕ) : Type 0 where
+  pub has_list : content_of m b.list ≡ Ok bytes
+  pub are_bytes : IsBytes bytes
+
+-- Malformed is due exactly if the bytes are refused, at that offset.
+abbrev pub BuildMalformedLaw : Type 0
+BuildMalformedLaw = (b : BuildRequest) (m : FileMap) (bytes : List ℕ) → HasListed b m bytes → (at : ℕ) (why : Why)
+    → (due (Some (Build b)) m ≡ status.Malformed at why) ↔ Refuses envelopes_format bytes at why
+
+-- Done is due exactly if they spell a list of envelopes.
+abbrev pub BuildDoneLaw : Type 0
+BuildDoneLaw = (b : BuildRequest) (m : FileMap) (bytes : List ℕ) → HasListed b m bytes
+    → (due (Some (Build b)) m ≡ status.Done) ↔ ((list : List Envelope) × Spells envelopes_format list bytes)
+
+-- The file of the set that is built from the list is stored.
+abbrev pub BuildLaw : Type 0
+BuildLaw = (b : BuildRequest) (m : FileMap) (bytes : List ℕ) (list : List Envelope)
+    → content_of m b.list ≡ Ok bytes → Spells envelopes_format list bytes
+    → outcome_of (Build b) m ≡ Ok (set_built (file 1 b.set) b.clusters list)
+
+-- ---- play
+
+-- the ledger's file has this ledger, and the log's file has these bytes
+pub record HasPlayed (p : PlayRequest) (m : FileMap) (ledger : Header × LedgerMap) (bytes : List ℕ) : Type 0 where
+  pub has_ledger : played_ledger_at m p.back p.ledger ≡ Ok ledger
+  pub has_log : content_of m p.log ≡ Ok bytes
+  pub are_bytes : IsBytes bytes
+
+-- Malformed is due exactly if the bytes are refused, at that offset.
+abbrev pub PlayMalformedLaw : Type 0
+PlayMalformedLaw = (p : PlayRequest) (m : FileMap) (ledger : Header × LedgerMap) (bytes : List ℕ) → HasPlayed p m ledger bytes
+    → (at : ℕ) (why : Why) → (due (Some (Play p)) m ≡ status.Malformed at why) ↔ Refuses log_format bytes at why
+
+-- Unfit is due exactly if they spell a log that does not fit the ledger.
+abbrev pub PlayUnfitLaw : Type 0
+PlayUnfitLaw = (p : PlayRequest) (m : FileMap) (ledger : Header × LedgerMap) (bytes : List ℕ) → HasPlayed p m ledger bytes
+    → (at : Option ListIndex)
+    → (due (Some (Play p)) m ≡ status.Unfit at)
+    ↔ ((log : Log) × Spells log_format log bytes × (played p.back log ledger.0 ledger.1 ≡ Err at))
+
+-- Done is due exactly if they spell a log that fits it.
+abbrev pub PlayDoneLaw : Type 0
+PlayDoneLaw = (p : PlayRequest) (m : FileMap) (ledger : Header × LedgerMap) (bytes : List ℕ) → HasPlayed p m ledger bytes
+    → (due (Some (Play p)) m ≡ status.Done)
+    ↔ ((log : Log) × Spells log_format log bytes × IsOk (played p.back log ledger.0 ledger.1))
+
+-- The ledger that the log leads to is stored, and the number of the log's stages is printed.
+abbrev pub PlayLaw : Type 0
+PlayLaw = (p : PlayRequest) (m : FileMap) (ledger after : Header × LedgerMap) (bytes : List ℕ) (log : Log)
+    → HasPlayed p m ledger bytes → Spells log_format log bytes → played p.back log ledger.0 ledger.1 ≡ Ok after
+    → outcome_of (Play p) m
+    ≡ Ok (stored_and_said (file 2 p.ledger_out) (ledger_bytes after.0 after.1) (played_line (length log.stages)))

@@ -9,6 +9,8 @@ pub mod Laws
 pub mod Left
 pub mod Lines
 pub mod Migrated
+pub mod Replayed
+pub mod SetBuilt
 pub mod Scheduled
 pub mod Outcome
 pub mod Product

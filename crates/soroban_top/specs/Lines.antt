@@ -5,13 +5,14 @@ use Rattle.hex.specs.Hex.{encode_lower}
 use Rattle.edge_io.specs.Text.{extended}
 use Rattle.edge_io.specs.declared.failed.EdgeErr.{EdgeErr}
 use Rattle.edge_io.specs.declared.failed.EdgeErr.TheVariants as edge
+use Rattle.change_log.specs.declared.error.ListIndex.{ListIndex}
 use Rattle.soroban_top.specs.Steps.{status_of}
 use Rattle.ledger_spec.specs.declared.LedgerWhy.{LedgerWhy}
 use Rattle.ledger_spec.specs.declared.LedgerWhy.TheVariants as why
 use Rattle.soroban_top.specs.declared.status.Status.{Status}
 use Rattle.soroban_top.specs.declared.status.Status.TheVariants.{Done, Usage, Fault, TooLong, Ledger, Verdicts, Malformed}
 use Rattle.soroban_top.specs.declared.status.Status.TheVariants.{NotBase64, Conflict, Schedule, Incomplete, NotAModule, Ill}
-use Rattle.soroban_top.specs.declared.status.Status.TheVariants.{Unlinked, NoMemory}
+use Rattle.soroban_top.specs.declared.status.Status.TheVariants.{Unfit, Unlinked, NoMemory}
 use Rattle.xdr_spec.specs.declared.Why.{Why}
 use Rattle.xdr_spec.specs.declared.Why.TheVariants.{End, Padding, Boolean, Tag, Limit, Depth, Trailing}
 
@@ -45,6 +46,15 @@ conflict_line stage a b key =
     codes "conflict: stage " ++ decimal stage ++ codes ", clusters " ++ decimal a ++ codes " and " ++ decimal b ++ codes ", key "
     ++ encode_lower key ++ codes "\n"
 
+-- the line of a list of changes that does not fit the ledger
+abbrev pub list_line : ListIndex → List ℕ
+list_line at = codes "log does not fit: stage " ++ decimal at.stage ++ codes ", place " ++ decimal at.list ++ codes "\n"
+
+-- the line of a log that does not fit
+abbrev pub unfit_line : Option ListIndex → List ℕ
+unfit_line None = codes "log does not fit: header\n"
+unfit_line (Some at) = list_line at
+
 -- the line of a status, if the command has no lines of its own
 abbrev pub line_of : Status → List ℕ
 line_of Done = []
@@ -58,6 +68,7 @@ line_of (NotBase64 name) = codes "not base64: " ++ name ++ codes "\n"
 line_of (Conflict stage a b key) = conflict_line stage a b key
 line_of (Schedule at) = codes "schedule refused at " ++ decimal at ++ codes "\n"
 line_of (Incomplete stage) = codes "schedule not complete: stage " ++ decimal stage ++ codes "\n"
+line_of (Unfit at) = unfit_line at
 line_of NotAModule = codes "not a module\n"
 line_of (Ill func) = ill_line func
 line_of (Unlinked k) = codes "unlinked: import " ++ decimal k ++ codes "\n"
@@ -76,6 +87,7 @@ code_of (NotBase64 name) = 1
 code_of (Conflict stage a b key) = 1
 code_of (Schedule at) = 3
 code_of (Incomplete stage) = 7
+code_of (Unfit at) = 8
 code_of NotAModule = 1
 code_of (Ill func) = 1
 code_of (Unlinked k) = 1

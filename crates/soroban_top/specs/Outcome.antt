@@ -4,7 +4,7 @@ use Rattle.apply_spec.specs.Outputs.{Outputs}
 use Rattle.apply_spec.specs.Runs.{running_header}
 use Rattle.apply_spec.specs.SimulationFile.{SimulationOutputs, simulation_outputs}
 use Rattle.command_words.specs.declared.request.Request.{Request}
-use Rattle.command_words.specs.declared.request.Request.TheVariants.{Apply, Simulate, Show, Vet, Migrate, Gen}
+use Rattle.command_words.specs.declared.request.Request.TheVariants.{Apply, Simulate, Show, Vet, Migrate, Gen, Build, Play}
 use Rattle.edge_io.specs.Contents.{FileMap}
 use Rattle.ledger_spec.specs.LedgerMap.{LedgerMap}
 use Rattle.ledger_types.specs.declared.header.Header.{Header}
@@ -15,6 +15,8 @@ use Rattle.soroban_top.specs.Judged.{ledger_at, verdicts_at, set_at, envelope_at
 use Rattle.soroban_top.specs.Migrated.{any_ledger_at, migrated}
 use Rattle.soroban_top.specs.Scheduled.{scheduled_at, may_run, outputs_by}
 use Rattle.soroban_top.specs.Product.{Made, File, file}
+use Rattle.soroban_top.specs.Replayed.{played_ledger_at, log_at, replayed}
+use Rattle.soroban_top.specs.SetBuilt.{list_at, set_built}
 use Rattle.soroban_top.specs.Shown.{shown_at}
 use Rattle.soroban_top.specs.Steps.{◌>>=◌, status_of}
 use Rattle.soroban_top.specs.Vetted.{vetted_at}
@@ -66,6 +68,13 @@ outcome_of (Migrate g) m = do
   ledger ← any_ledger_at m g.ledger
   Ok (migrated (file 1 g.ledger_out) ledger)
 outcome_of (Gen g) m = Ok (generated g)
+outcome_of (Build b) m = do
+  list ← list_at m b.list
+  Ok (set_built (file 1 b.set) b.clusters list)
+outcome_of (Play p) m = do
+  ledger ← played_ledger_at m p.back p.ledger
+  log ← log_at m p.log
+  replayed (file 2 p.ledger_out) p.back log ledger
 
 -- the outcome of the words
 abbrev pub outcome_if : Option Request → FileMap → Result Made Status

@@ -3,10 +3,11 @@
 ghost use Rattle.std.specs.Prelude.{◌≡◌, ◌⊎◌, ◌≤◌, ◌++◌, IfOk};
 ghost use Rattle.edge_io.specs.Counts.{OnFailed, Rose};
 ghost use Rattle.soroban_top.specs.Lines.{Finishes, HasSayCause, IsStatusAfter, SaysLines, conflict_line, ill_line, line_of};
-ghost use Rattle.soroban_top.specs.Lines.{name_of, number_of};
+ghost use Rattle.soroban_top.specs.Lines.{list_line, name_of, number_of, unfit_line};
 ghost use Rattle.soroban_top.specs.Steps.{status_of, viewed};
 
 use crate::Status;
+use change_log::ListIndex;
 use edge_io::{EdgeErr, Say, Word};
 use itoa::Buffer;
 use ledger_spec::LedgerWhy;
@@ -90,6 +91,7 @@ fn say_status<S: Say>(alloc: Global, say: &mut S, status: &Status) -> Result<(),
                 b"\n",
             )
         }
+        Status::Unfit { at } => say_unfit(alloc, say, *at),
         Status::NotAModule => say_part(say, b"not a module\n"),
         Status::Ill { func } => say_ill(say, *func),
         Status::Unlinked { import } => {
@@ -134,6 +136,40 @@ fn conflict_line(
     push_number(&mut line, a, b" and ")?;
     push_number(&mut line, b, b", key ")?;
     push_hex(alloc, &mut line, key, b"\n")?;
+    Ok(line)
+}
+
+/// Prints the line of a log that does not fit.
+fn say_unfit<S: Say>(alloc: Global, say: &mut S, at: Option<ListIndex>) -> Result<(), EdgeErr>
+    ensures said { SaysLines result (unfit_line at) (S.text say.old) (S.text say.new) }
+    ensures counts { S.faults say.old ≤ S.faults say.new }
+    ensures cause { OnFailed result (Rose (S.faults say.old) (S.faults say.new)) }
+    ensures steady { S.steady say.old → OnFailed result ⊥ × S.steady say.new × (S.faults say.new ≡ S.faults say.old) }
+{
+    match at {
+        None => say_part(say, b"log does not fit: header\n"),
+        Some(at) => say_list(alloc, say, at),
+    }
+}
+
+fn say_list<S: Say>(alloc: Global, say: &mut S, at: ListIndex) -> Result<(), EdgeErr>
+    ensures said { SaysLines result (list_line at) (S.text say.old) (S.text say.new) }
+    ensures counts { S.faults say.old ≤ S.faults say.new }
+    ensures cause { OnFailed result (Rose (S.faults say.old) (S.faults say.new)) }
+    ensures steady { S.steady say.old → OnFailed result ⊥ × S.steady say.new × (S.faults say.new ≡ S.faults say.old) }
+{
+    match list_line(alloc, at) {
+        Ok(line) => say_part(say, &line),
+        Err(_) => Err(EdgeErr::NoMemory),
+    }
+}
+
+fn list_line(alloc: Global, at: ListIndex) -> Result<Vec<u8>, AllocError>
+    ensures { IfOk result (λ v. v.items ≡ list_line at) }
+{
+    let mut line = Vec::from_slice(alloc, b"log does not fit: stage ")?;
+    push_number(&mut line, at.stage as u64, b", place ")?;
+    push_number(&mut line, at.list as u64, b"\n")?;
     Ok(line)
 }
 

@@ -2,8 +2,10 @@
 
 ghost use Rattle.soroban_top.specs.ConflictLaws.{FirstConflictLaw, NoConflictLaw};
 ghost use Rattle.soroban_top.specs.Laws.{AllStepsLaw, AppliedLaw, ConflictLaw, DoneLaw, EnvelopeDoneLaw, EnvelopeMalformedLaw};
+ghost use Rattle.soroban_top.specs.Laws.{BuildDoneLaw, BuildLaw, BuildMalformedLaw};
 ghost use Rattle.soroban_top.specs.Laws.{GenLaw, IncompleteLaw, LedgerDoneLaw, LedgerLaw, LedgerShownLaw, MalformedLaw};
 ghost use Rattle.soroban_top.specs.Laws.{MigrateDoneLaw, MigrateLaw, MigrateRefusedLaw, NoLedgerLaw, ScheduleLaw, SetDoneLaw};
+ghost use Rattle.soroban_top.specs.Laws.{PlayDoneLaw, PlayLaw, PlayMalformedLaw, PlayUnfitLaw};
 ghost use Rattle.soroban_top.specs.Laws.{SetMalformedLaw, SimulateDoneLaw, SimulateEnforcedLaw, SimulateLaw, SimulateLedgerLaw};
 ghost use Rattle.soroban_top.specs.Laws.{SimulateMalformedLaw, SimulateNoLedgerLaw, SimulateVerdictsLaw, StoppedLaw};
 ghost use Rattle.soroban_top.specs.Laws.{ValueDoneLaw, ValueMalformedLaw, VerdictsLaw, VetLaw, WholeLaw};
@@ -86,4 +88,22 @@ pub fn migrate_laws()
 /// transactions and stages.
 pub fn gen_laws()
     ensures { GenLaw }
+{}
+
+/// `build`: Malformed is due exactly if the bytes are refused, and Done exactly if they spell a list of envelopes. Then the set
+/// that is built from the list is stored, and the line has the numbers of its transactions, stages and clusters.
+pub fn build_laws()
+    ensures malformed { BuildMalformedLaw }
+    ensures done { BuildDoneLaw }
+    ensures stored { BuildLaw }
+{}
+
+/// `play`: if the ledger's file is accepted, Malformed is due exactly if the log's bytes are refused, Unfit exactly if they spell
+/// a log that does not fit the ledger, at that place, and Done exactly if they spell one that fits it. Then the ledger to which
+/// the log leads is stored, and the line has the number of its stages.
+pub fn play_laws()
+    ensures malformed { PlayMalformedLaw }
+    ensures unfit { PlayUnfitLaw }
+    ensures done { PlayDoneLaw }
+    ensures stored { PlayLaw }
 {}

@@ -14,6 +14,7 @@ ghost use Rattle.soroban_top.specs.Outcome.{due, outcome_if, outcome_of, says_of
 ghost use Rattle.soroban_top.specs.Steps.{Gives, GivesExactly, UnlessFault, UnlessFree, status_of};
 
 mod apply;
+mod building;
 mod drive;
 mod ending;
 mod generating;
@@ -25,6 +26,7 @@ mod migrate;
 mod opened;
 mod outputs;
 mod product;
+mod replaying;
 mod request;
 mod scheduled;
 mod show;
@@ -40,8 +42,8 @@ use edge_io::{Files, Gate, Say, Word};
 pub use ending::finish;
 pub use key_bytes::KeyBytes;
 pub use laws::{
-    apply_laws, first_conflict_laws, gen_laws, migrate_laws, schedule_laws, show_laws,
-    simulate_laws, vet_law,
+    apply_laws, build_laws, first_conflict_laws, gen_laws, migrate_laws, play_laws, schedule_laws,
+    show_laws, simulate_laws, vet_law,
 };
 use product::{FileArg, OutputFile, Product};
 use request::{asked, produce};

@@ -51,7 +51,7 @@ pub fn migrate<'a, F: Files>(
 }
 
 /// Reads the ledger in a file, also one that no ledger may follow.
-fn read_any_ledger<F: Files>(
+pub fn read_any_ledger<F: Files>(
     alloc: Global,
     files: &mut F,
     file: &FileArg<'_>,

@@ -9,8 +9,10 @@ ghost use Rattle.soroban_top.specs.Steps.{Gives, GivesExactly, UnlessFault, stat
 ghost use Rattle.soroban_top.specs.Views.{made_of, targets_of};
 
 use crate::apply::apply;
+use crate::building::build;
 use crate::generating::generate;
 use crate::migrate::migrate;
+use crate::replaying::play;
 use crate::show::show;
 use crate::simulate::simulate;
 use crate::vetting::vet;
@@ -58,5 +60,7 @@ pub fn produce<'a, R: Threads + Sync, F: Files, G: Gate + Sync>(
         Request::Vet(options) => vet(alloc, files, options),
         Request::Migrate(options) => migrate(alloc, files, options),
         Request::Gen(options) => generate(alloc, options),
+        Request::Build(options) => build(alloc, files, options),
+        Request::Play(options) => play(alloc, files, options),
     }
 }

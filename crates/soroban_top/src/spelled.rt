@@ -2,6 +2,7 @@
 
 ghost use Rattle.std.specs.Prelude.{IfOk, IfErr};
 ghost use Rattle.ledger_types.specs.Header.{header_format};
+ghost use Rattle.set_build.specs.Built.{envelopes_format};
 ghost use Rattle.tx_xdr.specs.Envelope.{envelope_format};
 ghost use Rattle.tx_xdr.specs.Set.{set_format};
 ghost use Rattle.value_types.specs.Formats.{scval_format};
@@ -9,6 +10,7 @@ ghost use Rattle.xdr_spec.specs.Refusal.{Spells};
 ghost use Rattle.soroban_top.specs.Counts.{IsOfBytes};
 ghost use Rattle.soroban_top.specs.Judged.{envelope_in, set_in};
 ghost use Rattle.soroban_top.specs.Seen.{seen};
+ghost use Rattle.soroban_top.specs.SetBuilt.{list_in};
 ghost use Rattle.soroban_top.specs.Shown.{any_ledger_in, value_in};
 ghost use Rattle.soroban_top.specs.Steps.{Gives};
 
@@ -16,8 +18,8 @@ use crate::Status;
 use ledger_file::{Ledger, LedgerErr, read_ledger};
 use std::alloc::Global;
 use tx_xdr::{Envelope, TxSet, read_envelope, read_set};
-use value_types::ScVal;
-use value_xdr::value_from_bytes;
+use value_types::{Items, ScVal};
+use value_xdr::{decode, value_from_bytes};
 
 /// Reads a set; the error is the status of its refusal.
 #[tactic(auto, unfolding(crate::specs::Judged::set_in))]
@@ -39,6 +41,17 @@ pub fn envelope_in(alloc: Global, bytes: &[u8]) -> Result<Envelope, Status>
 {
     let envelope = read_envelope(alloc, bytes)?;
     Ok(envelope)
+}
+
+/// Reads a list of envelopes; the error is the status of its refusal.
+#[tactic(auto, unfolding(crate::specs::SetBuilt::list_in))]
+pub fn list_in(alloc: Global, bytes: &[u8]) -> Result<Items<Envelope, 4294967295>, Status>
+    ensures given { Gives (λ l. l) result (list_in bytes.now) }
+    ensures fits { IfOk result (λ l. envelopes_format.fits l) }
+    ensures cause { IfErr result IsOfBytes }
+{
+    let list = decode::<Items<Envelope, 4294967295>>(alloc, bytes)?;
+    Ok(list)
 }
 
 /// Reads any ledger, also one that no ledger may follow.

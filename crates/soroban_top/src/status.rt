@@ -3,8 +3,10 @@
 ghost use Rattle.std.specs.Prelude.{◌≡◌};
 ghost use Rattle.soroban_top.specs.declared.status.Status.TheVariants.{NoMemory as OutOfMemory};
 ghost use Rattle.soroban_top.specs.Judged.{unread, unread_ledger};
+ghost use Rattle.soroban_top.specs.Replayed.{unplayed};
 
 use crate::KeyBytes;
+use change_log::{ListIndex, PlayErr};
 use edge_io::Word;
 use ledger_file::LedgerErr;
 use ledger_spec::LedgerWhy;
@@ -61,6 +63,10 @@ pub enum Status {
     Incomplete {
         stage: u64,
     },
+    /// The log does not fit the ledger: the first list that does not, or none if the header does not.
+    Unfit {
+        at: Option<ListIndex>,
+    },
     /// The bytes are no WebAssembly module.
     NotAModule,
     /// The module is ill typed: the index of its first ill-typed function, with imports counted, or none if a rule outside
@@ -96,6 +102,7 @@ impl Status {
             Status::NoMemory => 5,
             Status::TooLong { .. } => 6,
             Status::Incomplete { .. } => 7,
+            Status::Unfit { .. } => 8,
         }
     }
 }
@@ -148,6 +155,17 @@ impl From<LedgerErr> for Status {
                 at: refusal.at,
             },
             LedgerErr::NoMemory => Status::NoMemory,
+        }
+    }
+}
+
+impl From<PlayErr> for Status {
+    ghost from_gives = { λ error status. status ≡ unplayed error };
+
+    fn from(error: PlayErr) -> Status {
+        match error {
+            PlayErr::Unfit { at } => Status::Unfit { at },
+            PlayErr::NoMemory => Status::NoMemory,
         }
     }
 }

@@ -15,4 +15,6 @@ returns c =
     let shows = c.in_ok-command-3.ensures ∙ ap₂ with simulates c.in_ok-show_command.ensures.app in
     let vets = c.in_ok-command-4.ensures ∙ ap₂ with shows c.in_ok-vet_command.ensures.app in
     let migrates = c.in_ok-command-5.ensures ∙ ap₂ with vets c.in_ok-migrate_command.ensures.app in
-    c.in_ok-command-6.ensures ∙ ap₂ with migrates c.in_ok-gen_command.ensures.app
+    let gens = c.in_ok-command-6.ensures ∙ ap₂ with migrates c.in_ok-gen_command.ensures.app in
+    let builds = c.in_ok-command-7.ensures ∙ ap₂ with gens c.in_ok-build_command.ensures.app in
+    c.in_ok-command-8.ensures ∙ ap₂ with builds c.in_ok-play_command.ensures.app

@@ -1,5 +1,5 @@
 use Rattle.std.proofs.Common.{arith, refl}
-use Rattle.xdr_spec.proofs.Decoding.{spells_decoded}
+use Rattle.xdr_spec.proofs.Lemmas.{spells_decoded}
 use Rattle.ledger_types.specs.Verdicts.{verdicts_format, verdicts_lawful}
 use Rattle.soroban_top.specs.Judged.{verdicts_in}
 use Rattle.soroban_top.proofs.Decoding.{refuses_decoded}

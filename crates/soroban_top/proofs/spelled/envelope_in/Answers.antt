@@ -1,7 +1,7 @@
 use Rattle.std.proofs.Common.{arith, refl}
 use Rattle.std.proofs.lemmas.Result.{err_from_is_err_and}
 use Rattle.tx_xdr.specs.Envelope.{envelope_format, envelope_lawful}
-use Rattle.xdr_spec.proofs.Decoding.{spells_decoded}
+use Rattle.xdr_spec.proofs.Lemmas.{spells_decoded}
 use Rattle.soroban_top.specs.Judged.{envelope_in}
 use Rattle.soroban_top.proofs.Decoding.{unread_due}
 use Rattle.soroban_top.proofs.spelled.envelope_in.Goals as goal

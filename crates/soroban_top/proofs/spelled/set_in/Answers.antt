@@ -1,7 +1,7 @@
 use Rattle.std.proofs.Common.{arith, refl}
 use Rattle.std.proofs.lemmas.Result.{err_from_is_err_and}
 use Rattle.tx_xdr.specs.Set.{set_format, set_lawful}
-use Rattle.xdr_spec.proofs.Decoding.{spells_decoded}
+use Rattle.xdr_spec.proofs.Lemmas.{spells_decoded}
 use Rattle.soroban_top.specs.Judged.{set_in}
 use Rattle.soroban_top.proofs.Decoding.{unread_due}
 use Rattle.soroban_top.proofs.spelled.set_in.Goals as goal

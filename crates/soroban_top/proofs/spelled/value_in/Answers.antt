@@ -1,8 +1,8 @@
 use Rattle.std.proofs.Common.{arith, refl}
 use Rattle.std.proofs.lemmas.Result.{err_from_is_err_and}
 use Rattle.value_types.specs.Formats.{scval_format}
-use Rattle.value_types.proofs.Lawful.{scval_lawful}
-use Rattle.xdr_spec.proofs.Decoding.{spells_decoded}
+use Rattle.value_types.proofs.Lemmas.{scval_lawful}
+use Rattle.xdr_spec.proofs.Lemmas.{spells_decoded}
 use Rattle.soroban_top.specs.Shown.{value_in}
 use Rattle.soroban_top.proofs.Decoding.{unread_due}
 use Rattle.soroban_top.proofs.spelled.value_in.Goals as goal
