@@ -1,5 +1,6 @@
-pub mod Sorted
-pub mod Places
-pub mod MapLaws
-pub mod Search
-pub mod Walk
+pub mod Lemmas
+mod MapLaws
+mod Places
+mod Search
+mod Sorted
+mod Walk

@@ -14,8 +14,7 @@ use Rattle.ledger_types.specs.Key.{key_format}
 use Rattle.ledger_types.specs.Entry.{key_of}
 use Rattle.ledger_types.specs.KeyOrder.{ranked_key}
 use Rattle.ledger_types.specs.declared.key.LedgerKey.{LedgerKey}
-use Rattle.ledger_types.proofs.Ranking.{key_ranked}
-use Rattle.ledger_types.proofs.KeyLaws.{key_of_fits}
+use Rattle.ledger_types.proofs.Lemmas.{key_of_fits, key_ranked}
 use Rattle.ledger_spec.specs.declared.Kept.{Kept}
 use Rattle.ledger_spec.specs.LedgerMap.{LedgerMap, IsKeptAt, IsLedgerMap, key_bytes}
 use Rattle.ledger_spec.specs.LedgerFile.{is_above}

@@ -1,18 +1,19 @@
 //! The map: look-ups, and changes that put entries in or take them out.
 
-ghost use Rattle.std.specs.Prelude.{◌≡◌, ◌++◌, [], ◌∷◌, IsTrue, IfOk, IfSome, OnOk, OnErr, None};
+ghost use Rattle.std.specs.Prelude.{◌≡◌, ◌<◌, ◌+◌, ◌++◌, [], ◌∷◌, IsTrue, IfOk, IfSome, OnOk, OnErr, None};
+ghost use Rattle.std.specs.List.{AllByRecursion};
 ghost use Rattle.std.specs.Option.{option_copied, option_map};
 ghost use Rattle.std.specs.FinMap.{empty, len, entries as entries_of, insert as insert_in, remove as remove_in};
 ghost use Rattle.ledger_types.specs.Key.{key_format};
 ghost use Rattle.ledger_spec.specs.LedgerFile.{is_above};
 ghost use Rattle.ledger_spec.specs.LedgerMap.{find as find_in, key_bytes, IsLedgerMap, IsKeptAt};
 ghost use Rattle.ledger_spec.specs.Changes.{raise as raise_in};
-ghost use Rattle.entry_map.specs.Entries.{kept_of, own_bytes, pairs_of, last_key, is_last};
-ghost use Rattle.entry_map.specs.Rows.{joined, rows_of};
+ghost use Rattle.entry_map.specs.Entries.{kept_of, own_bytes, pair_of, pairs_of, last_key, is_last};
+ghost use Rattle.entry_map.specs.Rows.{joined, rows_of, before, after, HasEntry, IsGap};
 
 use crate::rows::{
-    Row, ends_below, entry_at, insert_at, place_of, push_last, raise_at, remove_at, replace_at,
-    set_at,
+    Place, Row, ends_below, entry_at, insert_at, place_of, push_last, raise_at, remove_at,
+    replace_at, set_at,
 };
 use crate::stored::{StoredEntry, store_at};
 use ledger_spec::Kept;
@@ -48,6 +49,32 @@ impl Model for EntryMap {
     ghost view = { λ t. map_of (joined (rows_of t.rows.items)) };
 
     ghost invariant = { λ t. AreRows (rows_of t.rows.items) t.count };
+}
+
+/// Puts an entry into a gap and counts it, unless there are 2^32 - 1 entries already.
+fn add_at(
+    rows: &mut Vec<Row>,
+    count: &mut usize,
+    at: Place,
+    stored: Box<StoredEntry>,
+) -> Result<(), NoMemory>
+    requires full { AllByRecursion HasEntry (rows_of rows.old.items) }
+    requires gap { IsGap (rows_of rows.old.items) at }
+    ensures ok { OnOk result (pairs_of (joined (rows_of rows.new.items))
+        ≡ pairs_of (before (rows_of rows.old.items) at.row at.index)
+        ++ pair_of stored ∷ pairs_of (after (rows_of rows.old.items) at.row at.index)) }
+    ensures few { OnOk result (count.old < 4294967295) }
+    ensures counted { OnOk result (count.new ≡ count.old + 1) }
+    ensures err { OnErr result (pairs_of (joined (rows_of rows.new.items)) ≡ pairs_of (joined (rows_of rows.old.items))) }
+    ensures same { OnErr result (count.new ≡ count.old) }
+    ensures full { AllByRecursion HasEntry (rows_of rows.new.items) }
+{
+    if *count >= MOST_ENTRIES {
+        return Err(NoMemory);
+    }
+    insert_at(rows, at, stored)?;
+    *count += 1;
+    Ok(())
 }
 
 impl EntryMap {
@@ -117,11 +144,7 @@ impl EntryMap {
         match place_of(&self.rows, key) {
             Ok(at) => Ok(Some(replace_at(&mut self.rows, at, stored))),
             Err(at) => {
-                if self.count >= MOST_ENTRIES {
-                    return Err(NoMemory);
-                }
-                insert_at(&mut self.rows, at, stored)?;
-                self.count += 1;
+                add_at(&mut self.rows, &mut self.count, at, stored)?;
                 Ok(None)
             }
         }
@@ -141,12 +164,8 @@ impl EntryMap {
                 Ok(())
             }
             Err(at) => {
-                if self.count >= MOST_ENTRIES {
-                    return Err(NoMemory);
-                }
                 let stored = store_at(alloc, key, kept)?;
-                insert_at(&mut self.rows, at, stored)?;
-                self.count += 1;
+                add_at(&mut self.rows, &mut self.count, at, stored)?;
                 Ok(())
             }
         }

@@ -18,7 +18,7 @@ use std::cmp::Ordering;
 use value_types::{ScAddress, ScVal};
 
 /// Compares what follows the contract in two keys of contract data. The durabilities are not read if the values differ.
-#[tactic(auto, using(spelled_order::proofs::Deciding::both, spelled_order::proofs::Deciding::first))]
+#[tactic(auto, using(spelled_order::proofs::Lemmas::both, spelled_order::proofs::Lemmas::first))]
 fn cmp_data_rests(data: &ContractDataEntry, key: &ScVal, durability: &Durability) -> Ordering
     ensures { Against (ranked_value data.now.key ++ durability_format.spell data.now.durability)
         (ranked_value key.now ++ durability_format.spell durability.now) result }
@@ -30,7 +30,7 @@ fn cmp_data_rests(data: &ContractDataEntry, key: &ScVal, durability: &Durability
 }
 
 /// Compares the bodies of two keys of contract data, the first of which is that of an entry.
-#[tactic(auto, using(spelled_order::proofs::Deciding::both, spelled_order::proofs::Deciding::first))]
+#[tactic(auto, using(spelled_order::proofs::Lemmas::both, spelled_order::proofs::Lemmas::first))]
 fn cmp_data(
     data: &ContractDataEntry,
     contract: &ScAddress,
@@ -47,7 +47,7 @@ fn cmp_data(
 }
 
 /// Compares the bodies of two keys of one type, the first of which is that of an entry. The other branches are never taken.
-#[tactic(auto, using(spelled_order::proofs::Deciding::both, spelled_order::proofs::Deciding::word_first))]
+#[tactic(auto, using(spelled_order::proofs::Lemmas::both, spelled_order::proofs::Lemmas::word_first))]
 fn cmp_rests(entry: &LedgerEntry, key: &LedgerKey) -> Ordering
     requires { number (kind (key_of_entry entry.now)) ≡ number (kind key.now) }
     ensures { Against (ranked_rest (key_of_entry entry.now)) (ranked_rest key.now) result }

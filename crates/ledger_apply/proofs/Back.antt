@@ -13,8 +13,8 @@ use Rattle.stage_runs.specs.declared.Extension.{Extension}
 use Rattle.stage_runs.specs.Runs.{Cluster, Reported, RunState, start, writes_in, put_all_in, ended}
 use Rattle.stage_runs.specs.Parts.{run_owned_all, own_back, owns_back}
 use Rattle.ledger_parts.specs.Cut.{runs_over}
-use Rattle.ledger_parts.proofs.Seen.{seen_run}
-use Rattle.stage_runs.proofs.Owned.{owned_untouched}
+use Rattle.ledger_parts.proofs.Lemmas.{seen_run}
+use Rattle.stage_runs.proofs.Lemmas.{owned_untouched}
 use Rattle.ledger_apply.specs.State.{between, done_in, pending_of, reports_of, IsKeyed}
 use Rattle.ledger_apply.specs.Job.{cluster_of, own_of, IsCut, IsRun, IsRunOn, AreDone, back, IsMovedOf}
 use Rattle.ledger_apply.specs.declared.running.ClusterDone.{ClusterDone}

@@ -9,10 +9,9 @@ use Rattle.xdr_core.proofs.error.NoMemory.TheSendSync as memory
 use Rattle.tx_results.proofs.results.TransactionResultPair.TheSendSync as pair
 use Rattle.ledger_types.proofs.header.Header.TheSendSync as header
 use Rattle.ledger_types.proofs.verdicts.Verdicts.TheSendSync as verdicts
-use Rattle.code_cache.proofs.Crosses.{cache_sync}
+use Rattle.code_cache.proofs.Lemmas.{cache_sync}
 use Rattle.value_types.proofs.items.Items.TheSendSync as items
-use Rattle.ledger_parts.proofs.Crosses.{key_sync, map_sync, map_send}
-use Rattle.ledger_parts.proofs.EnvelopeCrosses.{envelope_sync, success_send, extension_send}
+use Rattle.ledger_parts.proofs.Lemmas.{envelope_sync, extension_send, key_sync, map_send, map_sync, success_send}
 use Rattle.ledger_apply.specs.contracts.reports.Reports as Reports
 use Rattle.ledger_apply.specs.contracts.running.ClusterDone as ClusterDone
 use Rattle.ledger_apply.specs.contracts.job.Job as Job

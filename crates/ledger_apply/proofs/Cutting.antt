@@ -6,7 +6,7 @@ use Rattle.stage_runs.specs.Maps.{Bytes, LedgerMap}
 use Rattle.stage_runs.specs.Runs.{Cluster, Stage, writes_in}
 use Rattle.stage_runs.specs.Parts.{is_moved}
 use Rattle.ledger_parts.specs.Cut.{without, left_of, cut_from}
-use Rattle.ledger_parts.proofs.Seen.{found_left}
+use Rattle.ledger_parts.proofs.Lemmas.{found_left}
 use Rattle.ledger_apply.specs.Job.{IsMovedOf}
 
 pub left_more : (m : LedgerMap) (cs : Stage) (c : Cluster) → left_of m (cs ++ c ∷ []) ≡ left_of (left_of m cs) (c ∷ [])

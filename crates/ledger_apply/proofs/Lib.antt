@@ -1,15 +1,16 @@
-pub mod Lists
-pub mod Besides
-pub mod Raising
-pub mod Waiting
-pub mod Written
-pub mod Spelling
-pub mod Firsts
-pub mod Merging
-pub mod Moved
-pub mod Cutting
-pub mod Jobs
-pub mod Back
-pub mod Crosses
-pub mod Searching
-pub mod Steps
+mod Back
+mod Besides
+mod Crosses
+mod Cutting
+mod Firsts
+mod Jobs
+pub mod Lemmas
+mod Lists
+mod Merging
+mod Moved
+mod Raising
+mod Searching
+mod Spelling
+mod Steps
+mod Waiting
+mod Written

@@ -4,18 +4,18 @@ use Rattle.std.specs.FinMap.{get, retain_keys, empty, get-empty}
 use Rattle.std.proofs.Common.{◌≡◌, suc, Bool, true, false, not, ◌||◌, cond, List, [], ◌∷◌, ◌++◌, All, Option, None, refl, sym, ap, ap₂, ◌∙◌, arith}
 use Rattle.std.proofs.lemmas.List.Folds.{list_any-append}
 use Rattle.ledger_types.specs.Key.{key_format}
-use Rattle.ledger_types.proofs.Ranking.{key_ranked}
+use Rattle.ledger_types.proofs.Lemmas.{key_ranked}
 use Rattle.tx_xdr.specs.Envelope.{envelope_format}
 use Rattle.ledger_parts.specs.Shown.{is_read, PassesRead}
 use Rattle.stage_runs.specs.Maps.{Bytes, LedgerKey, Kept, LedgerMap, has_bytes, laid_over}
 use Rattle.stage_runs.specs.Transactions.{Envelope, declared_by, writes, declares}
 use Rattle.stage_runs.specs.Runs.{Cluster, writes_in, declares_in}
-use Rattle.stage_runs.proofs.Points.{same, or_else, or_none, found_over, found_kept, left_false, right_false, one_true, never}
+use Rattle.stage_runs.proofs.Lemmas.{found_kept, found_over, left_false, never, one_true, or_else, or_none, right_false, same}
 use Rattle.stage_plan.specs.DeclaredKeys.{read_keys}
 use Rattle.ledger_apply.specs.Spelled.{AreEnvelopes}
 use Rattle.ledger_apply.proofs.Lists.{flat_map_one_more}
 use Rattle.ledger_apply.proofs.Spelling.{read_spelled}
-use Rattle.ledger_parts.proofs.Keys.{read_both}
+use Rattle.ledger_parts.proofs.Lemmas.{read_both}
 
 -- ---- moved
 

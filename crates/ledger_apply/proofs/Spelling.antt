@@ -14,8 +14,8 @@ use Rattle.tx_xdr.specs.declared.set.Stage.{Stage}
 use Rattle.tx_xdr.specs.declared.set.Phase.{Phase}
 use Rattle.tx_xdr.specs.declared.set.Phase.TheVariants.{Components, Parallel}
 use Rattle.tx_xdr.specs.declared.set.TxSet.{TxSet}
-use Rattle.tx_xdr.proofs.Fits.{transaction_in_fits}
-use Rattle.tx_apply.proofs.Declared.{declared_spelled}
+use Rattle.tx_xdr.proofs.Lemmas.{transaction_in_fits}
+use Rattle.stage_runs.proofs.Lemmas.{declared_spelled}
 use Rattle.stage_runs.specs.Transactions.{declared_by}
 use Rattle.ledger_apply.specs.Spelled.{IsCluster, IsStage, IsComponent}
 use Rattle.ledger_apply.specs.declared.stages.SetStage.{SetStage}

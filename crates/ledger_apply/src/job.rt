@@ -1,6 +1,6 @@
 //! What a worker does with a cluster.
 
-ghost use Rattle.std.specs.Prelude.{◌≡◌, IfOk, IsTrue};
+ghost use Rattle.std.specs.Prelude.{IfOk, IsTrue};
 ghost use Rattle.ledger_spec.specs.LedgerFile.{are_settings, has_next};
 ghost use Rattle.apply_spec.specs.Enforced.{enforced};
 ghost use Rattle.ledger_apply.specs.State.{done_in, IsKeyed};

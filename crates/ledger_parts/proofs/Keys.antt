@@ -13,7 +13,7 @@ use Rattle.std.proofs.lemmas.List.Folds.{list_any-append}
 use Rattle.ledger_types.specs.Key.{key_format}
 use Rattle.ledger_types.specs.KeyOrder.{key_cmp, ranked_key}
 use Rattle.ledger_types.specs.declared.key.LedgerKey.{LedgerKey}
-use Rattle.ledger_types.proofs.Ranking.{key_ranked}
+use Rattle.ledger_types.proofs.Lemmas.{key_ranked}
 use Rattle.ledger_spec.specs.LedgerMap.{key_bytes}
 use Rattle.ledger_parts.specs.Shown.{is_read}
 

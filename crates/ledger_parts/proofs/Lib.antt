@@ -1,7 +1,8 @@
-pub mod Keys
-pub mod Maps
-pub mod Lists
-pub mod Crosses
-pub mod EnvelopeCrosses
-pub mod Seen
-pub mod Notes
+mod Crosses
+mod EnvelopeCrosses
+mod Keys
+pub mod Lemmas
+mod Lists
+mod Maps
+mod Notes
+mod Seen

@@ -14,9 +14,9 @@ use Rattle.ledger_types.specs.declared.key.LedgerKey.{LedgerKey}
 use Rattle.ledger_spec.specs.declared.Kept.{Kept}
 use Rattle.ledger_spec.specs.LedgerMap.{LedgerMap, IsLedgerMap, IsKeptAt, key_bytes}
 use Rattle.ledger_spec.specs.Changes.{raise, raised}
-use Rattle.ledger_spec.proofs.Keeping.{inserted}
+use Rattle.ledger_spec.proofs.Lemmas.{inserted}
 use Rattle.stage_runs.specs.Maps.{has_bytes, laid_over}
-use Rattle.stage_runs.proofs.Points.{same, or_else, found_over, found_kept}
+use Rattle.stage_runs.proofs.Lemmas.{found_kept, found_over, or_else, same}
 use Rattle.ledger_parts.specs.Shown.{is_read, shown, with_found}
 
 -- ---- a part shows a ledger's map

@@ -9,10 +9,7 @@ use Rattle.stage_runs.specs.Parts.{is_moved}
 use Rattle.ledger_parts.specs.Shown.{shown_step, shown_with, PassesRead}
 use Rattle.ledger_parts.specs.Cut.{without, left_of, cut_from}
 use Rattle.ledger_parts.specs.Notes.{Note, AgreeElsewhere, IsFramedNote, noted_in, noted_in_stage, shown_note, noted_over}
-use Rattle.stage_runs.proofs.Points.{left_true, right_true, one_true, cases, never, same, or_else, or_none, found_over, found_kept}
-use Rattle.stage_runs.proofs.Frames.{kept_pass, put_untouched, change_untouched, transaction_untouched, transaction_frame, cluster_untouched}
-use Rattle.stage_runs.proofs.Parts.{write_declared, apart_unwritten}
-use Rattle.stage_runs.proofs.Owned.{view, owned_view, unmoved}
+use Rattle.stage_runs.proofs.Lemmas.{apart_unwritten, cases, change_untouched, cluster_untouched, found_kept, found_over, kept_pass, left_true, never, one_true, or_else, or_none, owned_view, put_untouched, right_true, same, transaction_frame, transaction_untouched, unmoved, view, write_declared}
 use Rattle.ledger_parts.proofs.Seen.{found_shown_with, found_left}
 
 -- transactions that run after others note what they note on the state that these leave

@@ -11,9 +11,7 @@ use Rattle.stage_runs.specs.Runs.{Cluster, Stage, RunState, before, after, start
 use Rattle.stage_runs.specs.Parts.{run_owned_all, own_parts, lent_of, is_moved, owns_back, run_owned_parts}
 use Rattle.ledger_parts.specs.Shown.{shown_step, shown_with, PassesRead}
 use Rattle.ledger_parts.specs.Cut.{without, left_of, cut_from, runs_over}
-use Rattle.stage_runs.proofs.Points.{left_true, right_true, cases, never, same, or_else, found_over, found_kept}
-use Rattle.stage_runs.proofs.Parts.{write_declared, apart_unwritten}
-use Rattle.stage_runs.proofs.Owned.{moved_run}
+use Rattle.stage_runs.proofs.Lemmas.{apart_unwritten, cases, found_kept, found_over, left_true, moved_run, never, or_else, right_true, same, write_declared}
 
 -- ---- what is shown
 

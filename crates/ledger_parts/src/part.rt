@@ -1,8 +1,8 @@
 //! A part of a ledger, and what a cluster sees from it.
 
-ghost use Rattle.std.specs.Prelude.{◌≡◌, ◌<◌, ◌+◌, ◌^◌, [], IfOk, None, if◌then◌else◌};
+ghost use Rattle.std.specs.Prelude.{◌≡◌, ◌<◌, ◌+◌, ◌^◌, IfOk, None, if◌then◌else◌};
 ghost use Rattle.std.specs.Option.{option_map};
-ghost use Rattle.std.specs.FinMap.{len, empty as empty_map};
+ghost use Rattle.std.specs.FinMap.{len};
 ghost use Rattle.ledger_types.specs.Key.{key_format};
 ghost use Rattle.ledger_spec.specs.LedgerMap.{find as find_in, key_bytes};
 ghost use Rattle.entry_lookup.specs.Found.{kept_of};
@@ -48,19 +48,6 @@ fn lend(kept: &Kept) -> Found<'_>
     Found {
         entry: &kept.entry,
         live_until: kept.live_until,
-    }
-}
-
-impl Part {
-    /// Makes a part without entries and keys. It takes no memory.
-    pub fn empty(alloc: Global) -> Part
-        ensures own { result.own ≡ empty_map }
-        ensures read_only { result.read_only ≡ [] }
-    {
-        Part {
-            own: EntryMap::new(alloc),
-            read_only: KeySet::new(alloc),
-        }
     }
 }
 

@@ -1,5 +1,5 @@
 use Rattle.std.proofs.Common.{sym}
-use Rattle.spelled_order.proofs.Deciding.{whole}
+use Rattle.spelled_order.proofs.Lemmas.{whole}
 use Rattle.ledger_types.specs.Entry.{key_of}
 use Rattle.ledger_types.specs.KeyOrder.{ranked_key}
 use Rattle.entry_map.proofs.order.cmp_entry.Goals as goal

@@ -3,9 +3,9 @@ use Rattle.stage_runs.specs.Maps.{LedgerMap}
 use Rattle.stage_runs.specs.Runs.{Cluster, ended}
 use Rattle.stage_runs.specs.Parts.{owns_back}
 use Rattle.ledger_parts.specs.Cut.{left_of, cut_from, runs_over}
-use Rattle.ledger_parts.proofs.Seen.{cut_run}
+use Rattle.ledger_parts.proofs.Lemmas.{cut_run}
 use Rattle.apply_spec.specs.Enforced.{enforced}
-use Rattle.apply_spec.proofs.Framed.{step_framed}
+use Rattle.apply_spec.proofs.Lemmas.{step_framed}
 use Rattle.ledger_apply.specs.State.{between}
 use Rattle.ledger_apply.specs.Job.{cluster_of, own_of, IsMovedOf, AreMoved}
 use Rattle.ledger_apply.specs.declared.job.Job.{Job}

@@ -1,7 +1,7 @@
 use Rattle.std.proofs.Common.{◌++◌, List, subst, sym, ap, ap₂, ◌∙◌}
 use Rattle.stage_runs.specs.Maps.{LedgerMap}
 use Rattle.apply_spec.specs.Enforced.{enforced}
-use Rattle.apply_spec.proofs.Framed.{step_framed}
+use Rattle.apply_spec.proofs.Lemmas.{step_framed}
 use Rattle.stage_runs.specs.Runs.{Reported, put_all_in}
 use Rattle.ledger_apply.specs.Spelled.{AreEnvelopes}
 use Rattle.ledger_apply.specs.State.{between, pending_of, reports_of}

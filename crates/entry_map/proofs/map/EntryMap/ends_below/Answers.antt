@@ -8,7 +8,7 @@ use Rattle.entry_map.specs.Rows.{rows_of, joined}
 use Rattle.entry_map.proofs.Sorted.{Pair}
 use Rattle.entry_map.proofs.Places.{Row}
 use Rattle.std.specs.Prelude.{slice_get}
-use Rattle.ledger_types.proofs.Ranking.{key_ranked}
+use Rattle.ledger_types.proofs.Lemmas.{key_ranked}
 use Rattle.entry_map.specs.Rows.{ends_below}
 use Rattle.entry_map.proofs.MapLaws.{entries_of, last_row, none_last}
 use Rattle.entry_map.proofs.map.EntryMap.ends_below.Goals as goal

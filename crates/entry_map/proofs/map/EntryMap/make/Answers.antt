@@ -1,4 +1,4 @@
-use Rattle.ledger_types.proofs.KeyLaws.{key_of_fits}
+use Rattle.ledger_types.proofs.Lemmas.{key_of_fits}
 use Rattle.entry_map.proofs.map.EntryMap.make.Goals as goal
 
 pub state-requires : goal.state-requires

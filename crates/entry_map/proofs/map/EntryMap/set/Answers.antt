@@ -4,7 +4,7 @@ use Rattle.ledger_types.specs.KeyOrder.{ranked_key}
 use Rattle.ledger_spec.specs.declared.Kept.{Kept}
 use Rattle.ledger_spec.specs.LedgerMap.{LedgerMap, IsKeptAt, key_bytes}
 use Rattle.entry_map.specs.Entries.{map_of}
-use Rattle.entry_map.specs.Rows.{rows_of, joined, IsFoundAt, IsGapAt}
+use Rattle.entry_map.specs.Rows.{AreRows, rows_of, joined, IsFoundAt, IsGapAt}
 use Rattle.entry_map.proofs.Places.{Row, Rows}
 use Rattle.entry_map.proofs.MapLaws.{replace_rows, add_rows, same_key}
 use Rattle.entry_map.proofs.map.EntryMap.set.Goals as goal
@@ -40,17 +40,18 @@ invariant_of-self-in-Err c =
     let gap : IsGapAt q rows c.in-Err.at = subst (λ (vs : List Row). IsGapAt q (rows_of vs) c.in-Err.at) c.deref.ensures.value c.in-Err.ensures in
     let stored = c.in_ok-stored-in-Err.stored in
     let kept : IsKeptAt (key_bytes c.args.key.now) stored.value.kept = subst (IsKeptAt (key_bytes c.args.key.now)) (sym c.in_ok-stored-in-Err.ensures) c.requires.kept in
-    (add_rows rows (rows_of c.insert_at.new.rows.items) c.in-Err.at c.args.key.now stored c.self.inside.count c.self.invariant gap c.requires.fits kept
-    c.if-self-ge-MOST_ENTRIES.false c.in_ok-insert_at-in-Err.ensures.ok c.in_ok-insert_at-in-Err.ensures.full).rows
+    subst (AreRows (rows_of c.add_at.new.rows.items)) (sym c.in_ok-add_at-in-Err.ensures.counted)
+    (add_rows rows (rows_of c.add_at.new.rows.items) c.in-Err.at c.args.key.now stored c.self.inside.count c.self.invariant gap c.requires.fits kept
+    c.in_ok-add_at-in-Err.ensures.few c.in_ok-add_at-in-Err.ensures.ok c.in_ok-add_at-in-Err.ensures.full).rows
 
-pub returns-in_ok-insert_at-in-Err-clause-ok : goal.returns-in_ok-insert_at-in-Err-clause-ok
-returns-in_ok-insert_at-in-Err-clause-ok c =
+pub returns-in_ok-add_at-in-Err-clause-ok : goal.returns-in_ok-add_at-in-Err-clause-ok
+returns-in_ok-add_at-in-Err-clause-ok c =
     let q : List ℕ = ranked_key c.args.key.now in
     let rows : Rows = rows_of c.self.inside.rows.items in
     let gap : IsGapAt q rows c.in-Err.at = subst (λ (vs : List Row). IsGapAt q (rows_of vs) c.in-Err.at) c.deref.ensures.value c.in-Err.ensures in
     let stored = c.in_ok-stored-in-Err.stored in
     let kept : IsKeptAt (key_bytes c.args.key.now) stored.value.kept = subst (IsKeptAt (key_bytes c.args.key.now)) (sym c.in_ok-stored-in-Err.ensures) c.requires.kept in
-    sym (add_rows rows (rows_of c.insert_at.new.rows.items) c.in-Err.at c.args.key.now stored c.self.inside.count c.self.invariant gap c.requires.fits kept
-    c.if-self-ge-MOST_ENTRIES.false c.in_ok-insert_at-in-Err.ensures.ok c.in_ok-insert_at-in-Err.ensures.full).map
+    sym (add_rows rows (rows_of c.add_at.new.rows.items) c.in-Err.at c.args.key.now stored c.self.inside.count c.self.invariant gap c.requires.fits kept
+    c.in_ok-add_at-in-Err.ensures.few c.in_ok-add_at-in-Err.ensures.ok c.in_ok-add_at-in-Err.ensures.full).map
     ∙ ap (λ (v : Kept). insert (map_of (joined rows)) (key_bytes c.args.key.now) v) c.in_ok-stored-in-Err.ensures
     ∙ ap (λ (m : LedgerMap). insert m (key_bytes c.args.key.now) c.args.kept) c.self.view_is

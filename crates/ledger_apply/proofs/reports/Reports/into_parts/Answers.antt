@@ -2,7 +2,7 @@ use Rattle.std.proofs.Common.{List, Option, All, map, subst, sym, ap, ◌∙◌}
 use Rattle.xdr_spec.specs.Format.{optional}
 use Rattle.invoke_types.specs.Success.{success_format}
 use Rattle.stage_runs.specs.Runs.{Reported}
-use Rattle.tx_results.proofs.Fits.{result_set_fits}
+use Rattle.tx_results.proofs.Lemmas.{result_set_fits}
 use Rattle.tx_results.specs.Results.{result_set_format}
 use Rattle.tx_results.specs.declared.results.TransactionResultPair.{TransactionResultPair}
 use Rattle.invoke_types.specs.declared.success.SuccessPreimage.{SuccessPreimage}

@@ -1,0 +1,5 @@
+-- The lemmas that other crates cite.
+pub use Rattle.ledger_parts.proofs.Crosses.{key_sync, map_send, map_sync}
+pub use Rattle.ledger_parts.proofs.EnvelopeCrosses.{envelope_sync, extension_send, success_send}
+pub use Rattle.ledger_parts.proofs.Keys.{read_both}
+pub use Rattle.ledger_parts.proofs.Seen.{cut_run, found_left, seen_run}
