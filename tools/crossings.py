@@ -1,13 +1,13 @@
 #!/usr/bin/env python3
-"""Which crates of definitions stand on code, and how often a crate cites another crate's proofs. Both can only become fewer.
+"""Which crates of definitions stand on code, and that no crate cites another crate's proofs but its published lemmas.
 
-A crate named `*_spec` stands only on crates of definitions, on types and on their codecs (UNDER_DEFINITIONS). A crate cites no
-other crate's proofs/ but lemmas that the other one publishes on its page proofs/Lemmas.antt. Not all crates obey yet:
-tools/crossings.txt has, for each, the crates that it still stands on, and the number of its citations.
+A crate named `*_spec` stands only on crates of definitions, on types and on their codecs (UNDER_DEFINITIONS). Not all obey yet:
+tools/crossings.txt has the crates that each still stands on, and it only shrinks. A crate cites no other crate's proofs/ but the
+lemmas that the other one publishes on its page proofs/Lemmas.antt: all other pages there are private.
 
-python3 tools/crossings.py            writes tools/crossings.txt anew, unless a crate stands on more or cites more than before
-python3 tools/crossings.py --check    says whether the code has exactly what the file says; the status is 1 if it has not
-python3 tools/crossings.py --list     prints the citations: by the crate that is cited, its pages, and the citing crates
+python3 tools/crossings.py            writes tools/crossings.txt anew, unless a crate breaks a rule
+python3 tools/crossings.py --check    says which rules are broken, and whether the file has what is there; the status is 1 if not
+python3 tools/crossings.py --list     prints how often each crate's published lemmas are cited, and by which crates
 """
 import collections
 import pathlib
@@ -17,7 +17,7 @@ import sys
 from layers import TOP, crates
 
 FILE = pathlib.Path(__file__).with_suffix(".txt")
-HEAD = "# What tools/crossings.py found: crates of definitions that stand on code, and citations of other crates' proofs.\n"
+HEAD = "# What tools/crossings.py found: crates of definitions that stand on code.\n"
 
 UNDER_DEFINITIONS = """
     xdr_spec ledger_spec wasm_spec host_spec call_spec apply_spec stage_runs list_laws
@@ -34,68 +34,59 @@ MADE = ("TheSendSync", "TheKnot")
 
 def standing():
     """Returns, for each crate of definitions, the crates of code that it stands on."""
-    listed = crates()
-    found = {name: [need for need in needs if need not in UNDER_DEFINITIONS] for name, (needs, _) in listed.items()}
-    return {name: " ".join(sorted(found[name])) for name in found if name.endswith("_spec") and found[name]}
+    found = {}
+    for name, (needs, _) in crates().items():
+        others = sorted(need for need in needs if need not in UNDER_DEFINITIONS)
+        if name.endswith("_spec") and others:
+            found[name] = " ".join(others)
+    return found
 
 
 def citations():
-    """Returns the citing crate, the cited one and the page of each citation of another crate's proofs."""
-    found = []
+    """Yields the citing crate, the cited one, the page, and the citing file, for each citation of another crate's proofs."""
     names = crates()
     for name in names:
         for part, ending in (("src", "*.rt"), ("specs", "*.antt"), ("proofs", "*.antt")):
             for path in sorted((TOP / "crates" / name / part).rglob(ending)):
                 for match in CITATION.finditer(path.read_text(encoding="utf-8")):
                     other, page = match[1] or match[3], match[2] or match[4]
-                    if other in names and other != name and page != LEMMAS and not page.endswith(MADE):
-                        found.append((name, other, page))
-    return found
+                    if other in names and other != name and not page.endswith(MADE):
+                        yield name, other, page, path
 
 
-def counts():
-    return {name: str(count) for name, count in collections.Counter(name for name, _, _ in citations()).items()}
-
-
-def written(stands, cites):
-    rows = [f"{name} stands on {stands[name]}\n" for name in sorted(stands)]
-    rows += [f"{name} cites {cites[name]}\n" for name in sorted(cites)]
-    return HEAD + "".join(rows)
+def open_pages():
+    """Yields each page of proofs that is not private, but the page of published lemmas."""
+    for path in sorted((TOP / "crates").glob("*/proofs/Lib.antt")):
+        for page in re.findall(r"^pub mod (\w+)", path.read_text(encoding="utf-8"), re.M):
+            if page != LEMMAS:
+                yield path, page
 
 
 def known():
-    """Returns what the file says of each crate: what it stands on, and the number of its citations."""
-    stands, cites = {}, {}
-    for line in FILE.read_text(encoding="utf-8").splitlines():
-        if match := re.fullmatch(r"(\w+) stands on (.*)", line):
-            stands[match[1]] = match[2]
-        elif match := re.fullmatch(r"(\w+) cites (\d+)", line):
-            cites[match[1]] = match[2]
-    return stands, cites
+    """Returns what the file says: for each crate of definitions, the crates of code that it stands on."""
+    return dict(re.findall(r"^(\w+) stands on (.*)$", FILE.read_text(encoding="utf-8"), re.M))
 
 
-def faults(stands, cites):
-    """Returns a line for each crate that stands on more than the file says, or cites more."""
-    old_stands, old_cites = known()
-    lines = []
-    for name, others in stands.items():
+def faults():
+    """Yields a line for each rule that is broken."""
+    old = known()
+    for name, others in standing().items():
         for other in others.split():
-            if other not in old_stands.get(name, "").split():
-                lines.append(f"{name} is a crate of definitions, and stands on {other}")
-    for name, count in cites.items():
-        if int(count) > int(old_cites.get(name, "0")):
-            lines.append(f"{name} cites proofs of other crates {count} times, and not {old_cites.get(name, '0')} times: see --list")
-    return lines
+            if other not in old.get(name, "").split():
+                yield f"{name} is a crate of definitions, and stands on {other}"
+    for _, other, page, path in citations():
+        if page != LEMMAS:
+            yield f"{path.relative_to(TOP)} cites {other}'s proofs/{page}: publish the lemma on {other}'s proofs/{LEMMAS}.antt"
+    for path, page in open_pages():
+        yield f"{path.relative_to(TOP)}: the page {page} is not private"
 
 
 def show():
-    by_page = collections.defaultdict(collections.Counter)
-    for name, other, page in citations():
-        by_page[other, page][name] += 1
-    totals = collections.Counter(other for _, other, _ in citations())
-    for (other, page), names in sorted(by_page.items(), key=lambda row: (-totals[row[0][0]], row[0])):
-        print(f"{other} {page}: {sum(names.values())}, by " + ", ".join(f"{name} {count}" for name, count in names.most_common()))
-    print(f"{sum(totals.values())} citations of {len(by_page)} pages of {len(totals)} crates")
+    cited = collections.defaultdict(collections.Counter)
+    for name, other, _, _ in citations():
+        cited[other][name] += 1
+    for other, names in sorted(cited.items(), key=lambda row: (-row[1].total(), row[0])):
+        print(f"{other}: {names.total()}, by " + ", ".join(f"{name} {count}" for name, count in names.most_common()))
 
 
 def main():
@@ -104,12 +95,13 @@ def main():
         return
     if sys.argv[1:] not in ([], ["--check"]):
         sys.exit(__doc__)
-    stands, cites = standing(), counts()
-    if lines := faults(stands, cites):
+    if lines := list(faults()):
         sys.exit("\n".join(lines))
+    stands = standing()
     if not sys.argv[1:]:
-        FILE.write_text(written(stands, cites), encoding="utf-8")
-    elif (stands, cites) != known():
+        rows = [f"{name} stands on {stands[name]}\n" for name in sorted(stands)]
+        FILE.write_text(HEAD + "".join(rows), encoding="utf-8")
+    elif stands != known():
         sys.exit("there is less to mend than tools/crossings.txt says: run tools/crossings.py")
 
 

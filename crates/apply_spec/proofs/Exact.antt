@@ -23,7 +23,7 @@ use Rattle.stage_runs.specs.declared.Change.{Change}
 use Rattle.stage_runs.specs.declared.Extension.{Extension}
 use Rattle.stage_runs.specs.Transactions.{Effect, declared_by}
 use Rattle.stage_runs.specs.Whole as runs
-use Rattle.stage_runs.proofs.Points.{longer, left_true, right_true, both_first}
+use Rattle.stage_runs.proofs.Lemmas.{both_first, left_true, longer, right_true}
 use Rattle.call_spec.specs.World.{next_seq}
 use Rattle.apply_spec.specs.Checks.{refusal_of}
 use Rattle.apply_spec.specs.Enforced.{Performed, unmetered, all_lengthened, extended, may_extend, failed, performed, first_performed, judged, whole, result_pair, enforced, has_life}

@@ -7,7 +7,7 @@ use Rattle.std.proofs.lemmas.Bool.{and_from}
 use Rattle.std.proofs.lemmas.List.Sums.{sum_by-cons}
 use Rattle.stage_runs.specs.Maps.{Bytes, LedgerKey, key_bytes, has_bytes}
 use Rattle.stage_runs.specs.Whole.{has_twice}
-use Rattle.stage_runs.proofs.Points.{left_false, right_false, left_true, right_true, both_false, both_first, both_second, never}
+use Rattle.stage_runs.proofs.Lemmas.{both_false, both_first, both_second, left_false, left_true, never, right_false, right_true}
 use Rattle.apply_spec.proofs.Rising.{same_bytes, bytes_from}
 
 -- each key of the first list is in the second

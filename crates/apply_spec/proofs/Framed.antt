@@ -19,10 +19,10 @@ use Rattle.tx_results.specs.declared.results.TransactionOutcome.TheVariants.{Mal
 use Rattle.stage_runs.specs.Maps.{Bytes, LedgerKey, LedgerMap, AgreeOn, has_bytes}
 use Rattle.stage_runs.specs.Transactions.{footprint_in, declares, declared_by, IsFramed}
 use Rattle.stage_runs.specs.Whole.{AreAlike, IsLocal, RefusesTwice, has_twice}
-use Rattle.stage_runs.proofs.Wholes.{enforced_framed}
+use Rattle.stage_runs.proofs.Lemmas.{enforced_framed}
 use Rattle.call_spec.specs.World.{next_seq, Authority}
 use Rattle.call_spec.specs.Invoked.{declared}
-use Rattle.call_spec.proofs.Framed.{frame_law}
+use Rattle.call_spec.proofs.Lemmas.{frame_law}
 use Rattle.apply_spec.specs.Checks.{footprint_of, first_failed, form_checks, may_be_footprint, refusal_of}
 use Rattle.apply_spec.specs.Enforced.{Performed, is_success, unmetered, all_lengthened, extended, may_extend, outcome_of_call, authority_of, called, performed, first_performed, judged, whole, refusal, result_pair, enforced}
 use Rattle.apply_spec.proofs.Lengthened.{lengthened_at, found_all}

@@ -36,7 +36,7 @@ use Rattle.tx_results.specs.declared.results.TransactionResultPair.{TransactionR
 use Rattle.stage_runs.specs.Maps.{LedgerMap, AgreeOn}
 use Rattle.stage_runs.specs.Transactions.{Effect, footprint_in}
 use Rattle.stage_runs.specs.Whole as runs
-use Rattle.stage_runs.proofs.Points.{both_first, never}
+use Rattle.stage_runs.proofs.Lemmas.{both_first, never}
 use Rattle.call_spec.specs.World.{next_seq, Authority}
 use Rattle.call_spec.specs.Acts.{world_of}
 use Rattle.call_spec.specs.WholeRuns.{Work, work_of, whole}

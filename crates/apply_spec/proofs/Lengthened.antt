@@ -7,7 +7,7 @@ use Rattle.std.proofs.lemmas.Bool.Decides.{nat_tests}
 use Rattle.std.proofs.lemmas.Slice.Eq.{bytes_eq-Decides}
 use Rattle.ledger_spec.specs.Seen.{live, absent, archived, seen_of, is_temporary}
 use Rattle.stage_runs.specs.Maps.{Bytes, LedgerKey, key_bytes, Kept, LedgerMap, has_bytes}
-use Rattle.stage_runs.proofs.Points.{longer, longer_at, found}
+use Rattle.stage_runs.proofs.Lemmas.{found, longer, longer_at}
 use Rattle.apply_spec.specs.Enforced.{lengthened_seen, lengthened, all_lengthened}
 
 -- what is at a key after its entry was lengthened

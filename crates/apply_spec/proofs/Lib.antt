@@ -1,10 +1,11 @@
-pub mod Lengthened
-pub mod Exact
-pub mod Framed
-pub mod Called
-pub mod Rising
-pub mod Touching
-pub mod Recording
-pub mod Fewer
-pub mod Trapping
-pub mod Halves
+mod Called
+mod Exact
+mod Fewer
+mod Framed
+mod Halves
+pub mod Lemmas
+mod Lengthened
+mod Recording
+mod Rising
+mod Touching
+mod Trapping

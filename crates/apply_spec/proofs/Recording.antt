@@ -7,7 +7,7 @@ use Rattle.ledger_spec.specs.LedgerMap.{key_bytes}
 use Rattle.ledger_types.specs.declared.key.LedgerKey.{LedgerKey}
 use Rattle.tx_xdr.specs.declared.transaction.Footprint.{Footprint}
 use Rattle.stage_runs.specs.Maps.{Bytes, has_bytes}
-use Rattle.stage_runs.proofs.Points.{left_true, right_true, both_second, one_true, never}
+use Rattle.stage_runs.proofs.Lemmas.{both_second, left_true, never, one_true, right_true}
 use Rattle.call_spec.specs.World.{AccessKind, Read, Extend, Write, Access}
 use Rattle.call_spec.specs.Footprints.{by_footprint, allows, first_rejected}
 use Rattle.call_spec.specs.Laws.{is_write, writes_in}

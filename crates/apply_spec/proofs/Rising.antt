@@ -18,7 +18,7 @@ use Rattle.std.proofs.lemmas.Map.Views.{All-insert_key}
 use Rattle.std.proofs.lemmas.Slice.Eq.{bytes_eq-Decides}
 use Rattle.stage_runs.specs.Maps.{Bytes, LedgerKey, key_bytes, has_bytes}
 use Rattle.stage_runs.specs.Whole.{has_twice}
-use Rattle.stage_runs.proofs.Points.{cases, left_false, right_false, left_true, right_true, both_false, one_true, never}
+use Rattle.stage_runs.proofs.Lemmas.{both_false, cases, left_false, left_true, never, one_true, right_false, right_true}
 use Rattle.apply_spec.specs.Recorded.{bytes_cmp, rising, AreRising}
 
 -- ---- equal bytes

@@ -7,7 +7,7 @@ use Rattle.std.proofs.lemmas.List.Elements.{All-nil, All-cons}
 use Rattle.ledger_spec.specs.LedgerMap.{key_bytes}
 use Rattle.ledger_types.specs.declared.key.LedgerKey.{LedgerKey}
 use Rattle.stage_runs.specs.Maps.{Bytes, has_bytes}
-use Rattle.stage_runs.proofs.Points.{both_false}
+use Rattle.stage_runs.proofs.Lemmas.{both_false}
 use Rattle.call_spec.specs.World.{AccessKind, Read, Extend, Write, Access}
 use Rattle.call_spec.specs.Laws.{is_write, writes_in}
 use Rattle.apply_spec.specs.Recorded.{Touched, stronger, touch, touched, keys_where, touches_in, first_key, AreFirst}

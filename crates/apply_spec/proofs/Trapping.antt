@@ -25,7 +25,7 @@ use Rattle.call_spec.specs.Footprints.{by_footprint, first_rejected}
 use Rattle.call_spec.specs.WholeRuns.{Work, whole}
 use Rattle.call_spec.specs.Invoked.{Invoked, unsuccessful, by_trace, by_run, by_work, declared, declares_archived, read_bytes, is_archived, live_bytes}
 use Rattle.call_spec.specs.Laws.{Agree, AlikeEnds}
-use Rattle.call_spec.proofs.Stopping.{local_law}
+use Rattle.call_spec.proofs.Lemmas.{local_law}
 use Rattle.apply_spec.specs.Checks.{may_be_declared, may_be_footprint}
 use Rattle.apply_spec.specs.Recorded.{recorded, is_declared, IsSmaller}
 use Rattle.apply_spec.proofs.Recording.{allowed_law, smaller_law}

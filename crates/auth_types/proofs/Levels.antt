@@ -3,7 +3,7 @@ use Rattle.std.proofs.Common.{◌≡◌, ℕ, zero, suc, ◌-◌, List, Ok, Err,
 use Rattle.xdr_spec.specs.declared.XdrErr.{XdrErr}
 use Rattle.xdr_spec.specs.Format.{Input, Outcome, Format, repeat_at, counted}
 use Rattle.value_types.specs.Formats.{count_at}
-use Rattle.value_xdr.proofs.Levels.{collection, collection_read, collection_refused}
+use Rattle.value_xdr.proofs.Lemmas.{collection, collection_read, collection_refused}
 use Rattle.auth_types.specs.Tree.{Tree}
 use Rattle.auth_types.specs.Invocation.{tree_format, subs_format}
 

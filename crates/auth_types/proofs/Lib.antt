@@ -1,5 +1,6 @@
-pub mod Parts
-pub mod Levels
-pub mod Rows
-pub mod Linked
-pub mod Same
+pub mod Lemmas
+mod Levels
+mod Linked
+mod Parts
+mod Rows
+mod Same

@@ -2,8 +2,7 @@
 use Rattle.std.specs.Prelude.{refl}
 use Rattle.xdr_spec.specs.Format.{Format, via, pair}
 use Rattle.xdr_spec.specs.Laws.{IsFormat}
-use Rattle.xdr_spec.proofs.Pairs.{pair_lawful}
-use Rattle.xdr_spec.proofs.Remade.{via_lawful}
+use Rattle.xdr_spec.proofs.Lemmas.{pair_lawful, via_lawful}
 use Rattle.auth_types.specs.Credentials.{credentials_format, credentials_lawful}
 use Rattle.auth_types.specs.Invocation.{invocation_format}
 use Rattle.auth_types.specs.InvocationLaws.{invocation_lawful}

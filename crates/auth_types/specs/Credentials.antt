@@ -4,12 +4,11 @@ use Rattle.std.specs.Prelude.{◌≡◌, ◌<◌, ◌^◌, List, [], ◌∷◌, 
 use Rattle.std.proofs.Common.{refl, ap, arith}
 use Rattle.xdr_spec.specs.Format.{Format, via, pair, arm, nothing, union, enumeration, find_kind, number32, signed64}
 use Rattle.xdr_spec.specs.Laws.{IsFormat}
-use Rattle.xdr_spec.proofs.Pairs.{pair_lawful, nothing_lawful}
-use Rattle.xdr_spec.proofs.Remade.{via_lawful, arm_lawful, arm_kind}
-use Rattle.xdr_spec.proofs.Derived.{union_lawful, enumeration_lawful, find_kind-back, number32_lawful, signed64_lawful}
+use Rattle.xdr_spec.proofs.Lemmas.{arm_kind, arm_lawful, enumeration_lawful, find_kind-back, nothing_lawful, number32_lawful}
+use Rattle.xdr_spec.proofs.Lemmas.{pair_lawful, signed64_lawful, union_lawful, via_lawful}
 use Rattle.value_types.specs.Address.{address_format, address_lawful}
 use Rattle.value_types.specs.Formats.{scval_format}
-use Rattle.value_types.proofs.Lawful.{scval_lawful}
+use Rattle.value_types.proofs.Lemmas.{scval_lawful}
 use Rattle.value_types.specs.declared.address.ScAddress.{ScAddress}
 use Rattle.value_types.specs.declared.value.ScVal.{ScVal}
 use Rattle.auth_types.specs.declared.credentials.CredentialsType.{CredentialsType}

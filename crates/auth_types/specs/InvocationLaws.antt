@@ -3,9 +3,7 @@ use Rattle.std.proofs.Common.{◌≡◌, ℕ, zero, suc, List, [], ◌∷◌, re
 use Rattle.xdr_spec.specs.declared.Why.TheVariants.{Depth}
 use Rattle.xdr_spec.specs.Format.{Format}
 use Rattle.xdr_spec.specs.Laws.{IsFormat}
-use Rattle.xdr_spec.proofs.Pairs.{pair_lawful}
-use Rattle.xdr_spec.proofs.Remade.{via_lawful}
-use Rattle.xdr_spec.proofs.Derived.{empty_list_lawful, counted_lawful}
+use Rattle.xdr_spec.proofs.Lemmas.{counted_lawful, empty_list_lawful, pair_lawful, via_lawful}
 use Rattle.invoke_types.specs.Function.{function_lawful}
 use Rattle.auth_types.specs.Tree.{Tree, Trees, node, no_trees, trees, trees_of, list_of_trees}
 use Rattle.auth_types.specs.Views.{tree_of, invocation_of, invocation_of_parts, invocation_parts}

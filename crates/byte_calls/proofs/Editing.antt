@@ -2,7 +2,7 @@
 use Rattle.std.proofs.Common.{◌≡◌, ℕ, ◌+◌, ◌<◌, ◌≤◌, ◌^◌, List, [], ◌++◌, length, drop, slice_set, length-set, length-append, length-drop, ap, arith}
 use Rattle.value_types.specs.Datum.{bytes}
 use Rattle.host_spec.specs.Hosted.{IsHosted}
-use Rattle.host_frame.proofs.Making.{few_bytes}
+use Rattle.host_frame.proofs.Lemmas.{few_bytes}
 
 pub few_put : (bs copy : List ℕ) (i b : ℕ) → copy ≡ bs → IsHosted (bytes bs) → length (slice_set copy i b) < 2 ^ 32
 few_put bs copy i b is h =

@@ -1,3 +1,3 @@
-pub mod Editing
-pub mod Hashing
-pub mod Reading
+mod Editing
+mod Hashing
+mod Reading

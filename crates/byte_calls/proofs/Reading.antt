@@ -6,8 +6,7 @@ use Rattle.xdr_spec.specs.Format.{IsBytes, opaque}
 use Rattle.xdr_spec.specs.Refusal.{Spells, Refuses}
 use Rattle.xdr_spec.specs.declared.Why.{Why}
 use Rattle.xdr_spec.specs.declared.XdrErr.{XdrErr}
-use Rattle.xdr_spec.proofs.Decoding.{spells_decoded, decoded_refuses, decoded_spells}
-use Rattle.xdr_spec.proofs.Refused.{not_both, one_refusal}
+use Rattle.xdr_spec.proofs.Lemmas.{decoded_refuses, decoded_spells, not_both, one_refusal, spells_decoded}
 use Rattle.xdr_core.specs.Reads.{IsRefusal}
 use Rattle.xdr_core.specs.declared.error.ReadXdr.{ReadXdr}
 use Rattle.xdr_core.specs.declared.error.ReadXdr.TheVariants.{Bad, NoMemory}
@@ -15,10 +14,10 @@ use Rattle.value_types.specs.Datum.{bytes}
 use Rattle.value_types.specs.Formats.{scval_format}
 use Rattle.value_types.specs.Views.{datum}
 use Rattle.value_types.specs.declared.value.ScVal.{ScVal}
-use Rattle.value_types.proofs.Lawful.{scval_lawful}
+use Rattle.value_types.proofs.Lemmas.{scval_lawful}
 use Rattle.value_xdr.specs.Bytes.{IsBounded}
 use Rattle.host_spec.specs.Hosted.{IsHosted}
-use Rattle.host_frame.proofs.Decoding.{spelled_bounded}
+use Rattle.host_frame.proofs.Lemmas.{spelled_bounded}
 use Rattle.byte_calls.specs.Decodes.{Decodes}
 
 hosted_are_bytes : (x : List ℕ) → IsHosted (bytes x) → IsBytes x

@@ -75,7 +75,7 @@ pub fn bytes_del(
 }
 
 /// `bytes_len`: the number of bytes.
-#[tactic(auto, using(host_frame::proofs::Making::few_bytes))]
+#[tactic(auto, using(host_frame::proofs::Lemmas::few_bytes))]
 pub fn bytes_len(values: &Values<'_>, budget: &mut Budget, a: u64) -> Result<Answer, ValueErr>
     ensures { Answers result (kinds.Bytes ∷ []) bytes_len (a ∷ []) values.now budget.old budget.new }
 {

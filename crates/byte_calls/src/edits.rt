@@ -9,7 +9,7 @@ ghost use Rattle.host_spec.specs.LinearMemory.{overwritten};
 use std::alloc::{AllocError, Global};
 
 /// A copy with another byte at an index.
-#[tactic(auto, using(host_frame::proofs::Making::few_bytes))]
+#[tactic(auto, using(host_frame::proofs::Lemmas::few_bytes))]
 pub fn with_put(alloc: Global, bytes: &[u8], index: usize, byte: u8) -> Result<Vec<u8>, AllocError>
     requires inside { index < length bytes.now }
     requires hosted { IsHosted (bytes_datum bytes.now) }
@@ -22,7 +22,7 @@ pub fn with_put(alloc: Global, bytes: &[u8], index: usize, byte: u8) -> Result<V
 }
 
 /// A copy without the byte at an index.
-#[tactic(auto, using(host_frame::proofs::Making::few_bytes))]
+#[tactic(auto, using(host_frame::proofs::Lemmas::few_bytes))]
 pub fn without(alloc: Global, bytes: &[u8], index: usize) -> Result<Vec<u8>, AllocError>
     requires inside { index < length bytes.now }
     requires hosted { IsHosted (bytes_datum bytes.now) }
@@ -35,7 +35,7 @@ pub fn without(alloc: Global, bytes: &[u8], index: usize) -> Result<Vec<u8>, All
 }
 
 /// A copy with a byte at its end.
-#[tactic(auto, using(host_frame::proofs::Making::few_bytes))]
+#[tactic(auto, using(host_frame::proofs::Lemmas::few_bytes))]
 pub fn with_pushed(alloc: Global, bytes: &[u8], byte: u8) -> Result<Vec<u8>, AllocError>
     requires { IsHosted (bytes_datum bytes.now) }
     ensures value { IfOk result (λ v. v.items ≡ bytes.now ++ byte ∷ []) }
@@ -48,7 +48,7 @@ pub fn with_pushed(alloc: Global, bytes: &[u8], byte: u8) -> Result<Vec<u8>, All
 }
 
 /// A copy with a byte before the one at an index, or at the end.
-#[tactic(auto, using(host_frame::proofs::Making::few_bytes))]
+#[tactic(auto, using(host_frame::proofs::Lemmas::few_bytes))]
 pub fn with_inserted(
     alloc: Global,
     bytes: &[u8],
@@ -67,7 +67,7 @@ pub fn with_inserted(
 }
 
 /// Returns the bytes of both, one after the other.
-#[tactic(auto, using(host_frame::proofs::Making::few_bytes))]
+#[tactic(auto, using(host_frame::proofs::Lemmas::few_bytes))]
 pub fn joined(alloc: Global, front: &[u8], back: &[u8]) -> Result<Vec<u8>, AllocError>
     requires front { IsHosted (bytes_datum front.now) }
     requires back { IsHosted (bytes_datum back.now) }
@@ -92,7 +92,7 @@ fn rest(bytes: &[u8], index: usize) -> &[u8]
 }
 
 /// A copy with these bytes from an index on. It is longer than the old bytes if they end earlier.
-#[tactic(auto, using(host_frame::proofs::Making::few_bytes))]
+#[tactic(auto, using(host_frame::proofs::Lemmas::few_bytes))]
 pub fn overwritten(
     alloc: Global,
     bytes: &[u8],

@@ -62,7 +62,7 @@ pub fn last_of(bytes: &[u8]) -> Option<u8>
 }
 
 /// The bytes from one index to another: `OUTSIDE_OBJECT` if these are no range of the bytes.
-#[tactic(auto, using(host_frame::proofs::Making::few_bytes))]
+#[tactic(auto, using(host_frame::proofs::Lemmas::few_bytes))]
 pub fn part_of(bytes: &[u8], from: u32, to: u32) -> Result<&[u8], ValueErr>
     requires { IsHosted (bytes_datum bytes.now) }
     ensures means { MatchResult result (λ s. (nat_le from to && nat_le to (length bytes.now) ≡ true)
@@ -96,7 +96,7 @@ pub fn range_of(bytes: &[u8], from: u32, len: u32) -> Result<&[u8], ValueErr>
 }
 
 /// All but the last byte: `OUTSIDE_OBJECT` if there are none.
-#[tactic(auto, using(host_frame::proofs::Making::few_bytes))]
+#[tactic(auto, using(host_frame::proofs::Lemmas::few_bytes))]
 pub fn front_of(bytes: &[u8]) -> Result<&[u8], ValueErr>
     requires { IsHosted (bytes_datum bytes.now) }
     ensures means { MatchResult result (λ s. (nat_lt 0 (length bytes.now) ≡ true)

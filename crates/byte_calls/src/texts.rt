@@ -10,7 +10,7 @@ use host_frame::{Answer, Values, enter};
 use host_spec::ValueErr;
 
 /// `string_len`: the number of bytes of a string.
-#[tactic(auto, using(host_frame::proofs::Making::few_string))]
+#[tactic(auto, using(host_frame::proofs::Lemmas::few_string))]
 pub fn string_len(values: &Values<'_>, budget: &mut Budget, a: u64) -> Result<Answer, ValueErr>
     ensures { Answers result (kinds.String ∷ []) string_len (a ∷ []) values.now budget.old budget.new }
 {
@@ -20,7 +20,7 @@ pub fn string_len(values: &Values<'_>, budget: &mut Budget, a: u64) -> Result<An
 }
 
 /// `symbol_len`: the number of characters of a symbol.
-#[tactic(auto, using(host_frame::proofs::Making::few_symbol))]
+#[tactic(auto, using(host_frame::proofs::Lemmas::few_symbol))]
 pub fn symbol_len(values: &Values<'_>, budget: &mut Budget, a: u64) -> Result<Answer, ValueErr>
     ensures { Answers result (kinds.Symbol ∷ []) symbol_len (a ∷ []) values.now budget.old budget.new }
 {
@@ -30,7 +30,7 @@ pub fn symbol_len(values: &Values<'_>, budget: &mut Budget, a: u64) -> Result<An
 }
 
 /// `string_to_bytes`: the bytes of a string.
-#[tactic(auto, using(host_frame::proofs::Making::few_string))]
+#[tactic(auto, using(host_frame::proofs::Lemmas::few_string))]
 pub fn string_to_bytes(values: &Values<'_>, budget: &mut Budget, a: u64) -> Result<Answer, ValueErr>
     ensures { Answers result (kinds.String ∷ []) string_to_bytes (a ∷ []) values.now budget.old budget.new }
 {
@@ -40,7 +40,7 @@ pub fn string_to_bytes(values: &Values<'_>, budget: &mut Budget, a: u64) -> Resu
 }
 
 /// `bytes_to_string`: the string of these bytes.
-#[tactic(auto, using(host_frame::proofs::Making::few_bytes))]
+#[tactic(auto, using(host_frame::proofs::Lemmas::few_bytes))]
 pub fn bytes_to_string(values: &Values<'_>, budget: &mut Budget, a: u64) -> Result<Answer, ValueErr>
     ensures { Answers result (kinds.Bytes ∷ []) bytes_to_string (a ∷ []) values.now budget.old budget.new }
 {

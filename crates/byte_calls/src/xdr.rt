@@ -22,7 +22,7 @@ use value_xdr::{value_from_bytes, value_to_bytes};
 use xdr_core::{NoMemory, ReadXdr};
 
 /// The XDR of a value.
-#[tactic(auto, using(host_frame::proofs::Fitting::hosted_fits, host_frame::proofs::Fitting::spelled_bytes, host_frame::proofs::Fitting::few_spelled))]
+#[tactic(auto, using(host_frame::proofs::Lemmas::hosted_fits, host_frame::proofs::Lemmas::spelled_bytes, host_frame::proofs::Lemmas::few_spelled))]
 fn xdr_of(alloc: Global, value: &ScVal) -> Result<Vec<u8>, NoMemory>
     requires { IsHosted (datum value.now) }
     ensures value { IfOk result (λ v. v.items ≡ bytes_of (datum value.now)) }

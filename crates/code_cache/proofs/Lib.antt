@@ -1,2 +1,3 @@
-pub mod Crosses
-pub mod Searches
+mod Crosses
+pub mod Lemmas
+mod Searches

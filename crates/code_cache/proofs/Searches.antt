@@ -1,5 +1,5 @@
 -- What a search by hash finds.
-use Rattle.std.proofs.Common.{◌≡◌, ℕ, ◌<◌, ◌≤◌, List, Ordering, length, get_or, sym, subst, ap, arith, ◌∙◌}
+use Rattle.std.proofs.Common.{◌≡◌, ℕ, List, Ordering, get_or, sym, ap, arith, ◌∙◌}
 use Rattle.std.specs.Ordering.{nat_cmp, ordering_index}
 use Rattle.std.specs.declared.cmp.Ordering.TheVariants.{Less, Equal, Greater}
 use Rattle.std.specs.Cmp.Lexicographic.{slice_cmp, nat_list_cmp_total}
@@ -12,7 +12,7 @@ use mathlib.Core.Logic.{⊎_elim}
 use Rattle.value_types.specs.Hash.{hash_of}
 use Rattle.value_types.specs.declared.hash.Hash.{Hash}
 use Rattle.code_cache.specs.declared.cache.Code.{Code}
-use Rattle.code_cache.specs.Cached.{AreRising, IsAt, HasNone}
+use Rattle.code_cache.specs.Cached.{AreRising, HasNone}
 
 abbrev pub beside : Hash → Code → Ordering
 beside hash code = slice_cmp nat_cmp code.hash.0 hash.0

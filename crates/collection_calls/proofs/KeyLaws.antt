@@ -9,7 +9,7 @@ use Rattle.value_types.specs.declared.value.Entry.{Entry}
 use Rattle.host_spec.specs.Hosted.{is_below}
 use Rattle.host_spec.specs.MapRows.{put, without, value_at}
 use Rattle.host_frame.specs.KeyIndex.{AreBelow, IsFirst, IsThere, IsGap}
-use Rattle.host_frame.proofs.KeyLaws.{less_of, greater_than}
+use Rattle.host_frame.proofs.Lemmas.{greater_than, less_of}
 
 -- ---- what stands at an index
 

@@ -1,7 +1,7 @@
-pub mod KeyLaws
-pub mod MapLaws
-pub mod MemoryLaws
-pub mod SeekLaws
-pub mod SizeLaws
-pub mod VecLaws
-pub mod WordLaws
+mod KeyLaws
+mod MapLaws
+mod MemoryLaws
+mod SeekLaws
+mod SizeLaws
+mod VecLaws
+mod WordLaws

@@ -5,7 +5,7 @@ use Rattle.value_types.specs.Views.{datum_pairs}
 use Rattle.value_types.specs.declared.value.Entry.{Entry}
 use Rattle.host_spec.specs.Hosted.{IsHosted, IsMade}
 use Rattle.host_spec.specs.MapRows.{put, without}
-use Rattle.host_frame.proofs.Making.{map_made, put_made, without_made, map_keys_made, map_values_made}
+use Rattle.host_frame.proofs.Lemmas.{map_keys_made, map_made, map_values_made, put_made, without_made}
 
 pub empty_made : IsMade (map_datum (members_of []))
 empty_made = map_made [] (omega arith) tt refl

@@ -1,5 +1,5 @@
 -- Laws of the sizes of vecs.
-use Rattle.std.proofs.Common.{◌≡◌, ℕ, ◌+◌, ◌*◌, ◌<◌, ◌≤◌, List, [], ◌∷◌, ◌++◌, length, take, drop, nat_le, Option, Some, None, Bool, true, false, refl, sym, ap, subst, ◌∙◌, arith, length-append}
+use Rattle.std.proofs.Common.{◌≡◌, ℕ, ◌+◌, ◌*◌, ◌<◌, ◌≤◌, List, ◌∷◌, length, take, drop, nat_le, Option, Some, None, Bool, false, refl, sym, ap, subst, ◌∙◌, arith, length-append}
 use Rattle.std.specs.Int.{w64, from_le_bytes}
 use Rattle.std.specs.Prelude.{Result}
 use Rattle.std.specs.Option.{option_map}
@@ -12,7 +12,7 @@ use Rattle.host_spec.specs.declared.error.ValueErr.{ValueErr}
 use Rattle.host_spec.specs.Hosted.{size_of}
 use Rattle.host_spec.specs.VecRows.{words_in, with_first, meanings, vec_of}
 use Rattle.host_spec.specs.Words.{meaning}
-use Rattle.host_frame.proofs.Acting.{shown_too_large}
+use Rattle.host_frame.proofs.Lemmas.{shown_too_large}
 use Rattle.collection_calls.specs.Within.{is_within}
 use Rattle.collection_calls.proofs.WordLaws.{words_left, words_end}
 

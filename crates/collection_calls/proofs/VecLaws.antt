@@ -12,7 +12,7 @@ use Rattle.host_frame.specs.Answered.{answer_of}
 use Rattle.host_frame.specs.declared.answer.Answer.{Answer}
 use Rattle.host_frame.specs.Made.{AreMade}
 use Rattle.collection_calls.specs.Parts.{IsPart}
-use Rattle.host_frame.proofs.Making.{items_made, item_made, few_items, datums_length, values_are_made}
+use Rattle.host_frame.proofs.Lemmas.{datums_length, few_items, item_made, items_made, values_are_made}
 
 pub item_here : (vs : List ScVal) (i : ℕ) (v : ScVal) → i < length vs → v ≡ get_or vs i v → slice_get (datums vs) i ≡ Some (datum v)
 item_here [] i v lt is = absurd (omega arith)

@@ -20,7 +20,7 @@ use std::alloc::Global;
 use value_types::{Entry, ScVal, ScVals};
 
 /// The value of a key.
-#[tactic(auto, using(host_frame::proofs::KeyLaws::value_there, host_frame::proofs::KeyLaws::value_gap, host_frame::proofs::KeyLaws::val_made))]
+#[tactic(auto, using(host_frame::proofs::Lemmas::value_there, host_frame::proofs::Lemmas::value_gap, host_frame::proofs::Lemmas::val_made))]
 pub fn value_at<'a>(key: &ScVal, entries: &'a [Entry]) -> Option<&'a ScVal>
     requires { IsHosted (map (members_of (datum_pairs entries.now))) }
     ensures found { MatchOption result (value_at (datum key.now) (datum_pairs entries.now) ≡ None)
@@ -48,7 +48,7 @@ pub fn has_key(key: &ScVal, entries: &[Entry]) -> bool
 }
 
 /// The key at an index.
-#[tactic(auto, using(crate::proofs::KeyLaws::entry_here, crate::proofs::KeyLaws::entry_past, host_frame::proofs::KeyLaws::key_made))]
+#[tactic(auto, using(crate::proofs::KeyLaws::entry_here, crate::proofs::KeyLaws::entry_past, host_frame::proofs::Lemmas::key_made))]
 pub fn key_at(entries: &[Entry], index: usize) -> Option<&ScVal>
     requires { IsHosted (map (members_of (datum_pairs entries.now))) }
     ensures found { MatchOption result (option_map (λ m. m.0) (slice_get (datum_pairs entries.now) index) ≡ None)
@@ -64,7 +64,7 @@ pub fn key_at(entries: &[Entry], index: usize) -> Option<&ScVal>
 }
 
 /// The value at an index.
-#[tactic(auto, using(crate::proofs::KeyLaws::entry_here, crate::proofs::KeyLaws::entry_past, host_frame::proofs::KeyLaws::val_made))]
+#[tactic(auto, using(crate::proofs::KeyLaws::entry_here, crate::proofs::KeyLaws::entry_past, host_frame::proofs::Lemmas::val_made))]
 pub fn val_at(entries: &[Entry], index: usize) -> Option<&ScVal>
     requires { IsHosted (map (members_of (datum_pairs entries.now))) }
     ensures found { MatchOption result (option_map (λ m. m.1) (slice_get (datum_pairs entries.now) index) ≡ None)
@@ -212,7 +212,7 @@ fn map_left_out(
 }
 
 /// The map without a key, if it has it.
-#[tactic(auto, using(crate::proofs::KeyLaws::value_is_there, host_frame::proofs::KeyLaws::value_gap))]
+#[tactic(auto, using(crate::proofs::KeyLaws::value_is_there, host_frame::proofs::Lemmas::value_gap))]
 pub fn map_without(
     alloc: Global,
     entries: &[Entry],

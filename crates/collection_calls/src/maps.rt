@@ -70,7 +70,7 @@ pub fn map_del(values: &Values<'_>, budget: &mut Budget, a: u64, b: u64) -> Resu
 }
 
 /// `map_len`: the number of entries.
-#[tactic(auto, using(host_frame::proofs::Making::few_entries, host_frame::proofs::Making::pairs_length))]
+#[tactic(auto, using(host_frame::proofs::Lemmas::few_entries, host_frame::proofs::Lemmas::pairs_length))]
 pub fn map_len(values: &Values<'_>, budget: &mut Budget, a: u64) -> Result<Answer, ValueErr>
     ensures { Answers result (kinds.Map ∷ []) map_len (a ∷ []) values.now budget.old budget.new }
 {

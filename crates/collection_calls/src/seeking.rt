@@ -13,7 +13,7 @@ use std::cmp::Ordering;
 use value_types::{ScVal, cmp_val};
 
 /// The index of the first item that is this value.
-#[tactic(auto, using(host_frame::proofs::Making::few_values, crate::proofs::SeekLaws::counted_start, crate::proofs::SeekLaws::first_here, crate::proofs::SeekLaws::first_past, crate::proofs::SeekLaws::first_end))]
+#[tactic(auto, using(host_frame::proofs::Lemmas::few_values, crate::proofs::SeekLaws::counted_start, crate::proofs::SeekLaws::first_here, crate::proofs::SeekLaws::first_past, crate::proofs::SeekLaws::first_end))]
 pub fn first_index(value: &ScVal, items: &[ScVal]) -> Option<u32>
     requires { IsHosted (vec (items_of (datums items.now))) }
     ensures { result ≡ first_index_of (datum value.now) (datums items.now) }
@@ -27,7 +27,7 @@ pub fn first_index(value: &ScVal, items: &[ScVal]) -> Option<u32>
 }
 
 /// The index of the last item that is this value.
-#[tactic(auto, using(host_frame::proofs::Making::few_values, crate::proofs::SeekLaws::last_start, crate::proofs::SeekLaws::last_here, crate::proofs::SeekLaws::last_past))]
+#[tactic(auto, using(host_frame::proofs::Lemmas::few_values, crate::proofs::SeekLaws::last_start, crate::proofs::SeekLaws::last_here, crate::proofs::SeekLaws::last_past))]
 pub fn last_index(value: &ScVal, items: &[ScVal]) -> Option<u32>
     requires { IsHosted (vec (items_of (datums items.now))) }
     ensures { result ≡ last_index_of (datum value.now) (datums items.now) }

@@ -21,7 +21,7 @@ use std::alloc::Global;
 use value_types::ScVal;
 
 /// Whether an index is in a vec: `OUTSIDE_OBJECT` if it is not.
-#[tactic(auto, using(host_frame::proofs::Making::datums_length))]
+#[tactic(auto, using(host_frame::proofs::Lemmas::datums_length))]
 pub fn within(index: u32, items: &[ScVal]) -> Result<(), ValueErr>
     ensures test { MatchResult result (λ _. nat_lt index (length (datums items.now)) ≡ true)
         (λ e. (nat_lt index (length (datums items.now)) ≡ false) × (e ≡ errs.Failed outside)) }
@@ -35,7 +35,7 @@ pub fn within(index: u32, items: &[ScVal]) -> Result<(), ValueErr>
 }
 
 /// Whether an index may be the first of what is put into a vec: `OUTSIDE_OBJECT` if not.
-#[tactic(auto, using(host_frame::proofs::Making::datums_length))]
+#[tactic(auto, using(host_frame::proofs::Lemmas::datums_length))]
 pub fn up_to_end(index: u32, items: &[ScVal]) -> Result<(), ValueErr>
     ensures test { MatchResult result (λ _. nat_le index (length (datums items.now)) ≡ true)
         (λ e. (nat_le index (length (datums items.now)) ≡ false) × (e ≡ errs.Failed outside)) }
@@ -49,7 +49,7 @@ pub fn up_to_end(index: u32, items: &[ScVal]) -> Result<(), ValueErr>
 }
 
 /// Whether a range is in a vec: `OUTSIDE_OBJECT` if it is not.
-#[tactic(auto, using(host_frame::proofs::Making::datums_length))]
+#[tactic(auto, using(host_frame::proofs::Lemmas::datums_length))]
 pub fn in_range(from: u32, to: u32, items: &[ScVal]) -> Result<(), ValueErr>
     ensures test { MatchResult result (λ _. nat_le from to && nat_le to (length (datums items.now)) ≡ true)
         (λ e. (nat_le from to && nat_le to (length (datums items.now)) ≡ false) × (e ≡ errs.Failed outside)) }
@@ -78,7 +78,7 @@ pub fn item_at(items: &[ScVal], index: usize) -> Option<&ScVal>
 }
 
 /// Returns the last item, or None if there is none.
-#[tactic(auto, using(crate::proofs::VecLaws::item_here, crate::proofs::VecLaws::hosted_item, host_frame::proofs::Making::datums_length))]
+#[tactic(auto, using(crate::proofs::VecLaws::item_here, crate::proofs::VecLaws::hosted_item, host_frame::proofs::Lemmas::datums_length))]
 pub fn last_item(items: &[ScVal]) -> Option<&ScVal>
     requires { IsHosted (vec (items_of (datums items.now))) }
     ensures found { MatchOption result (nat_lt 0 (length (datums items.now)) ≡ false)

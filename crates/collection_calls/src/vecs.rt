@@ -68,7 +68,7 @@ pub fn vec_del(values: &Values<'_>, budget: &mut Budget, a: u64, b: u64) -> Resu
 }
 
 /// `vec_len`: the number of items.
-#[tactic(auto, using(host_frame::proofs::Making::few_values, host_frame::proofs::Making::datums_length))]
+#[tactic(auto, using(host_frame::proofs::Lemmas::few_values, host_frame::proofs::Lemmas::datums_length))]
 pub fn vec_len(values: &Values<'_>, budget: &mut Budget, a: u64) -> Result<Answer, ValueErr>
     ensures { Answers result (kinds.Vec ∷ []) vec_len (a ∷ []) values.now budget.old budget.new }
 {

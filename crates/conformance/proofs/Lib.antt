@@ -1,1 +1,1 @@
-pub mod Naming
+mod Naming

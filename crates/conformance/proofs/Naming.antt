@@ -7,6 +7,6 @@ use Rattle.host_ledger.specs.Called.{CallsNamed}
 use Rattle.host_ledger.specs.declared.state.HostLedger.{HostLedger}
 
 -- a call leaves a state that is ready for the next one
-pub ready_after : {G : Type 0} (r : Result ℕ HostErr) (o : Option HostImport) (words : List ℕ) (old new : HostLedger G) → CallsNamed r o words old new → IsReady new
+pub ready_after : {G V : Type 0} (r : Result ℕ HostErr) (o : Option HostImport) (words : List ℕ) (old new : HostLedger G V) → CallsNamed r o words old new → IsReady new
 ready_after r None words old new h = absurd h
 ready_after r (Some i) words old new h = h.ready

@@ -2,10 +2,11 @@
 
 use crate::calls;
 use case_text::{Case, CaseErr, Fragments, first_word};
+use module_loader::{LoadErr, link};
 use module_vet::{Flaw, VetErr, valid_line, vet};
 use std::alloc::Global;
 use std::fmt::Write;
-use wasm_check::{CheckErr, Unlinked, ValidModule, check, link};
+use wasm_check::{CheckErr, ValidModule, check};
 use wasm_read::{ReadModErr, read_module};
 use wasm_spec::Module;
 
@@ -72,15 +73,16 @@ fn push_valid(
 ) -> Result<(), CaseErr> {
     match asked.kind {
         "check" | "flaw" => Ok(out.push_str("valid\n")?),
-        "link" => push_link(out, module),
+        "link" => push_link(alloc, out, module),
         kind => calls::call_case(alloc, module, kind, asked.rest, out),
     }
 }
 
-fn push_link(out: &mut String, module: &ValidModule) -> Result<(), CaseErr> {
-    match link(module) {
-        Ok(()) => Ok(out.push_str("linked\n")?),
-        Err(Unlinked { import }) => push_flaw(out, Flaw::Unlinked { import }),
+fn push_link(alloc: Global, out: &mut String, module: &ValidModule) -> Result<(), CaseErr> {
+    match link(alloc, module) {
+        Ok(_rows) => Ok(out.push_str("linked\n")?),
+        Err(LoadErr::Flawed(flaw)) => push_flaw(out, flaw),
+        Err(LoadErr::NoMemory) => Err(CaseErr::NoMemory),
     }
 }
 

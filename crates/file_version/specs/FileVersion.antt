@@ -3,8 +3,7 @@ use Rattle.std.specs.Prelude.{◌≡◌, ◌<◌, ◌^◌, List, [], ◌∷◌, 
 use Rattle.std.proofs.Common.{refl, arith}
 use Rattle.xdr_spec.specs.Format.{Format, enumeration, find_kind, nothing, number32}
 use Rattle.xdr_spec.specs.Laws.{IsFormat}
-use Rattle.xdr_spec.proofs.Pairs.{nothing_lawful}
-use Rattle.xdr_spec.proofs.Derived.{enumeration_lawful, find_kind-back, number32_lawful}
+use Rattle.xdr_spec.proofs.Lemmas.{enumeration_lawful, find_kind-back, nothing_lawful, number32_lawful}
 use Rattle.file_version.specs.declared.version.FileVersion.{FileVersion}
 use Rattle.file_version.specs.declared.version.FileVersion.TheVariants.{V1, V2}
 

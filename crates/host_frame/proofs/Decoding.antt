@@ -11,10 +11,10 @@ use Rattle.value_types.specs.Formats.{scval_format, value_format, one_level, mem
 use Rattle.value_types.specs.declared.executable.Executable.{Executable}
 use Rattle.value_types.specs.declared.value.ScVal.{ScVal}
 use Rattle.value_types.specs.declared.value.ScVal.TheVariants as values
-use Rattle.value_types.proofs.Lawful.{items_there, members_there, datum-scval}
+use Rattle.value_types.proofs.Lemmas.{datum-scval, items_there, members_there}
 use Rattle.value_xdr.specs.Bytes.{IsBounded, IsPairBounded, AreItemsBounded, AreMembersBounded}
 use Rattle.value_xdr.specs.ValueBytes.{IsValueBounded, IsInstanceBounded}
-use Rattle.value_xdr.proofs.Linked.{value_linked}
+use Rattle.value_xdr.proofs.Lemmas.{value_linked}
 use Rattle.host_spec.specs.Errors.{INVALID_VALUE, OTHER_TYPE, TOO_LARGE}
 use Rattle.host_spec.specs.Hosted.{entry, size_of, has_host_types, is_well_formed, IsHosted}
 

@@ -8,10 +8,9 @@ use Rattle.value_types.specs.Depth.{depth_of, items_depth, members_depth}
 use Rattle.value_types.specs.Formats.{one_level, member_format, entry_format, value_format, items_format, members_format, scval_format}
 use Rattle.value_types.specs.Views.{datum, scval}
 use Rattle.value_types.specs.declared.value.ScVal.{ScVal}
-use Rattle.value_types.proofs.Lawful.{value_is, scval-datum}
+use Rattle.value_types.proofs.Lemmas.{scval-datum, value_is}
 use Rattle.value_xdr.specs.Bytes.{IsBounded, AreItemsBounded, AreMembersBounded, bytes_of}
-use Rattle.value_xdr.proofs.Written.{value_bytes-datum}
-use Rattle.value_xdr.proofs.Linked.{value_linked}
+use Rattle.value_xdr.proofs.Lemmas.{value_bytes-datum, value_linked}
 use Rattle.host_spec.specs.Hosted.{IsHosted, size_of}
 
 depth_positive : (d : Datum) → 0 < depth_of d

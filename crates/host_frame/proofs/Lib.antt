@@ -1,8 +1,9 @@
-pub mod Acting
-pub mod AllGiven
-pub mod Decoding
-pub mod Entering
-pub mod Fitting
-pub mod KeyLaws
-pub mod Making
-pub mod Resolving
+mod Acting
+mod AllGiven
+mod Decoding
+mod Entering
+mod Fitting
+mod KeyLaws
+pub mod Lemmas
+mod Making
+mod Resolving

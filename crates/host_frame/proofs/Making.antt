@@ -15,15 +15,14 @@ use Rattle.value_types.specs.Views.{datum, datums, datum_pairs}
 use Rattle.value_types.specs.declared.value.Entry.{Entry}
 use Rattle.value_types.specs.declared.value.ScVal.{ScVal}
 use Rattle.value_types.specs.Order.{datum_cmp, datum_total}
-use Rattle.value_types.proofs.Lawful.{items_there, members_there}
+use Rattle.value_types.proofs.Lemmas.{items_there, members_there}
 use Rattle.value_xdr.specs.Bytes.{IsBounded, AreItemsBounded, AreMembersBounded, bytes_of, items_bytes, members_bytes}
 use Rattle.host_spec.specs.Words.{small_word, object_tag}
 use Rattle.host_spec.specs.Hosted.{IsMade, IsHosted, size_of, has_host_types, items_have_host_types, members_have_host_types, is_well_formed, items_are_well_formed, members_are_well_formed, is_below, is_symbol}
 use Rattle.host_spec.specs.MapRows.{put, put_by, without}
 use Rattle.host_spec.specs.Characters.{is_character}
 use Rattle.tagged_val.specs.Scalars.{is_scalar}
-use Rattle.object_store.proofs.Showing.{type_has_tag}
-use Rattle.object_store.proofs.SmallHosted.{scalar_hosted, characters_are_bytes}
+use Rattle.object_store.proofs.Lemmas.{characters_are_bytes, scalar_hosted, type_has_tag}
 use Rattle.host_frame.specs.Made.{IsObjectMade, AreMade, IsPairMade, ArePairsMade}
 
 pub value_object : (d : Datum) → IsMade d → small_word d ≡ None → IsObjectMade d

@@ -3,7 +3,7 @@ use Rattle.std.proofs.Common.{◌≡◌, ℕ, List, Option, Some, None, Bool, Ok
 use Rattle.std.specs.Prelude.{Result, is_some}
 use Rattle.std.specs.Option.{option_map, option_and_then}
 use Rattle.value_types.specs.Datum.{Datum, error, symbol, boolean, void, u32, i32, u64, i64, timepoint, duration, u128, i128, bytes, string, vec, map as map_datum, address, items_of, members_of}
-use Rattle.value_types.proofs.Lawful.{items_there, members_there}
+use Rattle.value_types.proofs.Lemmas.{items_there, members_there}
 use Rattle.value_types.specs.declared.error.ScError.{ScError}
 use Rattle.host_spec.specs.declared.tag.Tag.{Tag}
 use Rattle.host_spec.specs.declared.tag.Tag.TheVariants as tags

@@ -1,3 +1,3 @@
-pub mod Counts
-pub mod Groups
-pub mod Steps
+mod Counts
+mod Groups
+mod Steps

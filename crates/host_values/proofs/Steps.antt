@@ -11,7 +11,7 @@ use Rattle.host_spec.specs.Calls.{Rule, answered, call_of}
 use Rattle.host_frame.specs.declared.answer.Answer.{Answer}
 use Rattle.host_frame.specs.Answered.{answer_of}
 use Rattle.host_frame.specs.Made.{IsAnswerMade}
-use Rattle.host_frame.proofs.Acting.{then_exit}
+use Rattle.host_frame.proofs.Lemmas.{then_exit}
 use Rattle.host_values.specs.Rows.{AnswersBy, AnswersRow}
 use Rattle.host_values.specs.Called.{Calls}
 

@@ -24,7 +24,7 @@ pub fn get_address_from_muxed_address(
 }
 
 /// `get_id_from_muxed_address`: the number that tells the accounts of one key apart.
-#[tactic(auto, using(host_frame::proofs::Making::scalar_made), unfolding(xdr_spec::specs::Format::number64))]
+#[tactic(auto, using(host_frame::proofs::Lemmas::scalar_made), unfolding(xdr_spec::specs::Format::number64))]
 pub fn get_id_from_muxed_address(
     values: &Values<'_>,
     budget: &mut Budget,

@@ -3,13 +3,11 @@
 use Rattle.std.specs.Prelude.{List, ℕ, refl}
 use Rattle.xdr_spec.specs.Format.{Format, via, pair, list, opaque}
 use Rattle.xdr_spec.specs.Laws.{IsFormat}
-use Rattle.xdr_spec.proofs.Pairs.{pair_lawful}
-use Rattle.xdr_spec.proofs.Remade.{via_lawful}
-use Rattle.xdr_spec.proofs.Derived.{list_lawful, opaque_lawful}
+use Rattle.xdr_spec.proofs.Lemmas.{list_lawful, opaque_lawful, pair_lawful, via_lawful}
 use Rattle.value_types.specs.Address.{address_format, address_lawful}
 use Rattle.value_types.specs.Executable.{executable_format, executable_lawful}
 use Rattle.value_types.specs.Formats.{scval_format}
-use Rattle.value_types.proofs.Lawful.{scval_lawful}
+use Rattle.value_types.proofs.Lemmas.{scval_lawful}
 use Rattle.value_types.specs.declared.address.ScAddress.{ScAddress}
 use Rattle.value_types.specs.declared.executable.Executable.{Executable}
 use Rattle.value_types.specs.declared.value.ScVal.{ScVal}

@@ -3,10 +3,7 @@ use Rattle.std.specs.Prelude.{◌≡◌, Bool, true, false, Option, Some, None}
 use Rattle.std.proofs.Common.{refl, ap}
 use Rattle.xdr_spec.specs.Format.{Format, pair, arm, nothing, never, union_among}
 use Rattle.xdr_spec.specs.Laws.{IsFormat}
-use Rattle.xdr_spec.proofs.Pairs.{pair_lawful, nothing_lawful}
-use Rattle.xdr_spec.proofs.Remade.{arm_lawful, arm_kind}
-use Rattle.xdr_spec.proofs.Derived.{find_kind-back}
-use Rattle.xdr_spec.proofs.Among.{some_kinds_lawful}
+use Rattle.xdr_spec.proofs.Lemmas.{arm_kind, arm_lawful, find_kind-back, nothing_lawful, pair_lawful, some_kinds_lawful}
 use Rattle.value_types.specs.AccountId.{account_id_format, account_id_lawful}
 use Rattle.value_types.specs.declared.account_id.AccountId.{AccountId}
 use Rattle.ledger_types.specs.AssetCode.{code4_format, code4_lawful, code12_format, code12_lawful}

@@ -4,13 +4,11 @@ use Rattle.std.specs.Prelude.{◌≡◌, ◌<◌, ◌^◌, List, [], ◌∷◌, 
 use Rattle.std.proofs.Common.{refl, arith}
 use Rattle.xdr_spec.specs.Format.{Format, via, pair, optional, enumeration, find_kind}
 use Rattle.xdr_spec.specs.Laws.{IsFormat}
-use Rattle.xdr_spec.proofs.Pairs.{pair_lawful}
-use Rattle.xdr_spec.proofs.Remade.{via_lawful}
-use Rattle.xdr_spec.proofs.Derived.{enumeration_lawful, find_kind-back, optional_lawful}
+use Rattle.xdr_spec.proofs.Lemmas.{enumeration_lawful, find_kind-back, optional_lawful, pair_lawful, via_lawful}
 use Rattle.value_types.specs.Headed.{headed, headed_lawful}
 use Rattle.value_types.specs.Hash.{hash_format, hash_lawful}
 use Rattle.value_types.specs.Formats.{scval_format}
-use Rattle.value_types.proofs.Lawful.{scval_lawful}
+use Rattle.value_types.proofs.Lemmas.{scval_lawful}
 use Rattle.value_types.specs.declared.hash.Hash.{Hash}
 use Rattle.value_types.specs.declared.value.ScVal.{ScVal}
 use Rattle.invoke_types.specs.Arguments.{values_format, values_lawful}

@@ -4,8 +4,7 @@ use Rattle.std.specs.Prelude.{◌≡◌, ◌<◌, ◌^◌, List, [], ◌∷◌, 
 use Rattle.std.proofs.Common.{refl, arith}
 use Rattle.xdr_spec.specs.Format.{Format, arm, union, enumeration, find_kind, opaque}
 use Rattle.xdr_spec.specs.Laws.{IsFormat}
-use Rattle.xdr_spec.proofs.Remade.{arm_lawful, arm_kind}
-use Rattle.xdr_spec.proofs.Derived.{union_lawful, enumeration_lawful, find_kind-back, opaque_lawful}
+use Rattle.xdr_spec.proofs.Lemmas.{arm_kind, arm_lawful, enumeration_lawful, find_kind-back, opaque_lawful, union_lawful}
 use Rattle.invoke_types.specs.Arguments.{invoke_format, invoke_lawful, create_format, create_lawful, create_v2_format}
 use Rattle.invoke_types.specs.Arguments.{create_v2_lawful}
 use Rattle.invoke_types.specs.declared.arguments.InvokeContractArgs.{InvokeContractArgs}

@@ -3,11 +3,9 @@
 use Rattle.std.specs.Prelude.{List, refl}
 use Rattle.xdr_spec.specs.Format.{Format, via, pair, list}
 use Rattle.xdr_spec.specs.Laws.{IsFormat}
-use Rattle.xdr_spec.proofs.Pairs.{pair_lawful}
-use Rattle.xdr_spec.proofs.Remade.{via_lawful}
-use Rattle.xdr_spec.proofs.Derived.{list_lawful}
+use Rattle.xdr_spec.proofs.Lemmas.{list_lawful, pair_lawful, via_lawful}
 use Rattle.value_types.specs.Formats.{scval_format}
-use Rattle.value_types.proofs.Lawful.{scval_lawful}
+use Rattle.value_types.proofs.Lemmas.{scval_lawful}
 use Rattle.value_types.specs.declared.value.ScVal.{ScVal}
 use Rattle.invoke_types.specs.Event.{event_format, event_lawful}
 use Rattle.invoke_types.specs.declared.event.ContractEvent.{ContractEvent}

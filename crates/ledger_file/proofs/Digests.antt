@@ -4,7 +4,7 @@ use Rattle.std.specs.Prelude.{slice_index}
 use Rattle.std.specs.Int.{to_be_bytes, w32}
 use Rattle.sha2.specs.Sha256.{sha256, digest_bytes, final_hash, initial_hash_256}
 use Rattle.xdr_spec.specs.Format.{IsBytes}
-use Rattle.xdr_spec.proofs.FixedOpaque.{IsBytes-append}
+use Rattle.xdr_spec.proofs.Lemmas.{IsBytes-append}
 
 IsBytes-word : (n : ℕ) → IsBytes (to_be_bytes w32 n)
 IsBytes-word n zero = omega arith

@@ -11,7 +11,7 @@ use Rattle.xdr_spec.specs.declared.XdrErr.{XdrErr}
 use Rattle.xdr_spec.specs.Format.{IsBytes}
 use Rattle.xdr_spec.specs.Refusal.{Spells}
 use Rattle.xdr_spec.specs.Decoded.{decoded}
-use Rattle.xdr_spec.proofs.Decoding.{decoded_spells}
+use Rattle.xdr_spec.proofs.Lemmas.{decoded_spells}
 use Rattle.ledger_types.specs.Record.{record_format}
 use Rattle.ledger_types.specs.File.{file_format, file_lawful}
 use Rattle.file_version.specs.declared.version.FileVersion.{FileVersion}

@@ -5,8 +5,7 @@ use Rattle.xdr_spec.specs.declared.XdrErr.{XdrErr}
 use Rattle.xdr_spec.specs.Format.{IsBytes, list, number32}
 use Rattle.xdr_spec.specs.Refusal.{Spells, Refuses}
 use Rattle.xdr_spec.specs.Decoded.{decoded}
-use Rattle.xdr_spec.proofs.Decoding.{spells_decoded, decoded_spells, decoded_refuses}
-use Rattle.xdr_spec.proofs.Refused.{one_refusal, not_both}
+use Rattle.xdr_spec.proofs.Lemmas.{decoded_refuses, decoded_spells, not_both, one_refusal, spells_decoded}
 use Rattle.file_version.specs.FileVersion.{protocol_format}
 use Rattle.ledger_types.specs.Header.{header_in, header_format}
 use Rattle.ledger_types.specs.Record.{record_format}

@@ -1,9 +1,10 @@
-pub mod Digests
-pub mod Keys
-pub mod Steps
-pub mod Judging
-pub mod Written
-pub mod FromFile
-pub mod ToFile
-pub mod Refused
-pub mod Starts
+mod Digests
+mod FromFile
+mod Judging
+mod Keys
+pub mod Lemmas
+mod Refused
+mod Starts
+mod Steps
+mod ToFile
+mod Written

@@ -6,7 +6,7 @@ use Rattle.xdr_spec.specs.Format.{IsBytes}
 use Rattle.xdr_spec.specs.Refusal.{Refuses}
 use Rattle.xdr_spec.specs.declared.Why.{Why}
 use Rattle.xdr_spec.specs.declared.XdrErr.{XdrErr}
-use Rattle.xdr_spec.proofs.Decoding.{decoded_refuses}
+use Rattle.xdr_spec.proofs.Lemmas.{decoded_refuses}
 use Rattle.ledger_types.specs.File.{file_format, file_lawful}
 use Rattle.ledger_types.specs.declared.file.LedgerFile.{LedgerFile}
 use Rattle.ledger_types.specs.declared.header.Header.{Header}

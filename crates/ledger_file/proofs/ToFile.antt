@@ -11,7 +11,7 @@ use Rattle.std.proofs.Common.{◌≡◌, ℕ, suc, ◌+◌, Bool, true, false, n
 use Rattle.sha2.specs.Sha256.{sha256}
 use Rattle.sha2.proofs.Facts256.{length-sha256}
 use Rattle.xdr_spec.specs.Format.{number32, list}
-use Rattle.xdr_spec.proofs.Decoding.{spells_decoded}
+use Rattle.xdr_spec.proofs.Lemmas.{spells_decoded}
 use Rattle.value_types.specs.Hash.{hash_format}
 use Rattle.file_version.specs.FileVersion.{protocol_format}
 use Rattle.ledger_types.specs.Header.{header_in, header_format}

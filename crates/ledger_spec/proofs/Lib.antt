@@ -1,6 +1,7 @@
-pub mod Found
-pub mod Life
-pub mod Puts
-pub mod Makes
-pub mod Extends
-pub mod Keeping
+mod Extends
+mod Found
+mod Keeping
+pub mod Lemmas
+mod Life
+mod Makes
+mod Puts

@@ -1,3 +1,4 @@
-pub mod Widths
-pub mod Ranking
-pub mod KeyLaws
+mod KeyLaws
+pub mod Lemmas
+mod Ranking
+mod Widths

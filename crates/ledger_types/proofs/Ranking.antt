@@ -5,16 +5,15 @@ use Rattle.std.specs.Bool.{Decides}
 use Rattle.std.specs.Ordering.{nat_cmp, eq_by_cmp}
 use Rattle.std.specs.Cmp.{Equal-is, eq_by_cmp_equiv}
 use Rattle.std.specs.Cmp.Lexicographic.{slice_cmp}
-use Rattle.xdr_spec.proofs.Spellings.{one_spelling}
+use Rattle.xdr_spec.proofs.Lemmas.{one_spelling}
 use Rattle.value_types.specs.Rows.{text}
 use Rattle.value_types.specs.RowLaws.{text-prefix}
-use Rattle.value_types.proofs.Comparing.{cmp-text, rows-exact}
+use Rattle.value_types.proofs.Lemmas.{cmp-text, rows-exact}
 use Rattle.value_types.specs.AccountId.{account_id_format}
 use Rattle.value_types.specs.Address.{address_format}
 use Rattle.value_xdr.specs.Bytes.{word}
 use Rattle.spelled_order.specs.Against.{Against}
-use Rattle.spelled_order.proofs.Deciding.{of_one_length}
-use Rattle.spelled_order.proofs.Links.{text_spelled, value_spelled}
+use Rattle.spelled_order.proofs.Lemmas.{of_one_length, text_spelled, value_spelled}
 use Rattle.ledger_types.specs.Durability.{durability_format, number as durability_number}
 use Rattle.ledger_types.specs.declared.durability.Durability.{Durability}
 use Rattle.ledger_types.specs.declared.durability.Durability.TheVariants as durabilities

@@ -2,8 +2,7 @@
 use Rattle.std.specs.Prelude.{List, ℕ, refl}
 use Rattle.xdr_spec.specs.Format.{Format, via, fixed_opaque}
 use Rattle.xdr_spec.specs.Laws.{IsFormat}
-use Rattle.xdr_spec.proofs.Remade.{via_lawful}
-use Rattle.xdr_spec.proofs.FixedOpaque.{fixed_opaque_lawful}
+use Rattle.xdr_spec.proofs.Lemmas.{fixed_opaque_lawful, via_lawful}
 use Rattle.ledger_types.specs.declared.asset.AssetCode4.{AssetCode4}
 use Rattle.ledger_types.specs.declared.asset.AssetCode12.{AssetCode12}
 

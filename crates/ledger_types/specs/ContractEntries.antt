@@ -4,14 +4,12 @@ use Rattle.std.specs.Prelude.{List, ℕ, refl}
 use Rattle.std.proofs.Common.{arith}
 use Rattle.xdr_spec.specs.Format.{Format, via, pair, opaque}
 use Rattle.xdr_spec.specs.Laws.{IsFormat}
-use Rattle.xdr_spec.proofs.Pairs.{pair_lawful}
-use Rattle.xdr_spec.proofs.Remade.{via_lawful}
-use Rattle.xdr_spec.proofs.Derived.{opaque_lawful}
+use Rattle.xdr_spec.proofs.Lemmas.{opaque_lawful, pair_lawful, via_lawful}
 use Rattle.value_types.specs.Headed.{headed, headed_lawful}
 use Rattle.value_types.specs.Hash.{hash_format, hash_lawful}
 use Rattle.value_types.specs.Address.{address_format, address_lawful}
 use Rattle.value_types.specs.Formats.{scval_format}
-use Rattle.value_types.proofs.Lawful.{scval_lawful}
+use Rattle.value_types.proofs.Lemmas.{scval_lawful}
 use Rattle.value_types.specs.declared.hash.Hash.{Hash}
 use Rattle.value_types.specs.declared.address.ScAddress.{ScAddress}
 use Rattle.value_types.specs.declared.value.ScVal.{ScVal}
@@ -38,11 +36,13 @@ unfoldable pub data_format : Format ContractDataEntry
 data_format = headed 0 (via data_of data_fields data_fields_format)
 
 data_fields_lawful : IsFormat data_fields_format
-data_fields_lawful = pair_lawful _ _ address_lawful (pair_lawful _ _ scval_lawful (pair_lawful _ _ durability_lawful scval_lawful))
+data_fields_lawful =
+    pair_lawful _ _ address_lawful (pair_lawful _ _ scval_lawful (pair_lawful _ _ durability_lawful scval_lawful))
 
 pub data_lawful : IsFormat data_format
 unfolding data_format
-data_lawful = headed_lawful 0 _ (omega arith) (via_lawful data_of data_fields data_fields_format (λ f. refl) (λ e. refl) data_fields_lawful)
+data_lawful =
+    headed_lawful 0 _ (omega arith) (via_lawful data_of data_fields data_fields_format (λ f. refl) (λ e. refl) data_fields_lawful)
 
 -- ---- code
 

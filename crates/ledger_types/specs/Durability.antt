@@ -3,7 +3,7 @@ use Rattle.std.specs.Prelude.{◌≡◌, ◌<◌, ◌^◌, List, [], ◌∷◌, 
 use Rattle.std.proofs.Common.{refl, arith}
 use Rattle.xdr_spec.specs.Format.{Format, enumeration, find_kind}
 use Rattle.xdr_spec.specs.Laws.{IsFormat}
-use Rattle.xdr_spec.proofs.Derived.{enumeration_lawful, find_kind-back}
+use Rattle.xdr_spec.proofs.Lemmas.{enumeration_lawful, find_kind-back}
 use Rattle.ledger_types.specs.declared.durability.Durability.{Durability}
 use Rattle.ledger_types.specs.declared.durability.Durability.TheVariants.{Temporary, Persistent}
 

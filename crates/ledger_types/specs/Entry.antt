@@ -3,9 +3,8 @@ use Rattle.std.specs.Prelude.{◌≡◌, ◌<◌, ◌^◌, List, [], ◌∷◌, 
 use Rattle.std.proofs.Common.{refl, arith}
 use Rattle.xdr_spec.specs.Format.{Format, via, pair, arm, nothing, union, enumeration, find_kind, number32}
 use Rattle.xdr_spec.specs.Laws.{IsFormat}
-use Rattle.xdr_spec.proofs.Pairs.{pair_lawful, nothing_lawful}
-use Rattle.xdr_spec.proofs.Remade.{via_lawful, arm_lawful, arm_kind}
-use Rattle.xdr_spec.proofs.Derived.{union_lawful, enumeration_lawful, find_kind-back, number32_lawful}
+use Rattle.xdr_spec.proofs.Lemmas.{arm_kind, arm_lawful, enumeration_lawful, find_kind-back, nothing_lawful, number32_lawful}
+use Rattle.xdr_spec.proofs.Lemmas.{pair_lawful, union_lawful, via_lawful}
 use Rattle.value_types.specs.Headed.{headed, headed_lawful}
 use Rattle.ledger_types.specs.ContractEntries.{data_format, data_lawful, code_format, code_lawful}
 use Rattle.ledger_types.specs.declared.contract_entries.ContractDataEntry.{ContractDataEntry}
@@ -75,8 +74,10 @@ back_contract_code (bodies.ContractCode entry) x e = cc
 back_contract_code _ x e = absurd cc
 
 arms_lawful : (k : ContractEntryType) → IsFormat (arms k)
-arms_lawful types.ContractData = arm_lawful (λ e. bodies.ContractData e) as_contract_data _ (λ x. refl) back_contract_data data_lawful
-arms_lawful types.ContractCode = arm_lawful (λ e. bodies.ContractCode e) as_contract_code _ (λ x. refl) back_contract_code code_lawful
+arms_lawful types.ContractData =
+    arm_lawful (λ e. bodies.ContractData e) as_contract_data _ (λ x. refl) back_contract_data data_lawful
+arms_lawful types.ContractCode =
+    arm_lawful (λ e. bodies.ContractCode e) as_contract_code _ (λ x. refl) back_contract_code code_lawful
 
 coherent : (k : ContractEntryType) (v : LedgerEntryData) → (arms k).fits v → kind v ≡ k
 coherent types.ContractData v h =
@@ -113,7 +114,8 @@ unfoldable pub entry_format : Format LedgerEntry
 entry_format = via entry_of entry_fields fields_format
 
 fields_lawful : IsFormat fields_format
-fields_lawful = pair_lawful _ _ number32_lawful (pair_lawful _ _ body_lawful (headed_lawful 0 _ (omega arith) (nothing_lawful tt)))
+fields_lawful =
+    pair_lawful _ _ number32_lawful (pair_lawful _ _ body_lawful (headed_lawful 0 _ (omega arith) (nothing_lawful tt)))
 
 pub entry_lawful : IsFormat entry_format
 unfolding entry_format

@@ -3,9 +3,10 @@ use Rattle.std.specs.Prelude.{◌≡◌, ◌<◌, ◌^◌, List, [], ◌∷◌, 
 use Rattle.std.proofs.Common.{refl, arith}
 use Rattle.xdr_spec.specs.Format.{Format, enumeration, find_kind}
 use Rattle.xdr_spec.specs.Laws.{IsFormat}
-use Rattle.xdr_spec.proofs.Derived.{enumeration_lawful, find_kind-back}
+use Rattle.xdr_spec.proofs.Lemmas.{enumeration_lawful, find_kind-back}
 use Rattle.ledger_types.specs.declared.entry_type.LedgerEntryType.{LedgerEntryType}
-use Rattle.ledger_types.specs.declared.entry_type.LedgerEntryType.TheVariants.{Account, Trustline, Offer, Data, ClaimableBalance, LiquidityPool, ContractData, ContractCode, Ttl}
+use Rattle.ledger_types.specs.declared.entry_type.LedgerEntryType.TheVariants.{Account, Trustline, Offer, Data, ClaimableBalance}
+use Rattle.ledger_types.specs.declared.entry_type.LedgerEntryType.TheVariants.{LiquidityPool, ContractData, ContractCode, Ttl}
 
 abbrev pub number : LedgerEntryType → ℕ
 number Account = 0

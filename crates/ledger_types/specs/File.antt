@@ -2,9 +2,7 @@
 use Rattle.std.specs.Prelude.{◌≡◌, List, refl}
 use Rattle.xdr_spec.specs.Format.{Format, via, pair, list, nothing, union}
 use Rattle.xdr_spec.specs.Laws.{IsFormat}
-use Rattle.xdr_spec.proofs.Pairs.{pair_lawful, nothing_lawful}
-use Rattle.xdr_spec.proofs.Remade.{via_lawful}
-use Rattle.xdr_spec.proofs.Derived.{list_lawful, union_lawful, find_kind-back}
+use Rattle.xdr_spec.proofs.Lemmas.{find_kind-back, list_lawful, nothing_lawful, pair_lawful, union_lawful, via_lawful}
 use Rattle.file_version.specs.FileVersion.{number, all, version_of, small, there}
 use Rattle.ledger_types.specs.Header.{header_in, header_in_lawful}
 use Rattle.ledger_types.specs.Record.{record_format, record_lawful}
@@ -37,7 +35,8 @@ pub rest_lawful : (version : FileVersion) → IsFormat (rest_format version)
 unfolding rest_format
 rest_lawful version =
     via_lawful file_of file_fields _ (λ f. refl) (λ f. refl)
-    (pair_lawful _ _ (nothing_lawful version) (pair_lawful _ _ (header_in_lawful version) (list_lawful 4294967295 record_format record_lawful)))
+    (pair_lawful _ _ (nothing_lawful version) (pair_lawful _ _ (header_in_lawful version)
+    (list_lawful 4294967295 record_format record_lawful)))
 
 coherent : (version : FileVersion) (f : LedgerFile) → (rest_format version).fits f → f.version ≡ version
 unfolding rest_format

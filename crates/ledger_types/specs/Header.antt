@@ -2,9 +2,7 @@
 use Rattle.std.specs.Prelude.{ℕ, refl}
 use Rattle.xdr_spec.specs.Format.{Format, via, pair, number32, number64}
 use Rattle.xdr_spec.specs.Laws.{IsFormat}
-use Rattle.xdr_spec.proofs.Pairs.{pair_lawful}
-use Rattle.xdr_spec.proofs.Remade.{via_lawful}
-use Rattle.xdr_spec.proofs.Derived.{number32_lawful, number64_lawful}
+use Rattle.xdr_spec.proofs.Lemmas.{number32_lawful, number64_lawful, pair_lawful, via_lawful}
 use Rattle.value_types.specs.Hash.{hash_format, hash_lawful}
 use Rattle.value_types.specs.declared.hash.Hash.{Hash}
 use Rattle.budget_meter.specs.declared.terms.Terms.{Terms}
@@ -21,7 +19,8 @@ abbrev pub SettingsFields : Type 0
 SettingsFields = ℕ × (ℕ × (ℕ × (ℕ × Terms)))
 
 abbrev pub settings_of : SettingsFields → Settings
-settings_of f = record { min_temporary_ttl = f.0; min_persistent_ttl = f.1.0; max_entry_ttl = f.1.1.0; memory_limit = f.1.1.1.0; terms = f.1.1.1.1 }
+settings_of f = record
+    { min_temporary_ttl = f.0; min_persistent_ttl = f.1.0; max_entry_ttl = f.1.1.0; memory_limit = f.1.1.1.0; terms = f.1.1.1.1 }
 
 abbrev pub settings_fields : Settings → SettingsFields
 settings_fields s = (s.min_temporary_ttl, (s.min_persistent_ttl, (s.max_entry_ttl, (s.memory_limit, s.terms))))
@@ -34,7 +33,8 @@ settings_format = via settings_of settings_fields settings_fields_format
 
 settings_fields_lawful : IsFormat settings_fields_format
 settings_fields_lawful =
-    pair_lawful _ _ number32_lawful (pair_lawful _ _ number32_lawful (pair_lawful _ _ number32_lawful (pair_lawful _ _ number64_lawful terms_lawful)))
+    pair_lawful _ _ number32_lawful (pair_lawful _ _ number32_lawful (pair_lawful _ _ number32_lawful
+    (pair_lawful _ _ number64_lawful terms_lawful)))
 
 pub settings_lawful : IsFormat settings_format
 unfolding settings_format
@@ -64,11 +64,13 @@ header_format = header_in V2
 
 header_fields_lawful : (version : FileVersion) → IsFormat (header_fields_format version)
 header_fields_lawful version =
-    pair_lawful _ _ hash_lawful (pair_lawful _ _ (protocol_lawful version) (pair_lawful _ _ number32_lawful (pair_lawful _ _ number64_lawful settings_lawful)))
+    pair_lawful _ _ hash_lawful (pair_lawful _ _ (protocol_lawful version)
+    (pair_lawful _ _ number32_lawful (pair_lawful _ _ number64_lawful settings_lawful)))
 
 pub header_in_lawful : (version : FileVersion) → IsFormat (header_in version)
 unfolding header_in
-header_in_lawful version = via_lawful header_of header_fields (header_fields_format version) (λ f. refl) (λ h. refl) (header_fields_lawful version)
+header_in_lawful version =
+    via_lawful header_of header_fields (header_fields_format version) (λ f. refl) (λ h. refl) (header_fields_lawful version)
 
 pub header_lawful : IsFormat header_format
 header_lawful = header_in_lawful V2

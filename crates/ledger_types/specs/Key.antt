@@ -4,15 +4,14 @@ use Rattle.std.specs.Prelude.{◌≡◌, List, ℕ, ℤ, Option, Some, None}
 use Rattle.std.proofs.Common.{refl}
 use Rattle.xdr_spec.specs.Format.{Format, pair, arm, union, signed64, opaque}
 use Rattle.xdr_spec.specs.Laws.{IsFormat}
-use Rattle.xdr_spec.proofs.Pairs.{pair_lawful}
-use Rattle.xdr_spec.proofs.Remade.{arm_lawful, arm_kind}
-use Rattle.xdr_spec.proofs.Derived.{union_lawful, find_kind-back, signed64_lawful, opaque_lawful}
+use Rattle.xdr_spec.proofs.Lemmas.{arm_kind, arm_lawful, find_kind-back, opaque_lawful, pair_lawful, signed64_lawful}
+use Rattle.xdr_spec.proofs.Lemmas.{union_lawful}
 use Rattle.value_types.specs.BalanceId.{balance_id_format, balance_id_lawful}
 use Rattle.value_types.specs.Hash.{hash_format, hash_lawful}
 use Rattle.value_types.specs.AccountId.{account_id_format, account_id_lawful}
 use Rattle.value_types.specs.Address.{address_format, address_lawful}
 use Rattle.value_types.specs.Formats.{scval_format}
-use Rattle.value_types.proofs.Lawful.{scval_lawful}
+use Rattle.value_types.proofs.Lemmas.{scval_lawful}
 use Rattle.value_types.specs.declared.hash.Hash.{Hash}
 use Rattle.value_types.specs.declared.account_id.AccountId.{AccountId}
 use Rattle.value_types.specs.declared.address.ScAddress.{ScAddress}
@@ -153,23 +152,34 @@ back_ttl _ x e = absurd cc
 
 arms_lawful : (k : LedgerEntryType) → IsFormat (arms k)
 arms_lawful types.Account = arm_lawful account_of as_account _ (λ x. refl) back_account account_id_lawful
-arms_lawful types.Trustline = arm_lawful trustline_of as_trustline _ (λ x. refl) back_trustline (pair_lawful _ _ account_id_lawful asset_lawful)
-arms_lawful types.Offer = arm_lawful offer_of as_offer _ (λ x. refl) back_offer (pair_lawful _ _ account_id_lawful signed64_lawful)
-arms_lawful types.Data = arm_lawful named_data_of as_named_data _ (λ x. refl) back_named_data (pair_lawful _ _ account_id_lawful (opaque_lawful 64))
+arms_lawful types.Trustline =
+    arm_lawful trustline_of as_trustline _ (λ x. refl) back_trustline (pair_lawful _ _ account_id_lawful asset_lawful)
+arms_lawful types.Offer =
+    arm_lawful offer_of as_offer _ (λ x. refl) back_offer (pair_lawful _ _ account_id_lawful signed64_lawful)
+arms_lawful types.Data =
+    arm_lawful named_data_of as_named_data _ (λ x. refl) back_named_data (pair_lawful _ _ account_id_lawful (opaque_lawful 64))
 arms_lawful types.ClaimableBalance = arm_lawful balance_of as_balance _ (λ x. refl) back_balance balance_id_lawful
 arms_lawful types.LiquidityPool = arm_lawful pool_of as_pool _ (λ x. refl) back_pool hash_lawful
-arms_lawful types.ContractData = arm_lawful contract_data_of as_contract_data _ (λ x. refl) back_contract_data (pair_lawful _ _ address_lawful (pair_lawful _ _ scval_lawful durability_lawful))
+arms_lawful types.ContractData =
+    arm_lawful contract_data_of as_contract_data _ (λ x. refl) back_contract_data
+    (pair_lawful _ _ address_lawful (pair_lawful _ _ scval_lawful durability_lawful))
 arms_lawful types.ContractCode = arm_lawful code_of as_code _ (λ x. refl) back_code hash_lawful
 arms_lawful types.Ttl = arm_lawful ttl_of as_ttl _ (λ x. refl) back_ttl hash_lawful
 
 coherent : (k : LedgerEntryType) (v : LedgerKey) → (arms k).fits v → kind v ≡ k
 coherent types.Account v h = arm_kind kind types.Account account_of as_account account_id_format (λ x. refl) back_account v h
-coherent types.Trustline v h = arm_kind kind types.Trustline trustline_of as_trustline (pair account_id_format asset_format) (λ x. refl) back_trustline v h
-coherent types.Offer v h = arm_kind kind types.Offer offer_of as_offer (pair account_id_format signed64) (λ x. refl) back_offer v h
-coherent types.Data v h = arm_kind kind types.Data named_data_of as_named_data (pair account_id_format (opaque 64)) (λ x. refl) back_named_data v h
-coherent types.ClaimableBalance v h = arm_kind kind types.ClaimableBalance balance_of as_balance balance_id_format (λ x. refl) back_balance v h
+coherent types.Trustline v h =
+    arm_kind kind types.Trustline trustline_of as_trustline (pair account_id_format asset_format) (λ x. refl) back_trustline v h
+coherent types.Offer v h =
+    arm_kind kind types.Offer offer_of as_offer (pair account_id_format signed64) (λ x. refl) back_offer v h
+coherent types.Data v h =
+    arm_kind kind types.Data named_data_of as_named_data (pair account_id_format (opaque 64)) (λ x. refl) back_named_data v h
+coherent types.ClaimableBalance v h =
+    arm_kind kind types.ClaimableBalance balance_of as_balance balance_id_format (λ x. refl) back_balance v h
 coherent types.LiquidityPool v h = arm_kind kind types.LiquidityPool pool_of as_pool hash_format (λ x. refl) back_pool v h
-coherent types.ContractData v h = arm_kind kind types.ContractData contract_data_of as_contract_data (pair address_format (pair scval_format durability_format)) (λ x. refl) back_contract_data v h
+coherent types.ContractData v h =
+    arm_kind kind types.ContractData contract_data_of as_contract_data
+    (pair address_format (pair scval_format durability_format)) (λ x. refl) back_contract_data v h
 coherent types.ContractCode v h = arm_kind kind types.ContractCode code_of as_code hash_format (λ x. refl) back_code v h
 coherent types.Ttl v h = arm_kind kind types.Ttl ttl_of as_ttl hash_format (λ x. refl) back_ttl v h
 

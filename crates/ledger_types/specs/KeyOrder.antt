@@ -36,7 +36,8 @@ ranked_rest (keys.Offer seller offer) = account_id_format.spell seller ++ signed
 ranked_rest (keys.Data account name) = account_id_format.spell account ++ ranked_text name
 ranked_rest (keys.ClaimableBalance id) = word 0 ++ hash_format.spell id
 ranked_rest (keys.LiquidityPool id) = hash_format.spell id
-ranked_rest (keys.ContractData contract key durability) = address_format.spell contract ++ (ranked_value key ++ durability_format.spell durability)
+ranked_rest (keys.ContractData contract key durability) =
+    address_format.spell contract ++ (ranked_value key ++ durability_format.spell durability)
 ranked_rest (keys.ContractCode hash) = hash_format.spell hash
 ranked_rest (keys.Ttl hash) = hash_format.spell hash
 

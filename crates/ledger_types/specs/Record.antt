@@ -2,9 +2,7 @@
 use Rattle.std.specs.Prelude.{ℕ, refl}
 use Rattle.xdr_spec.specs.Format.{Format, via, pair, number32}
 use Rattle.xdr_spec.specs.Laws.{IsFormat}
-use Rattle.xdr_spec.proofs.Pairs.{pair_lawful}
-use Rattle.xdr_spec.proofs.Remade.{via_lawful}
-use Rattle.xdr_spec.proofs.Derived.{number32_lawful}
+use Rattle.xdr_spec.proofs.Lemmas.{number32_lawful, pair_lawful, via_lawful}
 use Rattle.value_types.specs.Hash.{hash_format, hash_lawful}
 use Rattle.value_types.specs.declared.hash.Hash.{Hash}
 use Rattle.ledger_types.specs.Entry.{entry_format, entry_lawful}

@@ -2,9 +2,7 @@
 use Rattle.std.specs.Prelude.{ℕ, refl}
 use Rattle.xdr_spec.specs.Format.{Format, via, pair, number32}
 use Rattle.xdr_spec.specs.Laws.{IsFormat}
-use Rattle.xdr_spec.proofs.Pairs.{pair_lawful}
-use Rattle.xdr_spec.proofs.Remade.{via_lawful}
-use Rattle.xdr_spec.proofs.Derived.{number32_lawful}
+use Rattle.xdr_spec.proofs.Lemmas.{number32_lawful, pair_lawful, via_lawful}
 use Rattle.budget_meter.specs.declared.terms.KindTerms.{KindTerms}
 use Rattle.budget_meter.specs.declared.terms.Terms.{Terms}
 
@@ -38,7 +36,9 @@ row_lawful = via_lawful row_of row_words words_format (λ f. refl) (λ t. refl) 
 -- ---- the terms of all kinds
 
 abbrev pub Rows : Type 0
-Rows = KindTerms × (KindTerms × (KindTerms × (KindTerms × (KindTerms × (KindTerms × (KindTerms × (KindTerms × (KindTerms × (KindTerms × KindTerms)))))))))
+Rows =
+    KindTerms × (KindTerms × (KindTerms × (KindTerms × (KindTerms × (KindTerms ×
+    (KindTerms × (KindTerms × (KindTerms × (KindTerms × KindTerms)))))))))
 
 abbrev pub terms_of : Rows → Terms
 terms_of f = record {
@@ -56,17 +56,37 @@ terms_of f = record {
 }
 
 abbrev pub terms_rows : Terms → Rows
-terms_rows t =
-    (t.wasm_insn_exec, (t.mem_alloc, (t.mem_cpy, (t.mem_cmp, (t.dispatch_host_function, (t.visit_object, (t.val_ser, (t.val_deser, (t.compute_sha256_hash, (t.vm_instantiation, t.invoke_vm_function))))))))))
+terms_rows t = (
+  t.wasm_insn_exec,
+  (
+    t.mem_alloc,
+    (
+      t.mem_cpy,
+      (
+        t.mem_cmp,
+        (
+          t.dispatch_host_function,
+          (t.visit_object, (t.val_ser, (t.val_deser, (t.compute_sha256_hash, (t.vm_instantiation, t.invoke_vm_function))))),
+        ),
+      ),
+    ),
+  ),
+)
 
 abbrev pub rows_format : Format Rows
-rows_format = pair row_format (pair row_format (pair row_format (pair row_format (pair row_format (pair row_format (pair row_format (pair row_format (pair row_format (pair row_format row_format)))))))))
+rows_format =
+    pair row_format (pair row_format (pair row_format (pair row_format (pair row_format
+    (pair row_format (pair row_format (pair row_format (pair row_format (pair row_format row_format)))))))))
 
 unfoldable pub terms_format : Format Terms
 terms_format = via terms_of terms_rows rows_format
 
 rows_lawful : IsFormat rows_format
-rows_lawful = pair_lawful _ _ row_lawful (pair_lawful _ _ row_lawful (pair_lawful _ _ row_lawful (pair_lawful _ _ row_lawful (pair_lawful _ _ row_lawful (pair_lawful _ _ row_lawful (pair_lawful _ _ row_lawful (pair_lawful _ _ row_lawful (pair_lawful _ _ row_lawful (pair_lawful _ _ row_lawful row_lawful)))))))))
+rows_lawful =
+    pair_lawful _ _ row_lawful (pair_lawful _ _ row_lawful (pair_lawful _ _ row_lawful
+    (pair_lawful _ _ row_lawful (pair_lawful _ _ row_lawful (pair_lawful _ _ row_lawful
+    (pair_lawful _ _ row_lawful (pair_lawful _ _ row_lawful (pair_lawful _ _ row_lawful
+    (pair_lawful _ _ row_lawful row_lawful)))))))))
 
 pub terms_lawful : IsFormat terms_format
 unfolding terms_format

@@ -4,9 +4,8 @@ use Rattle.std.specs.Prelude.{◌≡◌, ◌<◌, ◌^◌, List, [], ◌∷◌, 
 use Rattle.std.proofs.Common.{refl, ap, arith}
 use Rattle.xdr_spec.specs.Format.{Format, pair, arm, nothing, union, enumeration, find_kind}
 use Rattle.xdr_spec.specs.Laws.{IsFormat}
-use Rattle.xdr_spec.proofs.Pairs.{pair_lawful, nothing_lawful}
-use Rattle.xdr_spec.proofs.Remade.{arm_lawful, arm_kind}
-use Rattle.xdr_spec.proofs.Derived.{union_lawful, enumeration_lawful, find_kind-back}
+use Rattle.xdr_spec.proofs.Lemmas.{arm_kind, arm_lawful, enumeration_lawful, find_kind-back, nothing_lawful, pair_lawful}
+use Rattle.xdr_spec.proofs.Lemmas.{union_lawful}
 use Rattle.value_types.specs.Hash.{hash_format, hash_lawful}
 use Rattle.value_types.specs.AccountId.{account_id_format, account_id_lawful}
 use Rattle.value_types.specs.declared.hash.Hash.{Hash}
@@ -104,14 +103,20 @@ back_pool _ x e = absurd cc
 
 arms_lawful : (k : AssetType) → IsFormat (arms k)
 arms_lawful types.Native = nothing_lawful assets.Native
-arms_lawful types.CreditAlphanum4 = arm_lawful alphanum4_of as_alphanum4 _ (λ x. refl) back_alphanum4 (pair_lawful _ _ code4_lawful account_id_lawful)
-arms_lawful types.CreditAlphanum12 = arm_lawful alphanum12_of as_alphanum12 _ (λ x. refl) back_alphanum12 (pair_lawful _ _ code12_lawful account_id_lawful)
+arms_lawful types.CreditAlphanum4 =
+    arm_lawful alphanum4_of as_alphanum4 _ (λ x. refl) back_alphanum4 (pair_lawful _ _ code4_lawful account_id_lawful)
+arms_lawful types.CreditAlphanum12 =
+    arm_lawful alphanum12_of as_alphanum12 _ (λ x. refl) back_alphanum12 (pair_lawful _ _ code12_lawful account_id_lawful)
 arms_lawful types.PoolShare = arm_lawful pool_of as_pool _ (λ x. refl) back_pool hash_lawful
 
 coherent : (k : AssetType) (v : TrustLineAsset) → (arms k).fits v → kind v ≡ k
 coherent types.Native v h = ap kind h
-coherent types.CreditAlphanum4 v h = arm_kind kind types.CreditAlphanum4 alphanum4_of as_alphanum4 (pair code4_format account_id_format) (λ x. refl) back_alphanum4 v h
-coherent types.CreditAlphanum12 v h = arm_kind kind types.CreditAlphanum12 alphanum12_of as_alphanum12 (pair code12_format account_id_format) (λ x. refl) back_alphanum12 v h
+coherent types.CreditAlphanum4 v h =
+    arm_kind kind types.CreditAlphanum4 alphanum4_of as_alphanum4 (pair code4_format account_id_format) (λ x. refl)
+    back_alphanum4 v h
+coherent types.CreditAlphanum12 v h =
+    arm_kind kind types.CreditAlphanum12 alphanum12_of as_alphanum12 (pair code12_format account_id_format) (λ x. refl)
+    back_alphanum12 v h
 coherent types.PoolShare v h = arm_kind kind types.PoolShare pool_of as_pool hash_format (λ x. refl) back_pool v h
 
 pub asset_lawful : IsFormat asset_format

@@ -2,9 +2,7 @@
 use Rattle.std.specs.Prelude.{List, refl}
 use Rattle.xdr_spec.specs.Format.{Format, via, pair, list}
 use Rattle.xdr_spec.specs.Laws.{IsFormat}
-use Rattle.xdr_spec.proofs.Pairs.{pair_lawful}
-use Rattle.xdr_spec.proofs.Remade.{via_lawful}
-use Rattle.xdr_spec.proofs.Derived.{list_lawful}
+use Rattle.xdr_spec.proofs.Lemmas.{list_lawful, pair_lawful, via_lawful}
 use Rattle.value_types.specs.Hash.{hash_format, hash_lawful}
 use Rattle.value_types.specs.declared.hash.Hash.{Hash}
 use Rattle.ledger_types.specs.declared.verdicts.Verdict.{Verdict}
@@ -34,4 +32,5 @@ verdicts_format = via verdicts_of verdict_pairs (list 4294967295 verdict_format)
 
 pub verdicts_lawful : IsFormat verdicts_format
 unfolding verdicts_format
-verdicts_lawful = via_lawful verdicts_of verdict_pairs _ (λ f. refl) (λ v. refl) (list_lawful 4294967295 verdict_format verdict_lawful)
+verdicts_lawful =
+    via_lawful verdicts_of verdict_pairs _ (λ f. refl) (λ v. refl) (list_lawful 4294967295 verdict_format verdict_lawful)

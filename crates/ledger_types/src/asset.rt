@@ -3,7 +3,8 @@
 ghost use Rattle.std.specs.Prelude.{◌≡◌, ⊤};
 ghost use Rattle.xdr_core.specs.Reads.{Reads};
 ghost use Rattle.ledger_types.specs.AssetCode.{code4_format, code4_lawful, code12_format, code12_lawful};
-ghost use Rattle.ledger_types.specs.TrustLineAsset.{number, kind_of, kind, type_format, type_lawful, arms, asset_format, asset_lawful};
+ghost use Rattle.ledger_types.specs.TrustLineAsset.{number, kind_of, kind, type_format, type_lawful, arms, asset_format};
+ghost use Rattle.ledger_types.specs.TrustLineAsset.{asset_lawful};
 
 use std::alloc::{AllocError, Global};
 use value_types::{AccountId, Hash};

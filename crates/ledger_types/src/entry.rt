@@ -2,7 +2,8 @@
 
 ghost use Rattle.std.specs.Prelude.{◌≡◌};
 ghost use Rattle.xdr_core.specs.Reads.{Reads};
-ghost use Rattle.ledger_types.specs.Entry.{number, kind_of, type_format, type_lawful, kind, arms, body_format, body_lawful, entry_format, entry_lawful};
+ghost use Rattle.ledger_types.specs.Entry.{number, kind_of, type_format, type_lawful, kind, arms, body_format, body_lawful};
+ghost use Rattle.ledger_types.specs.Entry.{entry_format, entry_lawful};
 
 use crate::contract_entries::{ContractCodeEntry, ContractDataEntry, EXTENSION_SIZE, NO_EXTENSION};
 use std::alloc::{AllocError, Global};

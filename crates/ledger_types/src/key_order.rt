@@ -42,7 +42,7 @@ impl Ranked for AssetCode12 {
 }
 
 /// Compares the bodies of two assets of one type. The other branches are never taken.
-#[tactic(auto, using(spelled_order::proofs::Deciding::both))]
+#[tactic(auto, using(spelled_order::proofs::Lemmas::both))]
 fn cmp_asset_rests(one: &TrustLineAsset, other: &TrustLineAsset) -> Ordering
     requires { asset_number (asset_kind one.now) ≡ asset_number (asset_kind other.now) }
     ensures { Against (asset_rest one.now) (asset_rest other.now) result }
@@ -88,7 +88,7 @@ impl Ranked for TrustLineAsset {
 }
 
 /// Compares what follows the contract in two keys of contract data. The durabilities are not read if the values differ.
-#[tactic(auto, using(spelled_order::proofs::Deciding::both, spelled_order::proofs::Deciding::first))]
+#[tactic(auto, using(spelled_order::proofs::Lemmas::both, spelled_order::proofs::Lemmas::first))]
 fn cmp_data_rests(
     key: &ScVal,
     durability: &Durability,
@@ -115,7 +115,7 @@ macro_rules! among {
 }
 
 /// Compares the bodies of two keys of contract data.
-#[tactic(auto, using(spelled_order::proofs::Deciding::both, spelled_order::proofs::Deciding::first))]
+#[tactic(auto, using(spelled_order::proofs::Lemmas::both, spelled_order::proofs::Lemmas::first))]
 #[inline]
 fn cmp_data(
     contract: &ScAddress,
@@ -141,7 +141,7 @@ fn cmp_data(
 }
 
 /// Compares the bodies of two keys of one type.
-#[tactic(auto, using(spelled_order::proofs::Deciding::both, spelled_order::proofs::Deciding::word_first))]
+#[tactic(auto, using(spelled_order::proofs::Lemmas::both, spelled_order::proofs::Lemmas::word_first))]
 fn cmp_rests(one: &LedgerKey, other: &LedgerKey) -> Ordering
     requires { number (kind one.now) ≡ number (kind other.now) }
     ensures { Against (ranked_rest one.now) (ranked_rest other.now) result }

@@ -5,7 +5,7 @@ use Rattle.module_loader.specs.Loading.{loaded}
 use Rattle.module_loader.specs.declared.error.Flaw.{Flaw}
 use Rattle.module_loader.specs.declared.error.LoadErr.{LoadErr}
 use Rattle.module_loader.specs.declared.error.LoadErr.TheVariants.{Flawed, NoMemory}
-use Rattle.module_loader.proofs.Exact.{exact as loaded_exact}
+use Rattle.module_loader.proofs.Lemmas.{exact as loaded_exact}
 use Rattle.module_vet.specs.declared.Sizes.{Sizes}
 use Rattle.module_vet.specs.Verdict.{IsExact, IsVerdict, IsVerdictUnlessMemory, GivesVerdict, sizes_if, verdict_of}
 

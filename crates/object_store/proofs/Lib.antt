@@ -1,4 +1,5 @@
-pub mod Resolving
-pub mod Showing
-pub mod SmallForms
-pub mod SmallHosted
+pub mod Lemmas
+mod Resolving
+mod Showing
+mod SmallForms
+mod SmallHosted

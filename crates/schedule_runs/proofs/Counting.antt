@@ -7,7 +7,7 @@ use Rattle.std.proofs.lemmas.List.Filters.{length-filter_both}
 use Rattle.std.proofs.lemmas.List.{length-append, length-take, take_more}
 use Rattle.std.proofs.lemmas.List.Folds.{list_all_more}
 use Rattle.std.specs.List.{list_all}
-use Rattle.stage_runs.specs.Runs.{Cluster, Stage}
+use Rattle.stage_runs.specs.Runs.{Stage}
 use Rattle.stage_runs.specs.Orders.{is_complete, times, runs_each, runs_each_from}
 use Rattle.schedule_runs.specs.Complete.{counts_from, have_lengths}
 

@@ -1,6 +1,7 @@
-pub mod Counting
-pub mod Completing
-pub mod Moving
-pub mod Staged
-pub mod Stopping
-pub mod Few
+mod Completing
+mod Counting
+mod Few
+pub mod Lemmas
+mod Moving
+mod Staged
+mod Stopping

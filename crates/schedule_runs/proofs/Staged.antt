@@ -3,7 +3,7 @@ use Rattle.std.specs.List.{flat_map}
 use Rattle.std.proofs.Common.{◌≡◌, List, [], ◌∷◌, ◌++◌, map, refl, sym, ap, ap₂, ◌∙◌}
 use Rattle.std.proofs.lemmas.List.{map-append}
 use Rattle.tx_xdr.specs.declared.set.Cluster.{Cluster}
-use Rattle.ledger_apply.proofs.Lists.{flat_map_one_more}
+use Rattle.ledger_apply.proofs.Lemmas.{flat_map_one_more}
 use Rattle.ledger_apply.specs.State.{between, pending_of, reports_of}
 use Rattle.ledger_apply.specs.declared.running.ClusterDone.{ClusterDone}
 use Rattle.stage_runs.specs.Maps.{LedgerMap}

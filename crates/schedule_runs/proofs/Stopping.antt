@@ -1,27 +1,24 @@
 -- Stages by their schedules, one after the other.
 use Rattle.std.specs.List.{AllByRecursion}
-use Rattle.std.proofs.Common.{◌≡◌, ◌&&◌, ◌<◌, ◌≤◌, ◌+◌, ◌-◌, ℕ, suc, Bool, true, false, cond, leb, List, [], ◌∷◌, length, take, get_or, drop, map, Option, Some, None, refl, sym, ap, subst, ◌∙◌, arith}
+use Rattle.std.proofs.Common.{◌≡◌, ◌&&◌, ◌<◌, ◌≤◌, ◌+◌, ◌-◌, ℕ, suc, Bool, true, false, cond, List, [], ◌∷◌, length, take, get_or, drop, map, Option, Some, None, refl, sym, ap, subst, ◌∙◌, arith}
 use Rattle.std.proofs.lemmas.List.{drop_more}
 use Rattle.std.proofs.lemmas.Bool.{le-leb, lt-leb}
 use Rattle.std.proofs.lemmas.Option.{none-some}
 use Rattle.stage_runs.specs.Transactions.{Step, IsFramed}
 use Rattle.stage_runs.specs.Runs.{Stage, RunState, HasNoConflict, run_clusters, run_stage, run_set, start, ended}
 use Rattle.stage_runs.specs.Orders.{first_of, is_complete, runs_each}
-use Rattle.stage_runs.specs.Maps.{LedgerMap}
 use Rattle.stage_runs.specs.Sets.{Planned, IsPlanned, run_scheduled, stopped, stopped_in_order}
-use Rattle.stage_runs.proofs.Sets.{stopped_order}
-use Rattle.ledger_types.specs.declared.header.Header.{Header}
-use Rattle.ledger_types.specs.declared.verdicts.Verdicts.{Verdicts}
+use Rattle.stage_runs.proofs.Lemmas.{stopped_order}
 use Rattle.tx_xdr.specs.Stages.{stages_of}
 use Rattle.tx_xdr.specs.declared.set.TxSet.{TxSet}
 use Rattle.ledger_apply.specs.declared.stages.SetStage.{SetStage}
 use Rattle.ledger_apply.specs.Stages.{clusters_of, stage_of}
-use Rattle.ledger_apply.proofs.Firsts.{clusters_listed}
+use Rattle.ledger_apply.proofs.Lemmas.{clusters_listed}
 use Rattle.apply_spec.specs.Enforced.{enforced}
 use Rattle.apply_spec.specs.Runs as apply
-use Rattle.apply_spec.proofs.Framed.{step_framed}
+use Rattle.apply_spec.proofs.Lemmas.{step_framed}
 use Rattle.schedule_runs.specs.Laws.{WholeLaw}
-use Rattle.schedule_runs.specs.Plans.{first_incomplete, first_incomplete_from, planned_of, run_stopped, stages_in, steps_of}
+use Rattle.schedule_runs.specs.Plans.{first_incomplete_from, planned_of, stages_in, steps_of}
 
 -- the next stage with its schedule, and those behind it
 pub planned_next : {A : Type 0} (f : A → Stage) (stages : List A) (orders : List (List ℕ)) (index : ℕ) (stage : A) (order : List ℕ)

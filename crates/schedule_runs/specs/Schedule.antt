@@ -2,8 +2,7 @@
 use Rattle.std.specs.Prelude.{ℕ, List, refl}
 use Rattle.xdr_spec.specs.Format.{Format, via, list, number32}
 use Rattle.xdr_spec.specs.Laws.{IsFormat}
-use Rattle.xdr_spec.proofs.Remade.{via_lawful}
-use Rattle.xdr_spec.proofs.Derived.{list_lawful, number32_lawful}
+use Rattle.xdr_spec.proofs.Lemmas.{list_lawful, number32_lawful, via_lawful}
 use Rattle.schedule_runs.specs.declared.schedule.Schedule.{Schedule}
 
 abbrev pub schedule_of : List (List ℕ) → Schedule

@@ -8,7 +8,7 @@ use Rattle.tx_xdr.specs.declared.set.Cluster as clusters
 use Rattle.tx_xdr.specs.declared.set.TxSet.{TxSet}
 use Rattle.stage_runs.specs.Transactions.{Envelope}
 use Rattle.stage_runs.specs.Runs.{Cluster, Stage, clusters_in, HasNoConflict}
-use Rattle.stage_runs.proofs.Conflicts.{none_from}
+use Rattle.stage_runs.proofs.Lemmas.{none_from}
 use Rattle.set_build.specs.Built.{Building, put, placed, start, building, ended, place_in, built_stages, stage_with, built_set, set_with}
 use Rattle.set_build.specs.Placed.{Spot, ArePlaced, IsSound, stages_in}
 use Rattle.set_build.specs.Known.{last_after}

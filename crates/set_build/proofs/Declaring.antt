@@ -11,10 +11,9 @@ use Rattle.std.proofs.lemmas.Slice.Eq.{bytes_eq-Decides}
 use Rattle.stage_runs.specs.Maps.{Bytes, LedgerKey, key_bytes, has_bytes}
 use Rattle.stage_runs.specs.Transactions.{Envelope, declared_by, writes, declares}
 use Rattle.stage_runs.specs.Runs.{Cluster, Stage, writes_in, declares_in}
-use Rattle.stage_runs.proofs.Parts.{write_declared}
-use Rattle.stage_runs.proofs.Points.{cases, never, left_true, right_true}
+use Rattle.stage_runs.proofs.Lemmas.{cases, left_true, never, right_true, write_declared}
 use Rattle.stage_plan.specs.KeyMaps.{ByKey}
-use Rattle.stage_plan.proofs.KeyMaps.{found_put}
+use Rattle.stage_plan.proofs.Lemmas.{found_put}
 use Rattle.set_build.specs.Known.{declared_too, noted, noted_all, noted_by, cluster_at, IsDeclarer, IsKnown, AreKnown}
 use Rattle.set_build.specs.declared.declarer.Declarer.{Declarer}
 use Rattle.set_build.proofs.Tests.{or_none, or_self, or_assoc}

@@ -9,8 +9,7 @@ use Rattle.stage_runs.specs.Maps.{Bytes}
 use Rattle.stage_runs.specs.Transactions.{Envelope, writes, declares}
 use Rattle.stage_runs.specs.Runs.{Cluster, Stage, writes_in, declares_in, HasNoConflict}
 use Rattle.stage_runs.specs.Conflicts.{IsConflict}
-use Rattle.stage_runs.proofs.Conflicts.{free_from}
-use Rattle.stage_runs.proofs.Points.{cases, never, both_false, one_true, both_first, both_second}
+use Rattle.stage_runs.proofs.Lemmas.{both_false, both_first, both_second, cases, free_from, never, one_true}
 use Rattle.set_build.specs.Built.{meets, joined}
 use Rattle.set_build.specs.Placed.{IsSound}
 use Rattle.set_build.specs.Known.{cluster_at, last_after}

@@ -1,13 +1,13 @@
-pub mod Tests
-pub mod Meets
-pub mod Declaring
-pub mod Meeting
-pub mod Places
-pub mod Growing
-pub mod Standing
-pub mod Building
-pub mod Ranked
-pub mod Planning
-pub mod Spelling
-pub mod Moves
-pub mod Tallies
+mod Building
+mod Declaring
+mod Growing
+mod Meeting
+mod Meets
+mod Moves
+mod Places
+mod Planning
+mod Ranked
+mod Spelling
+mod Standing
+mod Tallies
+mod Tests

@@ -8,8 +8,7 @@ use Rattle.std.proofs.lemmas.Bool.Decides.{Decides-eqb}
 use Rattle.stage_runs.specs.Maps.{Bytes, LedgerKey, key_bytes}
 use Rattle.stage_runs.specs.Transactions.{Envelope, declared_by}
 use Rattle.stage_runs.specs.Runs.{Stage, writes_in, declares_in}
-use Rattle.stage_runs.proofs.Parts.{write_declared}
-use Rattle.stage_runs.proofs.Points.{cases, never, left_true, right_true, one_true}
+use Rattle.stage_runs.proofs.Lemmas.{cases, left_true, never, one_true, right_true, write_declared}
 use Rattle.stage_plan.specs.KeyMaps.{ByKey}
 use Rattle.set_build.specs.Built.{meets}
 use Rattle.set_build.specs.Known.{cluster_at, IsKnown, AreKnown, met_on, met_with, met_all, met_by, IsMet}

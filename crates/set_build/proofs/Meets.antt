@@ -9,8 +9,7 @@ use Rattle.stage_runs.specs.Maps.{Bytes, LedgerKey, key_bytes, has_bytes}
 use Rattle.stage_runs.specs.Transactions.{Envelope, declared_by, writes, declares}
 use Rattle.stage_runs.specs.Runs.{Cluster, writes_in, declares_in}
 use Rattle.stage_runs.specs.Conflicts.{meet_at}
-use Rattle.stage_runs.proofs.Parts.{write_declared}
-use Rattle.stage_runs.proofs.Points.{cases, never, left_false, right_false, left_true, right_true, one_true, both_first, both_second}
+use Rattle.stage_runs.proofs.Lemmas.{both_first, both_second, cases, left_false, left_true, never, one_true, right_false, right_true, write_declared}
 use Rattle.set_build.specs.Built.{meets}
 use Rattle.set_build.proofs.Tests.{or_none, none_passes, any_at, any_more}
 

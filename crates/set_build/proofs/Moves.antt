@@ -4,7 +4,7 @@ use Rattle.std.proofs.lemmas.List.{take_more, map-append, map-set, length_push}
 use Rattle.tx_xdr.specs.declared.set.Cluster as sets
 use Rattle.stage_runs.specs.Transactions.{Envelope}
 use Rattle.stage_runs.specs.Runs.{Cluster, Stage}
-use Rattle.stage_plan.proofs.Clusters.{take_all}
+use Rattle.stage_plan.proofs.Lemmas.{take_all}
 use Rattle.set_build.specs.Built.{Building, put, start, building, joined, place_in}
 use Rattle.set_build.specs.Known.{ArePlanned}
 use Rattle.set_build.specs.Moved.{HasPlace}

@@ -8,7 +8,7 @@ use Rattle.std.proofs.lemmas.Bool.Decides.{Decides-ltb, leb_tells}
 use Rattle.std.proofs.lemmas.List.Folds.{list_all_at}
 use Rattle.stage_runs.specs.Transactions.{Envelope}
 use Rattle.stage_runs.specs.Runs.{Cluster, Stage}
-use Rattle.stage_runs.proofs.Points.{cases, never}
+use Rattle.stage_runs.proofs.Lemmas.{cases, never}
 use Rattle.set_build.specs.Built.{meets, meeting_from, first_least, fewest, place_for, place_in}
 use Rattle.set_build.specs.Known.{cluster_at, IsMet, place_by}
 use Rattle.set_build.specs.declared.met.Met.{Met}

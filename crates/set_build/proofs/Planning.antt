@@ -6,7 +6,7 @@ use Rattle.std.proofs.lemmas.Option.{slice_get_read, slice_get-get_or}
 use Rattle.stage_runs.specs.Transactions.{Envelope}
 use Rattle.stage_runs.specs.Runs.{Stage}
 use Rattle.stage_plan.specs.KeyMaps.{ByKey}
-use Rattle.stage_plan.proofs.Clusters.{fold_more, split_last}
+use Rattle.stage_plan.proofs.Lemmas.{fold_more, split_last}
 use Rattle.set_build.specs.Built.{Building, put, placed, start, building, place_in}
 use Rattle.set_build.specs.Known.{cluster_at, AreKnown, IsLast, IsRanked, IsThere, ArePlanned, begun, keys_after, counts_after, last_after, noted_by, met_by, place_by}
 use Rattle.set_build.specs.declared.declarer.Declarer.{Declarer}

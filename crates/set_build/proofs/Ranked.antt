@@ -10,7 +10,7 @@ use Rattle.std.proofs.Common.{◌≡◌, ◌⊎◌, inl, inr, ℕ, zero, suc, �
 use Rattle.std.proofs.lemmas.Bool.{cases_eq, cases_order}
 use Rattle.std.proofs.lemmas.Bool.Decides.{Decides-eqb, Decides-ltb}
 use Rattle.std.proofs.lemmas.Option.{slice_get-get_or, get_or_from_slice_get, slice_get_within}
-use Rattle.stage_runs.proofs.Points.{cases, never}
+use Rattle.stage_runs.proofs.Lemmas.{cases, never}
 use Rattle.set_build.specs.Built.{first_least}
 use Rattle.set_build.specs.Known.{size_cmp}
 use Rattle.set_build.proofs.Tests.{get_left, get_end, get_cases}

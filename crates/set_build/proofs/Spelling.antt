@@ -6,20 +6,11 @@ use Rattle.std.proofs.lemmas.List.Sums.{sum_by_push}
 use Rattle.std.proofs.lemmas.List.Elements.{All-from_recursion, recursion_from_All, All-nil, All-push, All-set, All-get_or, All-from_get_or}
 use Rattle.xdr_spec.specs.Format.{list, optional, zeros}
 use Rattle.value_types.specs.Hash.{hash_format, hash_of}
-use Rattle.ledger_types.specs.Key.{key_format}
-use Rattle.ledger_types.specs.declared.key.LedgerKey.{LedgerKey}
-use Rattle.tx_xdr.specs.Soroban.{footprint_format, soroban_format}
-use Rattle.tx_xdr.specs.Ext.{ext_format}
-use Rattle.tx_xdr.specs.Transaction.{transaction_format}
 use Rattle.tx_xdr.specs.Envelope.{envelope_format, transaction_in}
 use Rattle.tx_xdr.specs.Set.{cluster_format, stage_format, phase_format, set_format}
-use Rattle.tx_xdr.specs.declared.transaction.Footprint.{Footprint}
-use Rattle.tx_xdr.specs.declared.transaction.SorobanData.{SorobanData}
-use Rattle.tx_xdr.specs.declared.transaction.TransactionExt.{TransactionExt}
-use Rattle.tx_xdr.specs.declared.transaction.TransactionExt.TheVariants as exts
-use Rattle.tx_xdr.specs.declared.transaction.Transaction.{Transaction}
-use Rattle.tx_xdr.proofs.Fits.{transaction_in_fits}
-use Rattle.stage_runs.specs.Transactions.{Envelope, footprint_in}
+use Rattle.tx_xdr.proofs.Lemmas.{transaction_in_fits}
+use Rattle.stage_runs.specs.Transactions.{Envelope}
+use Rattle.stage_runs.proofs.Lemmas.{declared_spelled}
 use Rattle.stage_runs.specs.Runs.{Cluster, Stage}
 use Rattle.stage_plan.specs.Spelled.{DeclaresSpelled}
 use Rattle.set_build.specs.Built.{Building, put, placed, start, building, ended, place_in, built_stages, stage_with, built_set, envelopes_format}
@@ -32,29 +23,9 @@ use Rattle.set_build.proofs.Building.{IsBuilt, built_start, built_put, grow_fold
 
 -- ---- the declared keys
 
-abbrev AreSpelled : List LedgerKey → Type 0
-AreSpelled keys = All key_format.fits keys
-
-footprint_keys : (footprint : Footprint) → footprint_format.fits footprint → AreSpelled footprint.read_only × AreSpelled footprint.read_write
-unfolding footprint_format list
-footprint_keys footprint h = (All-from_recursion key_format.fits footprint.read_only h.0.2, All-from_recursion key_format.fits footprint.read_write h.1.2)
-
-soroban_keys : (soroban : SorobanData) → soroban_format.fits soroban → footprint_format.fits soroban.footprint
-unfolding soroban_format
-soroban_keys soroban h = h.0
-
-ext_keys : (ext : TransactionExt) → ext_format.fits ext → AreSpelled (footprint_in ext).read_only × AreSpelled (footprint_in ext).read_write
-unfolding ext_format
-ext_keys exts.None h = (All-nil key_format.fits, All-nil key_format.fits)
-ext_keys (exts.Soroban soroban) h = footprint_keys soroban.footprint (soroban_keys soroban h)
-
-transaction_keys : (tx : Transaction) → transaction_format.fits tx → AreSpelled (footprint_in tx.ext).read_only × AreSpelled (footprint_in tx.ext).read_write
-unfolding transaction_format
-transaction_keys tx h = ext_keys tx.ext h.1.1.1.1.1.1
-
 envelope_keys : (envelope : Envelope) → envelope_format.fits envelope → DeclaresSpelled envelope
 envelope_keys envelope h =
-    let both = transaction_keys (transaction_in envelope) (transaction_in_fits envelope h) in
+    let both = declared_spelled (transaction_in envelope) (transaction_in_fits envelope h) in
     record { read_only = both.0; read_write = both.1 }
 
 each_fits : (envelopes : List Envelope) → envelopes_format.fits envelopes → AllByRecursion envelope_format.fits envelopes

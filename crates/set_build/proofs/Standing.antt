@@ -6,7 +6,7 @@ use Rattle.std.proofs.lemmas.List.{length_push, get_or_past}
 use Rattle.std.proofs.lemmas.Option.{slice_get_within, slice_get-get_or}
 use Rattle.stage_runs.specs.Transactions.{Envelope}
 use Rattle.stage_runs.specs.Runs.{Cluster, Stage}
-use Rattle.stage_runs.proofs.Points.{never}
+use Rattle.stage_runs.proofs.Lemmas.{never}
 use Rattle.set_build.specs.Built.{meets}
 use Rattle.set_build.specs.Placed.{Spot, at_spot, IsBefore, ArePlaced}
 use Rattle.set_build.specs.Known.{cluster_at}

@@ -2,7 +2,7 @@
 use Rattle.std.specs.List.{list_any}
 use Rattle.std.specs.Prelude.{slice_get}
 use Rattle.std.proofs.Common.{◌≡◌, ℕ, zero, suc, ◌<◌, Bool, true, false, ◌||◌, List, [], ◌∷◌, ◌++◌, length, get_or, Some, None, refl, ap, ◌∙◌, arith}
-use Rattle.stage_runs.proofs.Points.{left_true, right_true, one_true}
+use Rattle.stage_runs.proofs.Lemmas.{left_true, one_true, right_true}
 
 pub or_none : (b : Bool) → (b || false) ≡ b
 or_none true = refl

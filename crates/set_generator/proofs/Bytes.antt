@@ -5,13 +5,13 @@ use Rattle.std.proofs.Common.{◌≡◌, ℕ, zero, suc, ◌<◌, Bool, true, fa
 use Rattle.std.proofs.lemmas.Bool.{ltb-true}
 use Rattle.sha2.proofs.Facts256.{length-sha256}
 use Rattle.xdr_spec.specs.Format.{IsBytes, zeros, opaque}
-use Rattle.xdr_spec.proofs.FixedOpaque.{IsBytes-append}
+use Rattle.xdr_spec.proofs.Lemmas.{IsBytes-append}
 use Rattle.value_types.specs.Address.{address_format}
 use Rattle.value_types.specs.Formats.{scval_format, value_format}
 use Rattle.value_types.specs.Hash.{hash_format}
 use Rattle.ledger_types.specs.Durability.{durability_format}
 use Rattle.ledger_types.specs.Key.{key_format}
-use Rattle.ledger_file.proofs.Digests.{IsBytes-sha256}
+use Rattle.ledger_file.proofs.Lemmas.{IsBytes-sha256}
 use Rattle.set_generator.specs.declared.contracts.TheConstants.{BUMP}
 use Rattle.set_generator.specs.GeneratedContracts.{bump_hash, address, counter, instance_key, counter_key, code_key}
 

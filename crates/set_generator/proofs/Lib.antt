@@ -1,6 +1,7 @@
-pub mod Ranges
-pub mod Drawing
-pub mod Bytes
-pub mod LedgerFits
-pub mod SetFits
-pub mod Entries
+mod Bytes
+mod Drawing
+mod Entries
+mod LedgerFits
+pub mod Lemmas
+mod Ranges
+mod SetFits

@@ -5,7 +5,7 @@ use Rattle.xdr_spec.specs.Format.{optional}
 use Rattle.value_types.specs.Datum.{Datum, items_of, members_of}
 use Rattle.value_types.specs.Depth.{depth_of, items_depth, members_depth, value_depth}
 use Rattle.value_types.specs.Formats.{entry_format, member_format, scval_format, value_format}
-use Rattle.value_types.proofs.Lawful.{datum-scval}
+use Rattle.value_types.proofs.Lemmas.{datum-scval}
 use Rattle.value_types.specs.Views.{instance_datum, scval}
 use Rattle.value_types.specs.declared.executable.Executable.{Executable}
 use Rattle.value_types.specs.declared.value.ScVal.{ScVal}

@@ -6,7 +6,7 @@ use Rattle.std.specs.Cmp.Lexicographic.{slice_cmp}
 use Rattle.std.proofs.Common.{◌≡◌, ℕ, List, [], ◌∷◌, ◌++◌, length, refl, sym, ap, ap₂, ◌∙◌, append_assoc, arith}
 use Rattle.std.proofs.lemmas.List.{append-nil}
 use Rattle.std.proofs.lemmas.Bool.Decides.{nat_tests}
-use Rattle.value_types.proofs.Comparing.{then-Equal, then-assoc}
+use Rattle.value_types.proofs.Lemmas.{then-Equal, then-assoc}
 use Rattle.spelled_order.specs.Against.{Against}
 
 pub none : Against [] [] Equal

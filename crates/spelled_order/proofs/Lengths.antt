@@ -10,7 +10,7 @@ use Rattle.std.proofs.Common.{◌≡◌, ℕ, ◌<◌, ◌≤◌, ◌^◌, List,
 use Rattle.std.proofs.lemmas.Bool.Decides.{nat_tests}
 use Rattle.std.proofs.lemmas.Nat.{from_be_bytes-to_be_bytes_4}
 use Rattle.xdr_spec.specs.Format.{pad, zeros}
-use Rattle.value_types.proofs.Comparing.{then-Equal}
+use Rattle.value_types.proofs.Lemmas.{then-Equal}
 use Rattle.spelled_order.specs.Against.{Against}
 use Rattle.spelled_order.specs.Ranked.{ranked_length, ranked_text}
 use Rattle.spelled_order.proofs.Deciding.{of_one_length, alike, both, whole}

@@ -10,7 +10,7 @@ use Rattle.value_types.specs.declared.value.ScVal.{ScVal}
 use Rattle.value_types.specs.declared.value.ScVal.TheVariants as values
 use Rattle.value_xdr.specs.Bytes.{word, bytes_of, rest_of, items_bytes, members_bytes, pair_bytes, IsBounded, AreItemsBounded, AreMembersBounded, IsPairBounded}
 use Rattle.value_xdr.specs.ValueBytes.{value_bytes, row_bytes, IsValueBounded, IsRowBounded}
-use Rattle.value_xdr.proofs.Linked.{value_linked}
+use Rattle.value_xdr.proofs.Lemmas.{value_linked}
 use Rattle.spelled_order.specs.Ranked.{ranked_text, ranked_of, ranked_rest, ranked_items, ranked_members, ranked_pair, ranked_value, ranked_row}
 use Rattle.spelled_order.proofs.Lengths.{short}
 

@@ -6,7 +6,7 @@ use Rattle.std.specs.declared.cmp.Ordering.TheVariants.{Equal}
 use Rattle.std.proofs.Common.{◌≡◌, ℕ, zero, suc, ◌+◌, ◌<◌, ◌≤◌, List, [], ◌∷◌, ◌++◌, length, get_or, drop, Option, Some, None, refl, sym, ap, ap₂, subst, arith, add-one}
 use Rattle.value_types.specs.Views.{datum, datum_pair, instance_datum, instance_of}
 use Rattle.value_types.specs.Datum.{Datum, items_of, members_of}
-use Rattle.value_types.proofs.Lawful.{items_there, members_there}
+use Rattle.value_types.proofs.Lemmas.{items_there, members_there}
 use Rattle.value_types.specs.Executable.{executable_format}
 use Rattle.value_types.specs.declared.executable.Executable.{Executable}
 use Rattle.value_types.specs.declared.value.ScVal.{ScVal}

@@ -1,2 +1,2 @@
-pub mod Declared
-pub mod Ordered
+mod Declared
+mod Ordered

@@ -15,8 +15,7 @@ use Rattle.stage_runs.specs.Maps.{Bytes, LedgerKey}
 use Rattle.stage_runs.specs.Transactions.{Envelope, declared_by}
 use Rattle.stage_runs.specs.Runs.{Cluster, Stage, HasNoConflict}
 use Rattle.stage_runs.specs.Conflicts.{meet_at, IsConflict, IsLeastConflict}
-use Rattle.stage_runs.proofs.Conflicts.{free_from}
-use Rattle.stage_runs.proofs.Points.{never}
+use Rattle.stage_runs.proofs.Lemmas.{free_from, never}
 use Rattle.stage_plan.specs.Least.{IsLeastAt, IsFirstWith}
 use Rattle.stage_plan.specs.Spelled.{DeclaresSpelled, IsCluster}
 

@@ -12,7 +12,7 @@ use Rattle.std.proofs.lemmas.Slice.Eq.{bytes_eq-Decides}
 use Rattle.stage_runs.specs.Maps.{Bytes, LedgerKey, key_bytes, has_bytes}
 use Rattle.stage_runs.specs.Transactions.{declared_by, writes, declares}
 use Rattle.stage_runs.specs.Runs.{Cluster, written_keys, writes_in, declares_in}
-use Rattle.stage_runs.proofs.Parts.{written_is}
+use Rattle.stage_runs.proofs.Lemmas.{written_is}
 use Rattle.stage_plan.specs.KeyMaps.{ByKey}
 use Rattle.stage_plan.specs.DeclaredKeys.{read_keys, with_access, declared_in, DeclaredLaw, kept, kept_all}
 use Rattle.stage_plan.proofs.KeyMaps.{found_put, same}

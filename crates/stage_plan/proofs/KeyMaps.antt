@@ -14,7 +14,7 @@ use Rattle.std.proofs.Common.{◌≡◌, T, ℕ, Bool, true, false, List, [], �
 use Rattle.std.proofs.lemmas.Map.Text.{is_eq-slice_cmp}
 use Rattle.ledger_types.specs.Key.{key_format}
 use Rattle.ledger_types.specs.KeyOrder.{ranked_key, key_cmp}
-use Rattle.ledger_types.proofs.Ranking.{key_ranked}
+use Rattle.ledger_types.proofs.Lemmas.{key_ranked}
 use Rattle.stage_runs.specs.Maps.{Bytes, LedgerKey, key_bytes}
 use Rattle.stage_plan.specs.KeyMaps.{ByKey, pair_of, pairs_of, map_of, IsSpelled, AreKeyed}
 

@@ -14,8 +14,7 @@ use Rattle.stage_runs.specs.Maps.{Bytes, LedgerKey, key_bytes, has_bytes}
 use Rattle.stage_runs.specs.Transactions.{Envelope, declared_by, declares}
 use Rattle.stage_runs.specs.Runs.{Cluster, writes_in, declares_in}
 use Rattle.stage_runs.specs.Conflicts.{meet_at}
-use Rattle.stage_runs.proofs.Parts.{write_declared}
-use Rattle.stage_runs.proofs.Points.{cases, one_true, both_first, both_second}
+use Rattle.stage_runs.proofs.Lemmas.{both_first, both_second, cases, one_true, write_declared}
 use Rattle.stage_plan.specs.Spelled.{DeclaresSpelled}
 use Rattle.stage_plan.specs.Listed.{meet_at_key, lesser_of, lesser_met}
 use Rattle.stage_plan.specs.Least.{IsLeastMeeting}

@@ -1,8 +1,9 @@
-pub mod Keys
-pub mod Least
-pub mod Clusters
-pub mod KeyMaps
-pub mod KeptKeys
-pub mod Meetings
-pub mod Spots
-pub mod Walks
+mod Clusters
+mod KeptKeys
+mod KeyMaps
+mod Keys
+mod Least
+pub mod Lemmas
+mod Meetings
+mod Spots
+mod Walks

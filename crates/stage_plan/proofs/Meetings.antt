@@ -10,8 +10,7 @@ use Rattle.std.proofs.lemmas.Slice.Eq.{bytes_eq-Decides}
 use Rattle.stage_runs.specs.Maps.{Bytes, LedgerKey, key_bytes, has_bytes}
 use Rattle.stage_runs.specs.Runs.{Cluster, Stage, written_keys, writes_in, declares_in}
 use Rattle.stage_runs.specs.Conflicts.{meet_at}
-use Rattle.stage_runs.proofs.Parts.{written_is, write_declared}
-use Rattle.stage_runs.proofs.Points.{cases, never}
+use Rattle.stage_runs.proofs.Lemmas.{cases, never, write_declared, written_is}
 use Rattle.stage_plan.specs.KeyMaps.{ByKey}
 use Rattle.stage_plan.specs.DeclaredKeys.{read_keys}
 use Rattle.stage_plan.specs.Meetings.{adds_nothing, joined, noted, noted_all, noted_cluster, HasSecond, IsMeeting, IsKnown, AreKnown}

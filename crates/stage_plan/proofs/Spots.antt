@@ -18,8 +18,7 @@ use Rattle.tx_xdr.specs.declared.set.Cluster as sets
 use Rattle.stage_runs.specs.Maps.{Bytes, key_bytes}
 use Rattle.stage_runs.specs.Runs.{Cluster, Stage, writes_in, declares_in, HasNoConflict}
 use Rattle.stage_runs.specs.Conflicts.{meet_at, IsConflict, IsNotAfter, IsLeastConflict}
-use Rattle.stage_runs.proofs.Conflicts.{free_from}
-use Rattle.stage_runs.proofs.Points.{never, one_true, both_first, both_second, left_false, right_false}
+use Rattle.stage_runs.proofs.Lemmas.{both_first, both_second, free_from, left_false, never, one_true, right_false}
 use Rattle.stage_plan.specs.KeyMaps.{ByKey}
 use Rattle.stage_plan.specs.Meetings.{IsSecond, HasSecond, IsMeeting, IsKnown, AreKnown, Spot, is_before, lesser_spot, lesser_with, lesser_at, IsLeastSpot}
 use Rattle.stage_plan.specs.Spots.{spot_of}

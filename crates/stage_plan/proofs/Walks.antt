@@ -4,7 +4,7 @@ use Rattle.std.specs.List.{fold, AllByRecursion}
 use Rattle.std.proofs.Common.{◌≡◌, List, [], ◌∷◌, ◌++◌, Option, None, append_assoc, refl, sym, ap, subst, ◌∙◌}
 use Rattle.std.proofs.lemmas.List.{append-nil}
 use Rattle.std.proofs.lemmas.List.Sums.{fold-append}
-use Rattle.ledger_types.proofs.Ranking.{key_ranked}
+use Rattle.ledger_types.proofs.Lemmas.{key_ranked}
 use Rattle.stage_runs.specs.Maps.{Bytes, LedgerKey, key_bytes}
 use Rattle.stage_plan.specs.KeyMaps.{pair_of, pairs_of, IsSpelled}
 use Rattle.stage_plan.specs.Meetings.{Spot, lesser_at}

@@ -1,11 +1,13 @@
-pub mod Points
-pub mod Frames
-pub mod Parts
-pub mod Owned
-pub mod Orders
-pub mod Cuts
-pub mod Pending
-pub mod Wholes
-pub mod Sets
-pub mod Conflicts
-pub mod Shown
+mod Conflicts
+mod Cuts
+mod Declared
+mod Frames
+pub mod Lemmas
+mod Orders
+mod Owned
+mod Parts
+mod Pending
+mod Points
+mod Sets
+mod Shown
+mod Wholes

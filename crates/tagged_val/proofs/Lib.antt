@@ -1,2 +1,2 @@
-pub mod Numbers
-pub mod Caps
+mod Caps
+mod Numbers

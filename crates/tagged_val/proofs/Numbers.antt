@@ -1,7 +1,7 @@
 -- Words that mean no U32.
 use Rattle.std.proofs.Common.{◌≡◌, ℕ, Bool, true, false, Option, Some, None, ◌==◌, refl, sym, ◌∙◌, arith}
 use Rattle.std.specs.Option.{option_and_then, option_map}
-use Rattle.xdr_spec.proofs.Derived.{find_kind-back}
+use Rattle.xdr_spec.proofs.Lemmas.{find_kind-back}
 use Rattle.value_types.specs.Datum.{Datum, error, symbol}
 use Rattle.host_spec.specs.declared.tag.Tag.{Tag}
 use Rattle.host_spec.specs.declared.tag.Tag.TheVariants as tags

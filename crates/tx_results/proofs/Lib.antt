@@ -1,2 +1,3 @@
-pub mod CodeNumbers
-pub mod Fits
+mod CodeNumbers
+mod Fits
+pub mod Lemmas

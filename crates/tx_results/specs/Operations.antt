@@ -3,9 +3,7 @@ use Rattle.std.specs.Prelude.{◌≡◌, ◌<◌, ◌^◌, ◌-◌, ℕ, List, [
 use Rattle.std.proofs.Common.{refl, ap, arith}
 use Rattle.xdr_spec.specs.Format.{Format, arm, nothing, union, enumeration, find_kind}
 use Rattle.xdr_spec.specs.Laws.{IsFormat}
-use Rattle.xdr_spec.proofs.Pairs.{nothing_lawful}
-use Rattle.xdr_spec.proofs.Remade.{arm_lawful, arm_kind}
-use Rattle.xdr_spec.proofs.Derived.{enumeration_lawful, union_lawful, find_kind-back}
+use Rattle.xdr_spec.proofs.Lemmas.{arm_kind, arm_lawful, enumeration_lawful, find_kind-back, nothing_lawful, union_lawful}
 use Rattle.value_types.specs.Hash.{hash_format, hash_lawful}
 use Rattle.value_types.specs.declared.hash.Hash.{Hash}
 use Rattle.tx_results.specs.declared.codes.InvokeResultCode.{InvokeResultCode}

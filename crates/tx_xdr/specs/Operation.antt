@@ -4,10 +4,8 @@ use Rattle.std.specs.Prelude.{◌≡◌, ◌<◌, ◌^◌, List, [], ◌∷◌, 
 use Rattle.std.proofs.Common.{refl, ap, arith}
 use Rattle.xdr_spec.specs.Format.{Format, via, pair, list, arm, nothing, optional, enumeration, find_kind, number32, union}
 use Rattle.xdr_spec.specs.Laws.{IsFormat}
-use Rattle.xdr_spec.proofs.Pairs.{pair_lawful, nothing_lawful}
-use Rattle.xdr_spec.proofs.Remade.{via_lawful, arm_lawful, arm_kind}
-use Rattle.xdr_spec.proofs.Derived.{union_lawful, enumeration_lawful, find_kind-back, list_lawful, optional_lawful}
-use Rattle.xdr_spec.proofs.Derived.{number32_lawful}
+use Rattle.xdr_spec.proofs.Lemmas.{arm_kind, arm_lawful, enumeration_lawful, find_kind-back, list_lawful, nothing_lawful}
+use Rattle.xdr_spec.proofs.Lemmas.{number32_lawful, optional_lawful, pair_lawful, union_lawful, via_lawful}
 use Rattle.value_types.specs.Headed.{headed, headed_lawful}
 use Rattle.invoke_types.specs.HostFunction.{host_function_format, host_function_lawful}
 use Rattle.invoke_types.specs.declared.host_function.HostFunction.{HostFunction}

@@ -3,9 +3,7 @@ use Rattle.std.specs.Prelude.{ℕ, ℤ, List}
 use Rattle.std.proofs.Common.{refl, arith}
 use Rattle.xdr_spec.specs.Format.{Format, via, pair, list, number32, signed64}
 use Rattle.xdr_spec.specs.Laws.{IsFormat}
-use Rattle.xdr_spec.proofs.Pairs.{pair_lawful}
-use Rattle.xdr_spec.proofs.Remade.{via_lawful}
-use Rattle.xdr_spec.proofs.Derived.{list_lawful, number32_lawful, signed64_lawful}
+use Rattle.xdr_spec.proofs.Lemmas.{list_lawful, number32_lawful, pair_lawful, signed64_lawful, via_lawful}
 use Rattle.value_types.specs.Headed.{headed, headed_lawful}
 use Rattle.ledger_types.specs.Key.{key_format, key_lawful}
 use Rattle.ledger_types.specs.declared.key.LedgerKey.{LedgerKey}

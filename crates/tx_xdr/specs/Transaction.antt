@@ -3,9 +3,7 @@ use Rattle.std.specs.Prelude.{ℕ, ℤ, List}
 use Rattle.std.proofs.Common.{refl}
 use Rattle.xdr_spec.specs.Format.{Format, via, pair, list, number32, signed64}
 use Rattle.xdr_spec.specs.Laws.{IsFormat}
-use Rattle.xdr_spec.proofs.Pairs.{pair_lawful}
-use Rattle.xdr_spec.proofs.Remade.{via_lawful}
-use Rattle.xdr_spec.proofs.Derived.{list_lawful, number32_lawful, signed64_lawful}
+use Rattle.xdr_spec.proofs.Lemmas.{list_lawful, number32_lawful, pair_lawful, signed64_lawful, via_lawful}
 use Rattle.tx_parts.specs.MuxedAccount.{account_format, account_lawful}
 use Rattle.tx_parts.specs.Preconditions.{preconditions_format, preconditions_lawful}
 use Rattle.tx_parts.specs.Memo.{memo_format, memo_lawful}

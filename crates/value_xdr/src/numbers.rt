@@ -1,6 +1,7 @@
 //! The spelling of numbers of 128 and 256 bits.
 
-ghost use Rattle.value_types.specs.Numbers.{u128_format, u128_lawful, i128_format, i128_lawful, u256_format, u256_lawful, i256_format, i256_lawful};
+ghost use Rattle.value_types.specs.Numbers.{u128_format, u128_lawful, i128_format, i128_lawful, u256_format, u256_lawful};
+ghost use Rattle.value_types.specs.Numbers.{i256_format, i256_lawful};
 
 use crate::xdr::Xdr;
 use std::alloc::Global;

@@ -2,7 +2,8 @@
 
 ghost use Rattle.std.specs.Prelude.{Option};
 ghost use Rattle.xdr_spec.specs.Format.{number32, number64, signed32, signed64, boolean, optional};
-ghost use Rattle.xdr_spec.proofs.Derived.{number32_lawful, number64_lawful, signed32_lawful, signed64_lawful, boolean_lawful, optional_lawful};
+ghost use Rattle.xdr_spec.proofs.Lemmas.{boolean_lawful, number32_lawful, number64_lawful, optional_lawful, signed32_lawful};
+ghost use Rattle.xdr_spec.proofs.Lemmas.{signed64_lawful};
 
 use crate::xdr::Xdr;
 use std::alloc::Global;

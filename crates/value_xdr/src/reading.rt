@@ -3,7 +3,8 @@
 ghost use Rattle.std.specs.Prelude.{◌≡◌, IfOk};
 ghost use Rattle.xdr_spec.specs.Format.{optional};
 ghost use Rattle.xdr_core.specs.Reads.{Reads, ReadsAs};
-ghost use Rattle.value_types.specs.Formats.{arms, instance_format, value_format, items_format, members_format, entry_format, count_at};
+ghost use Rattle.value_types.specs.Formats.{arms, instance_format, value_format, items_format, members_format, entry_format};
+ghost use Rattle.value_types.specs.Formats.{count_at};
 ghost use Rattle.value_types.specs.Views.{datum_pair};
 
 use crate::blob::read_blob;

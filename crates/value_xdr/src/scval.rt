@@ -7,7 +7,7 @@ ghost use Rattle.xdr_spec.specs.Refusal.{Spells};
 ghost use Rattle.xdr_core.specs.Reads.{IsValueUnlessMemory, IsRefusal};
 ghost use Rattle.value_types.specs.declared.value.ScVal.{ScVal as ScValData};
 ghost use Rattle.value_types.specs.Formats.{scval_format, contract_instance_format};
-ghost use Rattle.value_types.proofs.Lawful.{scval_lawful, contract_instance_lawful};
+ghost use Rattle.value_types.proofs.Lemmas.{contract_instance_lawful, scval_lawful};
 
 use crate::xdr::{Xdr, decode, encode};
 use crate::{reading, writing};

@@ -1,12 +1,13 @@
-pub mod CodeLaws
-pub mod CodeSteps
-pub mod Exact
-pub mod Exits
-pub mod Laws
-pub mod ModuleLaws
-pub mod ModuleSteps
-pub mod Names
-pub mod OpLaws
-pub mod Opcodes
-pub mod Powers
-pub mod RowSteps
+mod CodeLaws
+mod CodeSteps
+mod Exact
+mod Exits
+mod Laws
+pub mod Lemmas
+mod ModuleLaws
+mod ModuleSteps
+mod Names
+mod OpLaws
+mod Opcodes
+mod Powers
+mod RowSteps

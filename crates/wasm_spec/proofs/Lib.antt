@@ -1,4 +1,5 @@
-pub mod RunLaws
-pub mod Sound
-pub mod SoundCalls
-pub mod SoundStart
+pub mod Lemmas
+mod RunLaws
+mod Sound
+mod SoundCalls
+mod SoundStart

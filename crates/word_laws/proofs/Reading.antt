@@ -9,7 +9,7 @@ use Rattle.host_spec.specs.Addresses.{address_tag}
 use Rattle.host_spec.specs.Hosted.{IsHosted}
 use Rattle.host_spec.specs.Words.{is_object, meaning, object_of, object_tag, object_word, only_if, small_meaning, small_word, tag_bits, with_tag}
 use Rattle.object_store.specs.Shown.{shown_with, shown_word}
-use Rattle.object_store.proofs.Showing.{object_has_tag}
+use Rattle.object_store.proofs.Lemmas.{object_has_tag}
 use Rattle.word_laws.specs.Laws.{ObjectWordsAreRead, ShownWordsAreRead, SmallWordsAreRead}
 use Rattle.word_laws.proofs.Small.{major_is, minor_is, small_reads, tag_of_major}
 

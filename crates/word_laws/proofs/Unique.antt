@@ -7,7 +7,7 @@ use Rattle.std.specs.List.{list_all}
 use Rattle.std.proofs.lemmas.Bool.{eqb-true, ltb-false, ltb-true, le-leb, le-ltb, lt-ltb}
 use Rattle.std.proofs.lemmas.Int.{ints, of_z-to_z}
 use mir.Val.{sel}
-use Rattle.xdr_spec.proofs.Derived.{find_kind-back}
+use Rattle.xdr_spec.proofs.Lemmas.{find_kind-back}
 use Rattle.value_types.specs.Datum.{Datum, boolean, void, error, u32, i32, u64, i64, timepoint, duration, u128, i128, symbol}
 use Rattle.value_types.specs.Error.{number as type_number, all as all_types, type_of, kind, code, code_number, code_of, all_codes}
 use Rattle.value_types.specs.declared.error.ScError.{ScError}

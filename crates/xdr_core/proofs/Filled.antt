@@ -4,7 +4,7 @@ use Rattle.std.specs.Str.{bytes_eq}
 use Rattle.std.proofs.lemmas.List.{length-drop, drop-drop}
 use Rattle.xdr_spec.specs.declared.Why.TheVariants.{Padding}
 use Rattle.xdr_spec.specs.Format.{input, refusal, pad, zeros, fixed_opaque_at}
-use Rattle.xdr_spec.proofs.FixedOpaque.{bad_at, ok_at}
+use Rattle.xdr_spec.proofs.Lemmas.{bad_at, ok_at}
 use Rattle.xdr_core.specs.Reads.{from}
 
 zeros_are : (k : ℕ) → k < 4 → take k (0 ∷ 0 ∷ 0 ∷ 0 ∷ []) ≡ zeros k

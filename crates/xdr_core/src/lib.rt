@@ -1,7 +1,7 @@
 //! XDR (RFC 4506): items read from a slice and written to a vector.
 //!
-//! `Cursor` reads and lends, `Out` writes. Each call names the section of the standard that it follows. `xdr_spec` defines what is
-//! refused, and why.
+//! `Cursor` reads and lends, `Out` writes. Each call names the section of the standard that it follows. `xdr_spec` defines what
+//! is refused, and why.
 #![tactic(auto)]
 
 mod cursor;

@@ -86,7 +86,7 @@ pub fn show_value(
     }
 }
 
-#[tactic(auto, using(host_frame::proofs::Decoding::spelled_bounded, host_frame::proofs::Decoding::entered_hosted))]
+#[tactic(auto, using(host_frame::proofs::Lemmas::spelled_bounded, host_frame::proofs::Lemmas::entered_hosted))]
 fn show(objects: &mut Objects, shown: &mut Shown, value: ScVal) -> Result<Val, CaseErr>
     requires fits { scval_format.fits value }
     requires indices { AreIndices objects.old shown.old }

@@ -17,7 +17,7 @@ use crate::host::prepared::Prepared;
 use crate::ledgers::push_no_ledger;
 use budget_meter::{Budget, Limits};
 use case_text::{CaseErr, first_word, hex_numbers};
-use contract_storage::Storage;
+use contract_storage::{NoWatch, Storage};
 use entry_lookup::Ground;
 use host_interface::{HostImport, import_named};
 use host_ledger::{Events, HostLedger, ledger_call};
@@ -97,7 +97,7 @@ fn in_storage<'a>(
     alloc: Global,
     prepared: &Prepared,
     ledger: &'a Ledger,
-    storage: Storage<'a, Ledger>,
+    storage: Storage<'a, Ledger, NoWatch>,
     limits: Limits,
     calls: &str,
     out: &mut String,
@@ -127,7 +127,7 @@ fn in_storage<'a>(
 fn in_host<G: Ground>(
     alloc: Global,
     prepared: &Prepared,
-    host: &mut HostLedger<'_, G>,
+    host: &mut HostLedger<'_, G, NoWatch>,
     calls: &str,
     out: &mut String,
 ) -> Result<(), CaseErr>
@@ -144,7 +144,7 @@ fn in_host<G: Ground>(
 /// ended the whole run.
 fn make_calls<G: Ground>(
     alloc: Global,
-    host: &mut HostLedger<'_, G>,
+    host: &mut HostLedger<'_, G, NoWatch>,
     out: &mut String,
     calls: &str,
 ) -> Result<bool, CaseErr>
@@ -162,7 +162,7 @@ fn make_calls<G: Ground>(
 /// LETTER NAME WORD..: makes a call, and appends its outcome and the sums so far. Returns whether the run may go on.
 fn make_call<G: Ground>(
     alloc: Global,
-    host: &mut HostLedger<'_, G>,
+    host: &mut HostLedger<'_, G, NoWatch>,
     out: &mut String,
     call: &str,
 ) -> Result<bool, CaseErr>
@@ -177,7 +177,7 @@ fn make_call<G: Ground>(
 
 fn make_named<G: Ground>(
     alloc: Global,
-    host: &mut HostLedger<'_, G>,
+    host: &mut HostLedger<'_, G, NoWatch>,
     out: &mut String,
     letter: &[u8],
     name: &[u8],
@@ -196,7 +196,7 @@ fn make_named<G: Ground>(
 
 /// Makes a call. The state is ready for the next one.
 fn named_call<G: Ground>(
-    host: &mut HostLedger<'_, G>,
+    host: &mut HostLedger<'_, G, NoWatch>,
     letter: &[u8],
     name: &[u8],
     words: &[u64],

@@ -12,7 +12,7 @@ use crate::errors::made;
 use crate::host::ledger_prepared::PreparedLedger;
 use crate::host::outcomes::push_size;
 use case_text::{CaseErr, push_hex};
-use contract_storage::{Change, Storage};
+use contract_storage::{Change, NoWatch, Storage};
 use entry_lookup::Ground;
 use host_ledger::{HostLedger, InstanceCopy};
 use host_spec::HostErr;
@@ -64,7 +64,7 @@ fn key_name(key: &LedgerKey) -> &'static str {
 pub fn push_left<G: Ground>(
     alloc: Global,
     out: &mut String,
-    host: &mut HostLedger<'_, G>,
+    host: &mut HostLedger<'_, G, NoWatch>,
     prepared: &PreparedLedger,
 ) -> Result<(), CaseErr>
     requires { IsReady host.old }
@@ -77,7 +77,7 @@ pub fn push_left<G: Ground>(
 fn push_changes<G: Ground>(
     alloc: Global,
     out: &mut String,
-    storage: &Storage<'_, G>,
+    storage: &Storage<'_, G, NoWatch>,
 ) -> Result<(), CaseErr> {
     match storage.changes() {
         Ok(changes) => {
@@ -178,7 +178,7 @@ fn storage_bytes(alloc: Global, storage: Option<Entries>) -> Result<Vec<u8>, Cas
     }
 }
 
-#[tactic(auto, using(host_frame::proofs::Fitting::hosted_fits))]
+#[tactic(auto, using(host_frame::proofs::Lemmas::hosted_fits))]
 fn map_bytes(alloc: Global, entries: Entries) -> Result<Vec<u8>, CaseErr>
     requires { IsHeld (Some entries) }
 {

@@ -13,7 +13,7 @@ use crate::errors::{made, unread};
 use crate::hashes::read_hash;
 use crate::host::ledger_prepared::PreparedLedger;
 use case_text::CaseErr;
-use contract_storage::Storage;
+use contract_storage::{NoWatch, Storage};
 use host_frame::entry;
 use host_ledger::{InstanceCopy, Running};
 use ledger_file::Ledger;
@@ -28,7 +28,7 @@ pub fn storage_of<'a>(
     alloc: Global,
     prepared: &PreparedLedger,
     ledger: &'a Ledger,
-) -> Result<Storage<'a, Ledger>, CaseErr>
+) -> Result<Storage<'a, Ledger, NoWatch>, CaseErr>
     requires settings { IsTrue (are_settings ledger.now.header.settings) }
     requires next { IsTrue (has_next ledger.now.header) }
     ensures number { IfOk result (λ s. s.n ≡ next_seq ledger.now.header) }
@@ -44,7 +44,7 @@ fn enforcing<'a>(
     ledger: &'a Ledger,
     read_only: &[LedgerKey],
     read_write: &[LedgerKey],
-) -> Result<Storage<'a, Ledger>, CaseErr>
+) -> Result<Storage<'a, Ledger, NoWatch>, CaseErr>
     requires settings { IsTrue (are_settings ledger.now.header.settings) }
     requires next { IsTrue (has_next ledger.now.header) }
     requires read_only { All (λ key. key_format.fits key) read_only.now }
@@ -53,7 +53,7 @@ fn enforcing<'a>(
     ensures lives { IfOk result (λ s. s.lives ≡ ledger.now.header.settings) }
 {
     let (n, lives) = (ledger.header.seq + 1, &ledger.header.settings);
-    made(Storage::enforcing(alloc, ledger, n, lives, read_only, read_write))
+    made(Storage::enforcing(alloc, ledger, n, lives, read_only, read_write, NoWatch))
 }
 
 fn keys_of(alloc: Global, spellings: &[Vec<u8>]) -> Result<Vec<LedgerKey>, CaseErr>
@@ -118,7 +118,7 @@ fn instance_storage(alloc: Global, bytes: &[u8]) -> Result<Option<Entries>, Case
 }
 
 /// The entries of a map that may enter the host.
-#[tactic(auto, using(host_frame::proofs::Decoding::spelled_bounded, host_frame::proofs::Decoding::entered_hosted))]
+#[tactic(auto, using(host_frame::proofs::Lemmas::spelled_bounded, host_frame::proofs::Lemmas::entered_hosted))]
 fn entries_of(value: ScVal) -> Result<Option<Entries>, CaseErr>
     requires { scval_format.fits value }
     ensures { IfOk result IsHeld }

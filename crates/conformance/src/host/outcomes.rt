@@ -38,7 +38,7 @@ pub fn push_shown(
 }
 
 /// Appends a value's XDR, or the number of its bytes if there are more than 1000.
-#[tactic(auto, using(host_frame::proofs::Fitting::hosted_fits))]
+#[tactic(auto, using(host_frame::proofs::Lemmas::hosted_fits))]
 fn push_value(alloc: Global, out: &mut String, value: &ScVal) -> Result<(), CaseErr>
     requires { IsHosted (datum value.now) }
 {

@@ -2,8 +2,7 @@ use Rattle.std.proofs.Common.{◌-◌, ap}
 use Rattle.std.proofs.lemmas.Result.{err_from_is_err_and}
 use Rattle.std.proofs.lemmas.List.{map_push}
 use Rattle.xdr_spec.specs.Format.{repeat_at, as_read}
-use Rattle.xdr_core.proofs.RowSteps.{one_more, refused, all_read}
-use Rattle.xdr_core.proofs.ReadSteps.{Reads-refused}
+use Rattle.xdr_core.proofs.Lemmas.{Reads-refused, all_read, one_more, refused}
 use Rattle.value_types.specs.Formats.{count_at}
 use Rattle.auth_types.specs.Views.{tree_of, forest_of}
 use Rattle.auth_types.specs.Invocation.{one_level, tree_format, subs_format}

@@ -1,6 +1,6 @@
 use Rattle.std.proofs.Common.{◌≡◌, ◌+◌, ◌-◌, ◌*◌}
 use Rattle.xdr_spec.specs.Format.{repeat_at}
-use Rattle.xdr_core.proofs.RowSteps.{with_prefix}
+use Rattle.xdr_core.proofs.Lemmas.{with_prefix}
 use Rattle.auth_types.specs.Views.{forest_of}
 use Rattle.auth_types.specs.Invocation.{tree_format, subs_format}
 use Rattle.auth_types.proofs.reading.+read.Given as goal

@@ -1,4 +1,4 @@
-use Rattle.host_frame.proofs.Fitting.{few_spelled}
+use Rattle.host_frame.proofs.Lemmas.{few_spelled}
 use Rattle.byte_calls.proofs.xdr.xdr_of.Goals as goal
 
 pub returns-clause-few : goal.returns-clause-few

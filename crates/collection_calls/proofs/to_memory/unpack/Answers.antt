@@ -7,8 +7,7 @@ use Rattle.host_spec.specs.Answers.{value}
 use Rattle.host_spec.specs.LinearMemory.{writes}
 use Rattle.host_spec.specs.VecRows.{all_given, words_bytes}
 use Rattle.host_frame.specs.Answered.{answer_of}
-use Rattle.host_frame.proofs.Acting.{then_exit}
-use Rattle.host_frame.proofs.Making.{datums_length}
+use Rattle.host_frame.proofs.Lemmas.{datums_length, then_exit}
 use Rattle.collection_calls.proofs.MemoryLaws.{given_length}
 use Rattle.collection_calls.proofs.to_memory.unpack.Goals as goal
 

@@ -1,7 +1,7 @@
 use Rattle.std.proofs.Common.{◌+◌, ◌≤◌, arith}
 use Rattle.value_types.specs.Datum.{size, data_size, pairs_size}
 use Rattle.value_types.specs.Views.{datum, datums, datum_pairs}
-use Rattle.value_types.proofs.Parts.{size_at, pair_size_at}
+use Rattle.value_types.proofs.Lemmas.{pair_size_at, size_at}
 use Rattle.host_frame.proofs.host_entry.+types.Goals as goal
 
 pub items_have_host_types-has_host_types-requires : goal.items_have_host_types-has_host_types-requires

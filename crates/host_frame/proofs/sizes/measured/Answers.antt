@@ -1,6 +1,6 @@
 use Rattle.std.proofs.Common.{List, ℕ, length, ap, ◌∙◌}
 use Rattle.xdr_core.specs.Sizes.{capped}
-use Rattle.value_xdr.proofs.Written.{value_bytes-datum, value_bounded}
+use Rattle.value_xdr.proofs.Lemmas.{value_bounded, value_bytes-datum}
 use Rattle.host_spec.specs.Hosted.{size_of}
 use Rattle.host_frame.proofs.sizes.measured.Goals as goal
 

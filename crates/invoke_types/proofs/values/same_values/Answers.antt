@@ -1,5 +1,5 @@
 use Rattle.std.proofs.lemmas.Slice.Eq.{slice_eq-Decides}
-use Rattle.value_types.proofs.Ordered.{value_decides}
+use Rattle.value_types.proofs.Lemmas.{value_decides}
 use Rattle.invoke_types.proofs.values.same_values.Goals as goal
 
 pub returns : goal.returns

@@ -4,7 +4,7 @@ use Rattle.std.specs.List.{AllByRecursion, flat_map}
 use Rattle.xdr_core.specs.Writes.{StartsWith}
 use Rattle.entry_map.specs.Entries.{Boxed, pairs_of, IsAt}
 use Rattle.entry_map.specs.Rows.{rows_of, joined}
-use Rattle.entry_map.proofs.Walk.{rows_none, rows_more, rows_all, kept_all, kept_row}
+use Rattle.entry_map.proofs.Lemmas.{kept_all, kept_row, rows_all, rows_more, rows_none}
 use Rattle.ledger_file.specs.Records.{record_bytes}
 use Rattle.ledger_file.proofs.Starts.{starts_through, on_err}
 use Rattle.ledger_file.proofs.writing.write_records.Goals as goal

@@ -5,7 +5,7 @@ use Rattle.ledger_types.specs.Record.{record_format}
 use Rattle.ledger_spec.specs.LedgerFile.{record_of}
 use Rattle.entry_map.specs.declared.stored.StoredEntry.{StoredEntry}
 use Rattle.entry_map.specs.Entries.{pairs_of}
-use Rattle.entry_map.proofs.Walk.{row_none, row_more, row_all, kept_item, kept_own}
+use Rattle.entry_map.proofs.Lemmas.{kept_item, kept_own, row_all, row_more, row_none}
 use Rattle.ledger_file.specs.Records.{record_bytes, IsKept}
 use Rattle.ledger_file.proofs.Starts.{starts_through, on_err}
 use Rattle.ledger_file.proofs.writing.write_row.Goals as goal

@@ -5,7 +5,7 @@ use Rattle.stage_runs.specs.Runs.{HasNoConflict}
 use Rattle.apply_spec.specs.Outputs.{preimages_of, results_of}
 use Rattle.ledger_apply.specs.declared.stages.SetStage.{SetStage}
 use Rattle.ledger_apply.specs.Stages.{IsSpelled}
-use Rattle.ledger_apply.proofs.Spelling.{listed_spelled}
+use Rattle.ledger_apply.proofs.Lemmas.{listed_spelled}
 use Rattle.schedule_runs.specs.Plans.{first_incomplete, run_stopped_over}
 use Rattle.schedule_runs.specs.Refused.{IsRefused}
 use Rattle.schedule_runs.proofs.Stopping.{carried, listed}

@@ -3,7 +3,7 @@ use Rattle.std.specs.FinMap.{entries}
 use Rattle.std.specs.List.{AllByRecursion, flat_map}
 use Rattle.entry_map.specs.Entries.{Boxed, pairs_of, IsAt}
 use Rattle.entry_map.specs.Rows.{rows_of, joined}
-use Rattle.entry_map.proofs.Walk.{rows_none, rows_more, rows_all, kept_all, kept_row}
+use Rattle.entry_map.proofs.Lemmas.{kept_all, kept_row, rows_all, rows_more, rows_none}
 use Rattle.show_lines.specs.LedgerLines.{record_line}
 use Rattle.show_lines.proofs.ledgers.push_records.Goals as goal
 

@@ -2,7 +2,7 @@ use Rattle.std.proofs.Common.{◌∙◌, ◌++◌, ap}
 use Rattle.ledger_types.specs.Entry.{key_of}
 use Rattle.ledger_spec.specs.LedgerMap.{key_bytes}
 use Rattle.entry_map.specs.declared.stored.StoredEntry.{StoredEntry}
-use Rattle.entry_map.proofs.Walk.{row_none, row_more, row_all}
+use Rattle.entry_map.proofs.Lemmas.{row_all, row_more, row_none}
 use Rattle.show_lines.specs.LedgerLines.{record_line}
 use Rattle.show_lines.proofs.ledgers.push_row.Goals as goal
 

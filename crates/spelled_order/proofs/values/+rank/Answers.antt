@@ -2,7 +2,7 @@ use Rattle.std.proofs.Common.{◌+◌, ◌<◌, ◌≤◌, length, arith}
 use Rattle.std.specs.declared.cmp.Ordering.TheVariants.{Equal}
 use Rattle.value_types.specs.Datum.{size, data_size, pairs_size}
 use Rattle.value_types.specs.Views.{datum, datums, datum_pair, datum_pairs}
-use Rattle.value_types.proofs.Parts.{size_at, pair_size_at}
+use Rattle.value_types.proofs.Lemmas.{pair_size_at, size_at}
 use Rattle.spelled_order.specs.Ranked.{ranked_of, ranked_pair}
 use Rattle.spelled_order.proofs.Rows.{row_unequal, row_equal, as_data, as_pairs}
 use Rattle.spelled_order.proofs.values.+rank.Goals as goal

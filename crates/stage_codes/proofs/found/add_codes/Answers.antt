@@ -1,5 +1,5 @@
 use Rattle.std.proofs.Common.{subst, arith}
-use Rattle.stage_plan.proofs.Clusters.{take_all}
+use Rattle.stage_plan.proofs.Lemmas.{take_all}
 use Rattle.stage_codes.specs.Found.{Adds}
 use Rattle.stage_codes.proofs.Ordered.{adds_none, adds_key}
 use Rattle.stage_codes.proofs.found.add_codes.Goals as goal

@@ -1,6 +1,6 @@
 use Rattle.std.proofs.Common.{subst, refl}
 use Rattle.stage_runs.specs.Transactions.{declared_by}
-use Rattle.stage_plan.proofs.Clusters.{read_spelled}
+use Rattle.stage_plan.proofs.Lemmas.{read_spelled}
 use Rattle.stage_codes.specs.Found.{Adds}
 use Rattle.stage_codes.proofs.Ordered.{adds_of}
 use Rattle.stage_codes.proofs.stage.add_cluster.Goals as goal

@@ -1,7 +1,7 @@
 use Rattle.std.proofs.Common.{subst, sym}
 use Rattle.stage_plan.specs.DeclaredKeys.{read_keys}
 use Rattle.stage_plan.specs.Spelled.{IsCluster}
-use Rattle.stage_plan.proofs.Clusters.{cluster_spelled}
+use Rattle.stage_plan.proofs.Lemmas.{cluster_spelled}
 use Rattle.stage_codes.specs.Found.{Adds}
 use Rattle.stage_codes.proofs.Ordered.{adds_of}
 use Rattle.stage_codes.proofs.stage.add_clusters.Goals as goal

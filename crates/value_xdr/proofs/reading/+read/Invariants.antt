@@ -1,6 +1,6 @@
 use Rattle.std.proofs.Common.{◌≡◌, ◌+◌, ◌-◌, ◌*◌}
 use Rattle.xdr_spec.specs.Format.{repeat_at}
-use Rattle.xdr_core.proofs.RowSteps.{with_prefix}
+use Rattle.xdr_core.proofs.Lemmas.{with_prefix}
 use Rattle.value_types.specs.Views.{datums, datum_pairs}
 use Rattle.value_types.specs.Formats.{value_format, member_format, entry_format}
 use Rattle.value_xdr.proofs.reading.+read.Given as goal

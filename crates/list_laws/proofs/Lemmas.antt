@@ -1,0 +1,2 @@
+-- The lemmas that other crates cite.
+pub use Rattle.list_laws.proofs.Twice.{Holds, found_twice, none_twice, order, still_holds}
