@@ -2,7 +2,7 @@
 from __future__ import annotations
 
 import sys
-from typing import Dict, List
+from typing import Dict, List, Optional, Tuple
 
 from .xdr import (
     Boolean,
@@ -143,16 +143,13 @@ KEY = Union(
         9: ("ttl", Struct("TTL's key", key_hash=HASH)),
     },
 )
-ENTRY_DATA = Union(
-    "data of an entry",
-    {
-        6: (
-            "contract_data",
-            Struct("contract data", ext=EXT, contract=ADDRESS, key=VALUE, durability=DURABILITY, val=VALUE),
-        ),
-        7: ("contract_code", Struct("contract code", ext=EXT, hash=HASH, code=Opaque("module"))),
-    },
-)
+CONTRACT_DATA = Struct("contract data", ext=EXT, contract=ADDRESS, key=VALUE, durability=DURABILITY, val=VALUE)
+CONTRACT_CODE = Struct("contract code", ext=EXT, hash=HASH, code=Opaque("module"))
+ENTRY_ARMS: Dict[int, Tuple[str, Optional[Type]]] = {
+    6: ("contract_data", CONTRACT_DATA),
+    7: ("contract_code", CONTRACT_CODE),
+}
+ENTRY_DATA = Union("data of an entry", ENTRY_ARMS)
 ENTRY = Struct("ledger entry", last_modified_ledger_seq=U32, data=ENTRY_DATA, ext=EXT)
 TTL = Struct("TTL", key_hash=HASH, live_until_ledger_seq=U32)
 RECORD = Struct("record", entry=ENTRY, ttl=TTL)
@@ -203,6 +200,44 @@ VERDICTS = Listed("verdicts", VERDICT)
 # ---- The schedule's file: for each stage the numbers of clusters, in the order in which their transactions run
 
 SCHEDULE = Listed("schedule", Listed("order of a stage", U32))
+
+# ---- The change log: for each stage the changes of its transactions, and those of its end
+
+
+class LoggedEntry(Type):
+    """A ledger entry of a log. A TTL entry is one, too, if its last modified ledger is 0."""
+
+    name = "entry of a log"
+    data = Union("data of a log's entry", {**ENTRY_ARMS, 9: ("ttl", TTL)})
+    with_ttl = Struct(name, last_modified_ledger_seq=U32, data=data, ext=EXT)
+
+    def of(self, modified: Json) -> Struct:
+        """Returns the type of an entry with this last modified ledger."""
+        return self.with_ttl if modified == 0 else ENTRY
+
+    def read(self, cursor: Cursor) -> Json:
+        return self.of(int.from_bytes(cursor.data[cursor.place : cursor.place + 4], "big")).read(cursor)
+
+    def write(self, out: Writer, value: Json) -> None:
+        self.of(value.get("last_modified_ledger_seq") if isinstance(value, dict) else 0).write(out, value)
+
+    def expects(self, role: str) -> str:
+        return self.with_ttl.expects(role)
+
+
+LOGGED_ENTRY = LoggedEntry()
+CHANGE = Union(
+    "change of an entry",
+    {0: ("created", LOGGED_ENTRY), 1: ("updated", LOGGED_ENTRY), 2: ("removed", KEY), 3: ("state", LOGGED_ENTRY)},
+)
+CHANGES = Listed("changes", CHANGE)
+LOG = Struct(
+    "change log",
+    old_seq=U32,
+    old_close_time=U64,
+    new_close_time=U64,
+    stages=Listed("stages", Struct("stage of a log", transactions=Listed("transactions", CHANGES), end=CHANGES)),
+)
 
 # ---- Calls, creates and what authorises them
 
@@ -332,6 +367,7 @@ PHASE = Union(
     },
 )
 SET = Union("set", {1: ("v1", Struct("set", previous_ledger_hash=HASH, phases=Listed("phases", PHASE)))})
+LIST = Listed("list of envelopes", ENVELOPE)
 
 # ---- Results, the report and the simulation
 
@@ -435,6 +471,8 @@ FILES: Dict[str, Type] = {
     "report": REPORT,
     "simulation": SIMULATION,
     "schedule": SCHEDULE,
+    "list": LIST,
+    "log": LOG,
     "value": VALUE,
 }
 PARTS: Dict[str, Type] = {

@@ -189,8 +189,16 @@ class Command:
                 yield "schedule", self.options["schedule"], False
         elif self.name == "show":
             yield self.options["kind"], self.options["file"], text
-        elif self.name == "migrate":
+        elif self.name in ("migrate", "play"):
             yield "ledger", self.options["ledger"], False
+            if self.name == "play":
+                yield "log", self.options["log"], False
+        elif self.name == "build":
+            yield "list", self.options["list"], False
+
+    def follows(self) -> bool:
+        """Returns whether another ledger has to be able to follow the one that is read."""
+        return self.name in ("apply", "simulate") or (self.name == "play" and self.options["back"] == "0")
 
     def judged(self) -> Optional[str]:
         """Returns the line of the first refusal, after it has taken all inputs there and back."""
@@ -200,7 +208,7 @@ class Command:
                 data = files.from_base64(data) if text else data
                 there_and_back(kind, data)
                 if kind == "ledger":
-                    ledgers.read(data, follows=self.name in ("apply", "simulate"))
+                    ledgers.read(data, follows=self.follows())
             except files.NotBase64:
                 return f"not base64: {name}"
             except Refusal as refusal:
