@@ -39,6 +39,9 @@ def samples(of: Type, level: int = 0, depth: int = 0) -> List[Json]:
             for arm, _, body in of.arms.values()
             for value in ([None] if body is None else samples(body, level, depth))
         ]
+    if isinstance(of, schema.LoggedEntry):
+        with_ttl = [{**entry, "last_modified_ledger_seq": 0} for entry in samples(of.with_ttl, level, depth)]
+        return with_ttl + samples(schema.ENTRY, level, depth)
     if isinstance(of, Optional_):
         return [None, *samples(of.of, level, depth)]
     if isinstance(of, Listed):
