@@ -60,7 +60,7 @@ pub fn payload_hash(alloc: Global, network: &Hash, entry: &AuthEntry) -> Result<
     ensures value { IfOk result (λ hash. hash ≡ payload_hash_of network.now entry.now) }
     ensures fits { IfOk result hash_format.fits }
 {
-    let mut out = Out::new(alloc);
+    let mut out = Out::for_payload(alloc)?;
     write_payload(network, entry, &mut out)?;
     let bytes = out.into_vec();
     Ok(Hash(Sha256::digest(bytes.as_slice())))

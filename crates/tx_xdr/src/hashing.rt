@@ -32,7 +32,7 @@ pub fn tx_hash(alloc: Global, network: &Hash, tx: &Transaction) -> Result<Hash, 
     ensures value { IfOk result (λ hash. hash ≡ transaction_hash network.now tx.now) }
     ensures fits { IfOk result hash_format.fits }
 {
-    let mut out = Out::new(alloc);
+    let mut out = Out::for_payload(alloc)?;
     out.put_fixed(&network.0)?;
     out.put_u32(ENVELOPE_TYPE_TX)?;
     tx.write(&mut out)?;
@@ -46,7 +46,7 @@ fn fee_bump_hash(alloc: Global, network: &Hash, fee_bump: &FeeBump) -> Result<Ha
     ensures value { IfOk result (λ hash. hash ≡ hash_of_fee_bump network.now fee_bump.now) }
     ensures fits { IfOk result hash_format.fits }
 {
-    let mut out = Out::new(alloc);
+    let mut out = Out::for_payload(alloc)?;
     out.put_fixed(&network.0)?;
     out.put_u32(ENVELOPE_TYPE_TX_FEE_BUMP)?;
     fee_bump.write(&mut out)?;
