@@ -1,5 +1,5 @@
 -- Plain instructions, where their operands are known.
-use Rattle.std.proofs.Common.{◌≡◌, ℕ, List, [], ◌∷◌, ◌++◌, Option, Some, None, refl, ap, ◌∙◌, subst}
+use Rattle.std.proofs.Common.{◌≡◌, ℕ, List, [], ◌∷◌, Option, Some, None, refl, ap, ◌∙◌, subst}
 use Rattle.std.specs.Prelude.{Result, Ok, Err, IfOk, slice_get, slice_set}
 use Rattle.wasm_spec.specs.declared.types.ValueType.{ValueType}
 use Rattle.wasm_spec.specs.declared.types.ValueType.TheVariants.{I32, I64}
@@ -9,9 +9,8 @@ use Rattle.wasm_spec.specs.declared.instructions.LoadKind.{LoadKind}
 use Rattle.wasm_spec.specs.declared.instructions.Plain.{Plain}
 use Rattle.wasm_spec.specs.declared.values.Value.{Value}
 use Rattle.wasm_spec.specs.declared.instructions.Numeric.{Numeric}
-use Rattle.wasm_spec.specs.Code.{BlockType}
 use Rattle.wasm_spec.specs.Integers.{numeric_result}
-use Rattle.wasm_spec.specs.Stores.{type_of, value_of, result_values, pop, Store}
+use Rattle.wasm_spec.specs.Stores.{type_of, value_of, pop, Store}
 use Rattle.wasm_spec.specs.Effects.{Effect, Leaves, Grows, Faults, Lacks, with_some, gives, numeric_effect, chosen, loads}
 use Rattle.wasm_spec.specs.declared.values.Value.TheVariants as value
 use Rattle.wasm_spec.specs.declared.instructions.StoreKind.{StoreKind}
@@ -23,9 +22,6 @@ use Rattle.wasm_spec.specs.Effects.{stores, effect_of}
 use Rattle.wasm_machine.specs.Numbers.{HasTop, HasPair}
 use Rattle.wasm_machine.specs.Machine.{Machine, Fails, affects}
 use Rattle.wasm_machine.specs.MachineState.{CanApply}
-
-pub given_values : (r : BlockType) (t : ValueType) (n : ℕ) (ops : List Value) → r ≡ Some t → result_values r n ++ ops ≡ value_of t n ∷ ops
-given_values r t n ops e = ap (λ x. result_values x n ++ ops) e
 
 pub pop_value : {A : Type 0} (other : A) (t : ValueType) (n : ℕ) (rest : List Value) (go : ℕ → List Value → A) → pop other t (value_of t n ∷ rest) go ≡ go n rest
 pop_value other I32 n rest go = refl

@@ -11,7 +11,22 @@ use Rattle.wasm_machine.specs.declared.machine.Quick.{Quick}
 use Rattle.wasm_machine.specs.declared.machine.Quick.TheVariants as quick
 use Rattle.wasm_machine.specs.Machine.{Machine, executes, pays, moves, move}
 use Rattle.wasm_machine.specs.MachineState.{IsMove}
-use Rattle.wasm_machine.specs.Quick.{is_quick, IsQuick}
+use Rattle.wasm_machine.specs.Quick.{is_plain, is_quick, IsQuick}
+
+-- an instruction that never branches, other than memory.grow, is quick
+pub plain_is_quick : (i : Step) → is_plain i ≡ true → is_quick i ≡ true
+plain_is_quick (step.Plain p) h = h
+plain_is_quick step.Unreachable h = cc
+plain_is_quick step.Pass h = refl
+plain_is_quick (step.Unless to) h = refl
+plain_is_quick (step.Skip to) h = cc
+plain_is_quick (step.Jump id n) h = refl
+plain_is_quick (step.JumpIf id n) h = refl
+plain_is_quick (step.Table count) h = refl
+plain_is_quick (step.Call f) h = cc
+plain_is_quick (step.CallIndirect t) h = cc
+plain_is_quick (step.Import f) h = cc
+plain_is_quick step.End h = cc
 
 paid : (source : Module) (flat : FlatCode) (m : Machine) (i : Step) → is_quick i ≡ true → moves source flat (Some i) m ≡ pays m (executes source flat i)
 paid source flat m (step.Plain p) h = refl

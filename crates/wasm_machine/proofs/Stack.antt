@@ -1,13 +1,15 @@
 -- A stack of values as a list from the top down, and as a vector from the bottom up.
 use Rattle.std.proofs.Common.{◌≡◌, ℕ, zero, suc, ◌+◌, ◌-◌, ◌<◌, ◌≤◌, List, [], ◌∷◌, ◌++◌, length, take, drop, get_or, map, Option, Some, None, refl, sym, ap, ◌∙◌, arith, append_assoc, length-append}
-use Rattle.std.specs.Prelude.{slice_set, reverse, IsSome}
+use Rattle.std.specs.Prelude.{slice_get, slice_set, reverse, IsSome}
 use Rattle.std.proofs.Math.Seq.{take-append_seam, take-suc-set, set-append_seam}
 use Rattle.std.proofs.lemmas.List.{length-reverse, reverse-reverse, reverse-append, get_or-reverse, drop_at}
 use Rattle.wasm_spec.specs.declared.types.ValueType.{ValueType}
+use Rattle.wasm_spec.specs.declared.types.ValueType.TheVariants.{I32, I64}
 use Rattle.wasm_spec.specs.declared.values.Value.{Value}
 use Rattle.wasm_spec.specs.declared.values.Value.TheVariants as value
 use Rattle.wasm_spec.specs.Meaning.{arguments}
 use Rattle.wasm_machine.specs.Machine.{removed, keeping, cut}
+use Rattle.wasm_machine.specs.Numbers.{HasTop}
 
 -- what is taken away, and what is left
 split_removed : (n : ℕ) (l w : List Value) → removed n l ≡ Some w → (a : List Value) × (l ≡ a ++ w) × (length a ≡ n)
@@ -143,3 +145,23 @@ pub put_more : (i j : ℕ) (ns : List ℕ) (vs now : List Value) → now ≡ map
 put_more i j ns vs now e k h g =
     let more : suc i ≡ j = omega arith in
     ap (λ xs. slice_set xs i (value.I64 (get_or ns i 0))) e ∙ number_put i ns vs h g ∙ ap (λ n. map value.I64 (take n ns) ++ drop n vs) more
+
+-- the topmost value of a stack whose topmost value has a known type
+
+pub top32_is : (ops : List Value) (n : ℕ) → slice_get ops 0 ≡ Some (value.I32 n) → (below : List Value) × (ops ≡ value.I32 n ∷ below)
+top32_is [] n e = cc
+top32_is (v ∷ ops) n e = let f : v ≡ value.I32 n = cc in (ops, ap (λ x. x ∷ ops) f)
+
+pub top64_is : (ops : List Value) (n : ℕ) → slice_get ops 0 ≡ Some (value.I64 n) → (below : List Value) × (ops ≡ value.I64 n ∷ below)
+top64_is [] n e = cc
+top64_is (v ∷ ops) n e = let f : v ≡ value.I64 n = cc in (ops, ap (λ x. x ∷ ops) f)
+
+pub has_top32 : (ops : List Value) → HasTop I32 ops → (n : ℕ) × (slice_get ops 0 ≡ Some (value.I32 n))
+has_top32 [] h = absurd h
+has_top32 (value.I32 n ∷ ops) h = (n, refl)
+has_top32 (value.I64 n ∷ ops) h = absurd h
+
+pub has_top64 : (ops : List Value) → HasTop I64 ops → (n : ℕ) × (slice_get ops 0 ≡ Some (value.I64 n))
+has_top64 [] h = absurd h
+has_top64 (value.I32 n ∷ ops) h = absurd h
+has_top64 (value.I64 n ∷ ops) h = (n, refl)

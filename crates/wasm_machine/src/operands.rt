@@ -122,6 +122,30 @@ impl Operands {
         }
     }
 
+    /// Returns the topmost operand, which is an `i32`.
+    #[tactic(auto, using(crate::proofs::Stack::top32_is, crate::proofs::Stack::has_top32))]
+    pub fn top32(&self) -> u32
+        requires { HasTop I32 self.now }
+        ensures { (below : List Value_) × (self.now ≡ value.I32 result ∷ below) }
+    {
+        match self.top() {
+            Some(Value::I32(number)) => number,
+            _ => unreachable!(),
+        }
+    }
+
+    /// Returns the topmost operand, which is an `i64`.
+    #[tactic(auto, using(crate::proofs::Stack::top64_is, crate::proofs::Stack::has_top64))]
+    pub fn top64(&self) -> u64
+        requires { HasTop I64 self.now }
+        ensures { (below : List Value_) × (self.now ≡ value.I64 result ∷ below) }
+    {
+        match self.top() {
+            Some(Value::I64(number)) => number,
+            _ => unreachable!(),
+        }
+    }
+
     /// Removes the `count` topmost operands.
     pub fn remove(&mut self, count: usize)
         requires { IsSome (removed count self.old) }

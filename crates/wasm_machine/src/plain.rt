@@ -1,6 +1,6 @@
 //! Instructions without control flow: the next instruction follows, or they trap.
 
-ghost use Rattle.std.specs.Prelude.{◌≡◌, ◌≢◌, ◌<◌, ◌^◌, ◌∷◌, List, slice_get, IfOk, OnOk, IfSome, Some, None};
+ghost use Rattle.std.specs.Prelude.{◌≡◌, ◌≢◌, ◌<◌, ◌^◌, ◌∷◌, List, length, slice_get, IfOk, OnOk, IfSome, Some, None};
 ghost use Rattle.wasm_spec.specs.Integers.{width};
 ghost use Rattle.wasm_spec.specs.Typing.{numeric_signature, store_type, converted_from, converted_to};
 ghost use Rattle.wasm_spec.specs.Stores.{value_of};
@@ -48,50 +48,53 @@ fn pop_number(operands: &mut Operands, value_type: ValueType) -> u64
     }
 }
 
-/// Pushes the result of a numeric instruction, which has the type, or returns its trap if it has no result.
-#[tactic(auto, using(crate::proofs::PlainLaws::given_values))]
-fn give(
-    given: ValueType,
-    number: Option<u64>,
-    operands: &mut Operands,
-) -> Result<Option<TrapKind>, AllocError>
-    requires { IfSome number (λ n. n < 2 ^ width given) }
-    ensures { IfOk result (λ trap. (o : Operation) (locals : List Operand) (store : Contents)
-        → (numeric_signature o).gives ≡ Some given
-        → IsEffect (gives o number operands.old locals store) trap operands.new locals store) }
+/// Returns the number of the topmost operand, which has the type.
+fn top_number(operands: &Operands, value_type: ValueType) -> u64
+    requires { HasTop value_type operands.now }
+    ensures number { (below : List Operand) × (operands.now ≡ value_of value_type result ∷ below) }
+    ensures fits { result < 2 ^ width value_type }
+{
+    match value_type {
+        ValueType::I32 => u64::from(operands.top32()),
+        ValueType::I64 => operands.top64(),
+    }
+}
+
+/// Replaces the topmost operand by the result of a numeric instruction, which has the type, or returns its trap if it has no
+/// result.
+fn give(given: ValueType, number: Option<u64>, operands: &mut Operands) -> Option<TrapKind>
+    requires fits { IfSome number (λ n. n < 2 ^ width given) }
+    requires some { 0 < length operands.old }
+    ensures { (o : Operation) (v : Operand) (below locals : List Operand) (store : Contents)
+        → (numeric_signature o).gives ≡ Some given → operands.old ≡ v ∷ below
+        → IsEffect (gives o number below locals store) result operands.new locals store }
 {
     match number {
-        None => Ok(Some(TrapKind::Arithmetic)),
+        None => Some(TrapKind::Arithmetic),
         Some(number) => {
-            operands.push(value_of(given, number))?;
-            Ok(None)
+            operands.replace(value_of(given, number));
+            None
         }
     }
 }
 
 /// Executes a test.
-fn apply_test(operand: ValueType, operands: &mut Operands) -> Result<Option<TrapKind>, AllocError>
+fn apply_test(operand: ValueType, operands: &mut Operands) -> Option<TrapKind>
     requires { HasTop operand operands.old }
-    ensures { IfOk result (λ trap. (locals : List Operand) (store : Contents)
-        → IsEffect (numeric_effect (numeric.Eqz operand)
-        (taken.One operand) operands.old locals store) trap operands.new locals store) }
+    ensures { (locals : List Operand) (store : Contents) → IsEffect (numeric_effect (numeric.Eqz operand)
+        (taken.One operand) operands.old locals store) result operands.new locals store }
 {
-    let number = pop_number(operands, operand);
+    let number = top_number(operands, operand);
     give(ValueType::I32, Some(tested(operand, number)), operands)
 }
 
 /// Executes an operation on one operand.
-fn apply_unary(
-    operand: ValueType,
-    operation: Unary,
-    operands: &mut Operands,
-) -> Result<Option<TrapKind>, AllocError>
+fn apply_unary(operand: ValueType, operation: Unary, operands: &mut Operands) -> Option<TrapKind>
     requires { HasTop operand operands.old }
-    ensures { IfOk result (λ trap. (locals : List Operand) (store : Contents)
-        → IsEffect (numeric_effect (numeric.Unary operand operation)
-        (taken.One operand) operands.old locals store) trap operands.new locals store) }
+    ensures { (locals : List Operand) (store : Contents) → IsEffect (numeric_effect (numeric.Unary operand operation)
+        (taken.One operand) operands.old locals store) result operands.new locals store }
 {
-    let number = pop_number(operands, operand);
+    let number = top_number(operands, operand);
     give(operand, Some(unary(operand, operation, number)), operands)
 }
 
@@ -101,15 +104,14 @@ fn apply_conversion(
     operand: ValueType,
     given: ValueType,
     operands: &mut Operands,
-) -> Result<Option<TrapKind>, AllocError>
+) -> Option<TrapKind>
     requires from { converted_from operation ≡ operand }
     requires to { converted_to operation ≡ given }
     requires top { HasTop operand operands.old }
-    ensures { IfOk result (λ trap. (locals : List Operand) (store : Contents)
-        → IsEffect (numeric_effect (numeric.Convert operation)
-        (taken.One operand) operands.old locals store) trap operands.new locals store) }
+    ensures { (locals : List Operand) (store : Contents) → IsEffect (numeric_effect (numeric.Convert operation)
+        (taken.One operand) operands.old locals store) result operands.new locals store }
 {
-    let number = pop_number(operands, operand);
+    let number = top_number(operands, operand);
     give(given, Some(convert(operation, number)), operands)
 }
 
@@ -119,19 +121,37 @@ fn apply_load(
     argument: MemArg,
     operands: &mut Operands,
     store: &Store,
-) -> Result<Option<TrapKind>, AllocError>
+) -> Option<TrapKind>
     requires { HasTop Narrow operands.old }
-    ensures { IfOk result (λ trap. (locals : List Operand)
-        → IsEffect (effect_of (plain.Load kind argument) operands.old locals store.now) trap operands.new locals store.now) }
+    ensures { (locals : List Operand)
+        → IsEffect (effect_of (plain.Load kind argument) operands.old locals store.now) result operands.new locals store.now }
 {
-    let address = operands.pop32();
+    let address = operands.top32();
     match load(kind, store.memory(), address, argument.offset) {
-        None => Ok(Some(TrapKind::OutOfBounds)),
+        None => Some(TrapKind::OutOfBounds),
         Some(number) => {
-            operands.push(value_of(load_type(kind), number))?;
-            Ok(None)
+            operands.replace(value_of(load_type(kind), number));
+            None
         }
     }
+}
+
+/// Executes a comparison of the type.
+///
+/// `WIDE` changes no result. It makes an instance for each type, so that LLVM compiles the code of each with its width.
+fn comparison_at<const WIDE: bool>(
+    operand: ValueType,
+    operation: Comparison,
+    operands: &mut Operands,
+) -> Option<TrapKind>
+    requires { HasPair operand operand operands.old }
+    ensures { (locals : List Operand) (store : Contents) → IsEffect (numeric_effect (numeric.Compare operand operation)
+        (taken.Two operand operand) operands.old locals store) result operands.new locals store }
+{
+    let second = pop_number(operands, operand);
+    let first = top_number(operands, operand);
+    let result = compared::<WIDE>(operand, operation, first, second);
+    give(ValueType::I32, Some(result), operands)
 }
 
 /// Executes a comparison.
@@ -139,35 +159,48 @@ fn apply_comparison(
     operand: ValueType,
     operation: Comparison,
     operands: &mut Operands,
-) -> Result<Option<TrapKind>, AllocError>
+) -> Option<TrapKind>
     requires { HasPair operand operand operands.old }
-    ensures { IfOk result (λ trap. (locals : List Operand) (store : Contents)
-        → IsEffect (numeric_effect (numeric.Compare operand operation)
-        (taken.Two operand operand) operands.old locals store) trap operands.new locals store) }
+    ensures { (locals : List Operand) (store : Contents) → IsEffect (numeric_effect (numeric.Compare operand operation)
+        (taken.Two operand operand) operands.old locals store) result operands.new locals store }
+{
+    match operand {
+        ValueType::I32 => comparison_at::<false>(ValueType::I32, operation, operands),
+        ValueType::I64 => comparison_at::<true>(ValueType::I64, operation, operands),
+    }
+}
+
+/// Executes an operation on two operands of the type.
+///
+/// `WIDE` changes no result. It makes an instance for each type, so that LLVM compiles the code of each with its width.
+fn binary_at<const WIDE: bool>(
+    operand: ValueType,
+    operation: Binary,
+    operands: &mut Operands,
+) -> Option<TrapKind>
+    requires { HasPair operand operand operands.old }
+    ensures { (locals : List Operand) (store : Contents) → IsEffect (numeric_effect (numeric.Binary operand operation)
+        (taken.Two operand operand) operands.old locals store) result operands.new locals store }
 {
     let second = pop_number(operands, operand);
-    let first = pop_number(operands, operand);
+    let first = top_number(operands, operand);
     give(
-        ValueType::I32,
-        Some(compared(operand, operation, first, second)),
+        operand,
+        binary::<WIDE>(operand, operation, first, second),
         operands,
     )
 }
 
 /// Executes an operation on two operands.
-fn apply_binary(
-    operand: ValueType,
-    operation: Binary,
-    operands: &mut Operands,
-) -> Result<Option<TrapKind>, AllocError>
+fn apply_binary(operand: ValueType, operation: Binary, operands: &mut Operands) -> Option<TrapKind>
     requires { HasPair operand operand operands.old }
-    ensures { IfOk result (λ trap. (locals : List Operand) (store : Contents)
-        → IsEffect (numeric_effect (numeric.Binary operand operation)
-        (taken.Two operand operand) operands.old locals store) trap operands.new locals store) }
+    ensures { (locals : List Operand) (store : Contents) → IsEffect (numeric_effect (numeric.Binary operand operation)
+        (taken.Two operand operand) operands.old locals store) result operands.new locals store }
 {
-    let second = pop_number(operands, operand);
-    let first = pop_number(operands, operand);
-    give(operand, binary(operand, operation, first, second), operands)
+    match operand {
+        ValueType::I32 => binary_at::<false>(ValueType::I32, operation, operands),
+        ValueType::I64 => binary_at::<true>(ValueType::I64, operation, operands),
+    }
 }
 
 /// Executes a store.
@@ -236,9 +269,10 @@ pub fn apply(
         },
         Op::LocalSet(index) => locals[index as usize] = operands.pop(),
         Op::LocalTee(index) => {
-            let value = operands.pop();
+            let Some(value) = operands.top() else {
+                unreachable!()
+            };
             locals[index as usize] = value;
-            operands.push(value)?;
         }
         Op::GlobalGet(index) => match store.global(index) {
             Some(value) => operands.push(value)?,
@@ -248,21 +282,23 @@ pub fn apply(
             let value = operands.pop();
             store.set_global(index, value);
         }
-        Op::Load(kind, argument) => return apply_load(kind, argument, operands, store),
+        Op::Load(kind, argument) => return Ok(apply_load(kind, argument, operands, store)),
         Op::Store(kind, argument) => return Ok(apply_store(kind, argument, operands, store)),
         Op::MemorySize => operands.push(Value::I32(store.pages()))?,
         Op::I32Const(number) => operands.push(Value::I32(number))?,
         Op::I64Const(number) => operands.push(Value::I64(number))?,
-        Op::Test(operand) => return apply_test(operand, operands),
-        Op::Compare(operand, operation) => return apply_comparison(operand, operation, operands),
-        Op::Unary(operand, operation) => return apply_unary(operand, operation, operands),
-        Op::Binary(operand, operation) => return apply_binary(operand, operation, operands),
-        Op::Convert(operation) => return apply_conversion(
+        Op::Test(operand) => return Ok(apply_test(operand, operands)),
+        Op::Compare(operand, operation) => return Ok(apply_comparison(
+            operand, operation, operands,
+        )),
+        Op::Unary(operand, operation) => return Ok(apply_unary(operand, operation, operands)),
+        Op::Binary(operand, operation) => return Ok(apply_binary(operand, operation, operands)),
+        Op::Convert(operation) => return Ok(apply_conversion(
             operation,
             converted_from(operation),
             converted_to(operation),
             operands,
-        ),
+        )),
         _ => unreachable!(),
     }
     Ok(None)

@@ -35,7 +35,7 @@ pub fn is_quick(op: &Op) -> bool
 }
 
 /// Returns whether the step is an instruction other than `memory.grow` that never branches.
-fn is_plain(op: &Op) -> bool
+pub fn is_plain(op: &Op) -> bool
     ensures { result ≡ is_plain (step_of op.now) }
 {
     match *op {
@@ -176,7 +176,7 @@ fn execute_plain(
 
 /// Charges and executes the next step, which is the instruction `op`.
 #[tactic(auto, using(crate::proofs::Spends::same))]
-fn take_plain(
+pub fn take_plain(
     source: &Module,
     code: &FlatCode,
     machine: &mut MachineState,
@@ -198,7 +198,7 @@ fn take_plain(
 
 /// Charges and executes the next step, which is the branch `op`.
 #[tactic(auto, using(crate::proofs::Spends::same))]
-fn take_branch(
+pub fn take_branch(
     source: &Module,
     code: &FlatCode,
     machine: &mut MachineState,
@@ -218,26 +218,4 @@ fn take_branch(
     }
     branch(source, code, machine, budget, op);
     Quick::Goes
-}
-
-/// Charges and executes the next step, which is `op` and quick.
-pub fn take_quick(
-    source: &Module,
-    code: &FlatCode,
-    machine: &mut MachineState,
-    budget: &mut Budget,
-    op: &Op,
-) -> Quick
-    requires pc { machine.old.pc < 2 ^ 63 }
-    requires quick { is_quick (step_of op.now) ≡ true }
-    requires moves { pays (machine_of machine.old budget.old) (executes source.now code.now (step_of op.now)) ≢ Fails }
-    ensures moves { IsQuick (pays (machine_of machine.old budget.old) (executes source.now code.now (step_of op.now))) result
-        (machine_of machine.new budget.new) }
-    ensures spends { IsLater budget.old budget.new }
-{
-    if is_plain(op) {
-        take_plain(source, code, machine, budget, op)
-    } else {
-        take_branch(source, code, machine, budget, op)
-    }
 }

@@ -8,7 +8,7 @@ ghost use Rattle.wasm_machine.specs.Says.{Says, IsLess};
 ghost use Rattle.wasm_machine.specs.Spending.{IsLater};
 
 use crate::machine::{MachineState, Outcome, Quick};
-use crate::quick::{is_quick, take_quick};
+use crate::quick::{is_plain, is_quick, take_branch, take_plain};
 use crate::step::{next_step, take};
 use budget_meter::Budget;
 use std::alloc::AllocError;
@@ -42,8 +42,16 @@ pub fn run(
 {
     loop {
         let next = next_step(source, code, machine, budget);
-        if is_quick(next) {
-            match take_quick(source, code, machine, budget, next) {
+        // Most steps are plain, so this is the first test.
+        if is_plain(next) {
+            match take_plain(source, code, machine, budget, next) {
+                Quick::Goes => {}
+                Quick::Traps(kind) => return Ok(Paused::Trap(kind)),
+                Quick::RunsOut => return Ok(Paused::Spent),
+                Quick::NoMemory => return Err(AllocError),
+            }
+        } else if is_quick(next) {
+            match take_branch(source, code, machine, budget, next) {
                 Quick::Goes => {}
                 Quick::Traps(kind) => return Ok(Paused::Trap(kind)),
                 Quick::RunsOut => return Ok(Paused::Spent),

@@ -19,9 +19,16 @@ pub fn tested(value_type: ValueType, operand: u64) -> u64
 }
 
 /// Returns the result of a comparison of two integers of the type: 1 if it holds. The second operand is the topmost.
+///
+/// `WIDE` changes no result. It makes an instance for each type, so that LLVM compiles the code of each with its width.
 #[inline]
 #[tactic(auto, unfolding(wasm_spec::specs::Integers::numeric_result))]
-pub fn compared(value_type: ValueType, operation: Comparison, first: u64, second: u64) -> u64
+pub fn compared<const WIDE: bool>(
+    value_type: ValueType,
+    operation: Comparison,
+    first: u64,
+    second: u64,
+) -> u64
     requires first { first < 2 ^ width value_type }
     requires second { second < 2 ^ width value_type }
     ensures value { Some result ≡ numeric_result (numeric.Compare value_type operation) first second }

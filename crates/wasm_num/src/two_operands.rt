@@ -9,9 +9,16 @@ use wasm_spec::{Binary, Sign, ValueType};
 
 /// Returns the result of an operation on two integers of the type, or `None` if it traps: for a divisor of 0, and if
 /// the quotient does not fit.
+///
+/// `WIDE` changes no result. It makes an instance for each type, so that LLVM compiles the code of each with its width.
 #[inline]
 #[tactic(auto, using(crate::proofs::WidthLaws::bit_laws), unfolding(wasm_spec::specs::Integers::binary_of))]
-pub fn binary(value_type: ValueType, operation: Binary, first: u64, second: u64) -> Option<u64>
+pub fn binary<const WIDE: bool>(
+    value_type: ValueType,
+    operation: Binary,
+    first: u64,
+    second: u64,
+) -> Option<u64>
     requires first { first < 2 ^ width value_type }
     requires second { second < 2 ^ width value_type }
     ensures value { result ≡ binary_of (width value_type) operation first second }

@@ -1,15 +1,21 @@
-use Rattle.std.proofs.Common.{sym, ap, ◌∙◌, subst}
+use Rattle.std.proofs.Common.{sym, ap, ◌∙◌, subst, arith, length}
 use Rattle.std.specs.Prelude.{Some}
 use Rattle.wasm_spec.specs.declared.instructions.Numeric.TheVariants as numeric
+use Rattle.wasm_spec.specs.Stores.{value_of}
 use Rattle.wasm_spec.specs.Effects.{gives}
 use Rattle.wasm_machine.specs.MachineState.{IsEffect}
-use Rattle.wasm_machine.proofs.PlainLaws.{one_is, if_ok}
+use Rattle.wasm_machine.proofs.PlainLaws.{one_is}
 use Rattle.wasm_machine.proofs.plain.apply_conversion.Goals as goal
+
+pub give-requires-clause-some : goal.give-requires-clause-some
+give-requires-clause-some c = omega (arith, ap length c.top_number-number.ensures.number.1)
 
 pub returns : goal.returns
 returns c =
     let o = numeric.Convert c.args.operation in
-    if_ok c.give.result _ _ c.give.ensures (λ trap h locals store.
-    subst (λ x. IsEffect x trap c.give.new.operands locals store)
-    (ap (λ n. gives o n c.pop_number-number.new.operands locals store) (ap Some c.convert.ensures.value)
-    ∙ sym (one_is o c.args.operand c.pop_number-number.result c.args.operands.now c.pop_number-number.new.operands locals store c.pop_number-number.ensures.number)) (h o locals store (ap Some c.requires.to)))
+    let below = c.top_number-number.ensures.number.0 in
+    let is = c.top_number-number.ensures.number.1 in
+    λ locals store. subst (λ x. IsEffect x c.give.result c.give.new.operands locals store)
+    (ap (λ n. gives o n below locals store) (ap Some c.convert.ensures.value)
+    ∙ sym (one_is o c.args.operand c.top_number-number.result c.args.operands.now below locals store is))
+    (c.give.ensures o (value_of c.args.operand c.top_number-number.result) below locals store (ap Some c.requires.to) is)

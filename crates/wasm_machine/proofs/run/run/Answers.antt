@@ -10,7 +10,7 @@ use Rattle.wasm_machine.specs.Says.{Says, work_of}
 use Rattle.wasm_machine.proofs.Ways.{never_fails, behaves_ahead}
 use Rattle.wasm_machine.proofs.Measure.{move_lighter, asks_lighter}
 use Rattle.wasm_machine.proofs.Events.{move_is, says_done, says_trap, says_spent, says_ask}
-use Rattle.wasm_machine.proofs.QuickLaws.{found, quick_move, quick_goes, quick_traps, quick_spent}
+use Rattle.wasm_machine.proofs.QuickLaws.{found, plain_is_quick, quick_move, quick_goes, quick_traps, quick_spent}
 use Rattle.wasm_machine.proofs.Spends.{later}
 use Rattle.wasm_machine.proofs.run.run.Goals as goal
 
@@ -18,8 +18,14 @@ pub next_step-next-requires : goal.next_step-next-requires
 next_step-next-requires c =
     never_fails c.args.source.now c.args.code.now (machine_of c.loop-machine.machine c.loop-machine.budget) c.loop-machine.invariant.0.0 c.loop-machine.invariant.0.1
 
-pub take_quick-requires-clause-moves : goal.take_quick-requires-clause-moves
-take_quick-requires-clause-moves c =
+pub take_plain-requires-clause-moves : goal.take_plain-requires-clause-moves
+take_plain-requires-clause-moves c =
+    let m = machine_of c.loop-machine.machine c.loop-machine.budget in
+    let ok = never_fails c.args.source.now c.args.code.now m c.loop-machine.invariant.0.0 c.loop-machine.invariant.0.1 in
+    subst (λ x. x ≢ Fails) (quick_move c.args.source.now c.args.code.now m (step_of c.next_step-next.result.now) c.next_step-next.ensures.step (plain_is_quick (step_of c.next_step-next.result.now) (sym c.is_plain.ensures ∙ c.if-is_plain.true))) ok
+
+pub take_branch-requires-clause-moves : goal.take_branch-requires-clause-moves
+take_branch-requires-clause-moves c =
     let m = machine_of c.loop-machine.machine c.loop-machine.budget in
     let ok = never_fails c.args.source.now c.args.code.now m c.loop-machine.invariant.0.0 c.loop-machine.invariant.0.1 in
     subst (λ x. x ≢ Fails) (quick_move c.args.source.now c.args.code.now m (step_of c.next_step-next.result.now) c.next_step-next.ensures.step (sym c.is_quick.ensures ∙ c.if-is_quick.true)) ok
@@ -33,9 +39,62 @@ take-requires-clause-moves c =
 pub loop-machine-smaller-in-Goes : goal.loop-machine-smaller-in-Goes
 loop-machine-smaller-in-Goes c =
     let m = machine_of c.loop-machine.machine c.loop-machine.budget in
-    let n = machine_of c.take_quick.new.machine c.take_quick.new.budget in
-    let goes = move_is c.args.source.now c.args.code.now m n outcome.Goes outcome.Goes (quick_goes c.args.source.now c.args.code.now m n (step_of c.next_step-next.result.now) c.take_quick.result c.next_step-next.ensures.step (sym c.is_quick.ensures ∙ c.if-is_quick.true) c.take_quick.ensures.moves c.in-Goes.is) refl in
+    let n = machine_of c.take_plain.new.machine c.take_plain.new.budget in
+    let goes = move_is c.args.source.now c.args.code.now m n outcome.Goes outcome.Goes (quick_goes c.args.source.now c.args.code.now m n (step_of c.next_step-next.result.now) c.take_plain.result c.next_step-next.ensures.step (plain_is_quick (step_of c.next_step-next.result.now) (sym c.is_plain.ensures ∙ c.if-is_plain.true)) c.take_plain.ensures.moves c.in-Goes.is) refl in
     move_lighter c.args.source.now c.args.code.now m n goes
+
+pub loop-machine-preserved-in-Goes : goal.loop-machine-preserved-in-Goes
+loop-machine-preserved-in-Goes c =
+    let m = machine_of c.loop-machine.machine c.loop-machine.budget in
+    let n = machine_of c.take_plain.new.machine c.take_plain.new.budget in
+    let goes = move_is c.args.source.now c.args.code.now m n outcome.Goes outcome.Goes (quick_goes c.args.source.now c.args.code.now m n (step_of c.next_step-next.result.now) c.take_plain.result c.next_step-next.ensures.step (plain_is_quick (step_of c.next_step-next.result.now) (sym c.is_plain.ensures ∙ c.if-is_plain.true)) c.take_plain.ensures.moves c.in-Goes.is) refl in
+    let less : work_of c.args.code.now n < work_of c.args.code.now m = move_lighter c.args.source.now c.args.code.now m n goes in
+    let i = c.loop-machine.invariant in
+    ((i.0.0, behaves_ahead c.args.source.now c.args.code.now m n i.0.0 goes i.0.1), λ r h. behaves_ahead c.args.source.now c.args.code.now m n r goes (i.1 r h), later c.args.budget.now c.loop-machine.budget c.take_plain.new.budget i.2 c.take_plain.ensures.spends, omega (arith, less, i.3))
+
+pub returns-in-Traps-clause-says : goal.returns-in-Traps-clause-says
+returns-in-Traps-clause-says c =
+    let m = machine_of c.loop-machine.machine c.loop-machine.budget in
+    let n = machine_of c.take_plain.new.machine c.take_plain.new.budget in
+    let is = quick_traps c.args.source.now c.args.code.now m n (step_of c.next_step-next.result.now) c.take_plain.result c.in-Traps.kind c.next_step-next.ensures.step (plain_is_quick (step_of c.next_step-next.result.now) (sym c.is_plain.ensures ∙ c.if-is_plain.true)) c.take_plain.ensures.moves c.in-Traps.is in
+    λ r h. says_trap c.args.source.now c.args.code.now m n r (outcome.Traps c.in-Traps.kind) c.in-Traps.kind (c.loop-machine.invariant.1 r h) is refl
+
+pub returns-in-RunsOut-clause-says : goal.returns-in-RunsOut-clause-says
+returns-in-RunsOut-clause-says c =
+    let m = machine_of c.loop-machine.machine c.loop-machine.budget in
+    let n = machine_of c.take_plain.new.machine c.take_plain.new.budget in
+    let is = quick_spent c.args.source.now c.args.code.now m n (step_of c.next_step-next.result.now) c.take_plain.result c.next_step-next.ensures.step (plain_is_quick (step_of c.next_step-next.result.now) (sym c.is_plain.ensures ∙ c.if-is_plain.true)) c.take_plain.ensures.moves c.in-RunsOut.is in
+    λ r h. says_spent c.args.source.now c.args.code.now m n r outcome.RunsOut (c.loop-machine.invariant.1 r h) is refl
+
+pub loop-machine-smaller-in-Goes-take_branch : goal.loop-machine-smaller-in-Goes-take_branch
+loop-machine-smaller-in-Goes-take_branch c =
+    let m = machine_of c.loop-machine.machine c.loop-machine.budget in
+    let n = machine_of c.take_branch.new.machine c.take_branch.new.budget in
+    let goes = move_is c.args.source.now c.args.code.now m n outcome.Goes outcome.Goes (quick_goes c.args.source.now c.args.code.now m n (step_of c.next_step-next.result.now) c.take_branch.result c.next_step-next.ensures.step (sym c.is_quick.ensures ∙ c.if-is_quick.true) c.take_branch.ensures.moves c.in-Goes-take_branch.is) refl in
+    move_lighter c.args.source.now c.args.code.now m n goes
+
+pub loop-machine-preserved-in-Goes-take_branch : goal.loop-machine-preserved-in-Goes-take_branch
+loop-machine-preserved-in-Goes-take_branch c =
+    let m = machine_of c.loop-machine.machine c.loop-machine.budget in
+    let n = machine_of c.take_branch.new.machine c.take_branch.new.budget in
+    let goes = move_is c.args.source.now c.args.code.now m n outcome.Goes outcome.Goes (quick_goes c.args.source.now c.args.code.now m n (step_of c.next_step-next.result.now) c.take_branch.result c.next_step-next.ensures.step (sym c.is_quick.ensures ∙ c.if-is_quick.true) c.take_branch.ensures.moves c.in-Goes-take_branch.is) refl in
+    let less : work_of c.args.code.now n < work_of c.args.code.now m = move_lighter c.args.source.now c.args.code.now m n goes in
+    let i = c.loop-machine.invariant in
+    ((i.0.0, behaves_ahead c.args.source.now c.args.code.now m n i.0.0 goes i.0.1), λ r h. behaves_ahead c.args.source.now c.args.code.now m n r goes (i.1 r h), later c.args.budget.now c.loop-machine.budget c.take_branch.new.budget i.2 c.take_branch.ensures.spends, omega (arith, less, i.3))
+
+pub returns-in-Traps-take_branch-clause-says : goal.returns-in-Traps-take_branch-clause-says
+returns-in-Traps-take_branch-clause-says c =
+    let m = machine_of c.loop-machine.machine c.loop-machine.budget in
+    let n = machine_of c.take_branch.new.machine c.take_branch.new.budget in
+    let is = quick_traps c.args.source.now c.args.code.now m n (step_of c.next_step-next.result.now) c.take_branch.result c.in-Traps-take_branch.kind c.next_step-next.ensures.step (sym c.is_quick.ensures ∙ c.if-is_quick.true) c.take_branch.ensures.moves c.in-Traps-take_branch.is in
+    λ r h. says_trap c.args.source.now c.args.code.now m n r (outcome.Traps c.in-Traps-take_branch.kind) c.in-Traps-take_branch.kind (c.loop-machine.invariant.1 r h) is refl
+
+pub returns-in-RunsOut-take_branch-clause-says : goal.returns-in-RunsOut-take_branch-clause-says
+returns-in-RunsOut-take_branch-clause-says c =
+    let m = machine_of c.loop-machine.machine c.loop-machine.budget in
+    let n = machine_of c.take_branch.new.machine c.take_branch.new.budget in
+    let is = quick_spent c.args.source.now c.args.code.now m n (step_of c.next_step-next.result.now) c.take_branch.result c.next_step-next.ensures.step (sym c.is_quick.ensures ∙ c.if-is_quick.true) c.take_branch.ensures.moves c.in-RunsOut-take_branch.is in
+    λ r h. says_spent c.args.source.now c.args.code.now m n r outcome.RunsOut (c.loop-machine.invariant.1 r h) is refl
 
 pub loop-machine-smaller : goal.loop-machine-smaller
 loop-machine-smaller c =
@@ -43,15 +102,6 @@ loop-machine-smaller c =
     let n = machine_of c.take.new.machine c.take.new.budget in
     let goes = move_is c.args.source.now c.args.code.now m n c.in_ok-take.field-0 outcome.Goes (subst (λ x. IsMove x c.in_ok-take.field-0 n) (sym (found c.args.source.now c.args.code.now m (step_of c.next_step-next.result.now) c.next_step-next.ensures.step)) c.in_ok-take.ensures.moves) c.in-Goes-2.is in
     move_lighter c.args.source.now c.args.code.now m n goes
-
-pub loop-machine-preserved-in-Goes : goal.loop-machine-preserved-in-Goes
-loop-machine-preserved-in-Goes c =
-    let m = machine_of c.loop-machine.machine c.loop-machine.budget in
-    let n = machine_of c.take_quick.new.machine c.take_quick.new.budget in
-    let goes = move_is c.args.source.now c.args.code.now m n outcome.Goes outcome.Goes (quick_goes c.args.source.now c.args.code.now m n (step_of c.next_step-next.result.now) c.take_quick.result c.next_step-next.ensures.step (sym c.is_quick.ensures ∙ c.if-is_quick.true) c.take_quick.ensures.moves c.in-Goes.is) refl in
-    let less : work_of c.args.code.now n < work_of c.args.code.now m = move_lighter c.args.source.now c.args.code.now m n goes in
-    let i = c.loop-machine.invariant in
-    ((i.0.0, behaves_ahead c.args.source.now c.args.code.now m n i.0.0 goes i.0.1), λ r h. behaves_ahead c.args.source.now c.args.code.now m n r goes (i.1 r h), later c.args.budget.now c.loop-machine.budget c.take_quick.new.budget i.2 c.take_quick.ensures.spends, omega (arith, less, i.3))
 
 pub loop-machine-preserved : goal.loop-machine-preserved
 loop-machine-preserved c =
@@ -61,20 +111,6 @@ loop-machine-preserved c =
     let less : work_of c.args.code.now n < work_of c.args.code.now m = move_lighter c.args.source.now c.args.code.now m n goes in
     let i = c.loop-machine.invariant in
     ((i.0.0, behaves_ahead c.args.source.now c.args.code.now m n i.0.0 goes i.0.1), λ r h. behaves_ahead c.args.source.now c.args.code.now m n r goes (i.1 r h), later c.args.budget.now c.loop-machine.budget c.take.new.budget i.2 c.take.ensures.spends, omega (arith, less, i.3))
-
-pub returns-in-Traps-clause-says : goal.returns-in-Traps-clause-says
-returns-in-Traps-clause-says c =
-    let m = machine_of c.loop-machine.machine c.loop-machine.budget in
-    let n = machine_of c.take_quick.new.machine c.take_quick.new.budget in
-    let is = quick_traps c.args.source.now c.args.code.now m n (step_of c.next_step-next.result.now) c.take_quick.result c.in-Traps.kind c.next_step-next.ensures.step (sym c.is_quick.ensures ∙ c.if-is_quick.true) c.take_quick.ensures.moves c.in-Traps.is in
-    λ r h. says_trap c.args.source.now c.args.code.now m n r (outcome.Traps c.in-Traps.kind) c.in-Traps.kind (c.loop-machine.invariant.1 r h) is refl
-
-pub returns-in-RunsOut-clause-says : goal.returns-in-RunsOut-clause-says
-returns-in-RunsOut-clause-says c =
-    let m = machine_of c.loop-machine.machine c.loop-machine.budget in
-    let n = machine_of c.take_quick.new.machine c.take_quick.new.budget in
-    let is = quick_spent c.args.source.now c.args.code.now m n (step_of c.next_step-next.result.now) c.take_quick.result c.next_step-next.ensures.step (sym c.is_quick.ensures ∙ c.if-is_quick.true) c.take_quick.ensures.moves c.in-RunsOut.is in
-    λ r h. says_spent c.args.source.now c.args.code.now m n r outcome.RunsOut (c.loop-machine.invariant.1 r h) is refl
 
 pub returns-in-Ends-clause-says : goal.returns-in-Ends-clause-says
 returns-in-Ends-clause-says c =
