@@ -244,11 +244,11 @@ pairs_more es rs x path q hit =
 
 -- ---- fewer records
 
-pub kept_less : (t : Tables) (source : AccountId) (rs new : List Record) (capacity other n : ℕ) → IsKept t source rs capacity → new ≡ take n rs → other ≡ capacity
-    → IsKept (record t { path = None }) source new other
-kept_less t source rs new capacity other n h cut same = record {
+pub kept_less : (t : Tables) (gone : Option (List ℕ)) (source : AccountId) (rs new : List Record) (capacity other n : ℕ) → IsKept t source rs capacity → gone ≡ None → new ≡ take n rs
+    → other ≡ capacity → IsKept (record t { path = gone }) source new other
+kept_less t gone source rs new capacity other n h none cut same = record {
   ready = record { nodes = h.ready.nodes; addresses = h.ready.addresses; taken = h.ready.taken; used = h.ready.used; deepest = h.ready.deepest };
-  current = current_none (record t { path = None }) new refl;
+  current = current_none (record t { path = gone }) new none;
   addresses = h.addresses;
   fits = subst (λ (xs : List Record). AllByRecursion (IsFit (spots t.entries.now)) xs) (sym cut) (all_take (IsFit (spots t.entries.now)) n rs h.fits);
   distinct =

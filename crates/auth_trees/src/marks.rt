@@ -120,7 +120,7 @@ impl<'a> Marks<'a> {
         requires { to.pairs ≤ length self.old.pairs }
         ensures { self.new ≡ restored to.pairs self.old }
     {
-        self.tables.path = None;
+        self.tables.path.forget();
         self.records.truncate(to.pairs);
     }
 }

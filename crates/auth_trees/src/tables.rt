@@ -1,6 +1,6 @@
 //! What is known of the entries, and of their nodes that met demands.
 
-ghost use Rattle.std.specs.Prelude.{◌≡◌, ℕ, ◌<◌, ◌≤◌, length, map, slice_set, All, IfOk, Decides, Some, None, true, false};
+ghost use Rattle.std.specs.Prelude.{◌≡◌, ℕ, ◌<◌, ◌≤◌, length, map, slice_set, All, IfOk, Some, None, true, false};
 ghost use Rattle.std.specs.Prelude.{if◌then◌else◌};
 ghost use Rattle.std.specs.List.{slice_index_or};
 ghost use Rattle.auth_trees.specs.Pairs.{is_below};
@@ -9,7 +9,7 @@ ghost use Rattle.auth_trees.specs.Ready.{IsReady, IsMarked, IsCurrent};
 
 use crate::entries::authorisers;
 use crate::nodes::{Node, list_entries};
-use crate::records::{Path, Record, is_below};
+use crate::records::{KnownPath, Record, is_below};
 use auth_types::AuthEntry;
 use std::alloc::Global;
 use value_types::{AccountId, ScAddress};
@@ -24,7 +24,7 @@ pub(crate) struct Tables<'a> {
     /// The nodes of all entries: each before its children, these in order.
     pub nodes: Vec<Node<'a>>,
     /// The path for which the rest is that of the records. It is `None` if the rest has to be computed anew.
-    pub path: Option<Path>,
+    pub path: KnownPath,
     /// Whether each node has a record.
     pub taken: Vec<bool>,
     /// Whether each entry has a record.
@@ -143,11 +143,12 @@ pub(crate) fn prepare<'a>(
     let taken = vec![in alloc; false; nodes.len()]?;
     let used = vec![in alloc; false; entries.len()]?;
     let deepest = vec![in alloc; None; entries.len()]?;
+    let path = KnownPath::none(alloc)?;
     Ok(Tables {
         entries,
         addresses,
         nodes,
-        path: None,
+        path,
         taken,
         used,
         deepest,
@@ -171,17 +172,7 @@ fn mark_anew(tables: &mut Tables<'_>, records: &[Record], path: &[u64])
     mark_nodes(&mut tables.taken, records);
     mark_entries(&mut tables.used, records);
     tables.any = find_deepest(&mut tables.deepest, records, path);
-    tables.path = Some(Path::new(path));
-}
-
-/// Whether tables are marked for a path.
-fn is_marked(known: &Option<Path>, path: &[u64]) -> bool
-    ensures { Decides result (known.now ≡ Some path.now) }
-{
-    match known {
-        None => false,
-        Some(known) => known.as_slice() == path,
-    }
+    tables.path.set(path);
 }
 
 /// Marks what has a record, and finds the deepest node of each entry above a path, unless the tables are marked for it.
@@ -198,7 +189,7 @@ pub(crate) fn mark(tables: &mut Tables<'_>, records: &[Record], path: &[u64])
     ensures addresses { tables.new.addresses.items ≡ tables.old.addresses.items }
     ensures nodes { tables.new.nodes.items ≡ tables.old.nodes.items }
 {
-    if !is_marked(&tables.path, path) {
+    if !tables.path.is(path) {
         mark_anew(tables, records, path);
     }
 }

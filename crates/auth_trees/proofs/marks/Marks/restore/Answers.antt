@@ -6,7 +6,7 @@ use Rattle.auth_trees.proofs.Keeping.{kept_less, pairs_less}
 use Rattle.auth_trees.proofs.marks.Marks.restore.Goals as goal
 
 pub invariant_of-self : goal.invariant_of-self
-invariant_of-self c = kept_less c.self.inside.tables c.self.inside.source c.self.inside.records.items c.truncate.new.self.items _ _ c.args.to.pairs c.self.invariant c.truncate.ensures.items c.truncate.ensures.capacity
+invariant_of-self c = kept_less c.self.inside.tables c.forget.new.self c.self.inside.source c.self.inside.records.items c.truncate.new.self.items _ _ c.args.to.pairs c.self.invariant c.forget.ensures c.truncate.ensures.items c.truncate.ensures.capacity
 
 pub returns : goal.returns
 returns c =
