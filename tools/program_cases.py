@@ -4,15 +4,18 @@
 python3 tools/program_cases.py PROGRAM TABLE..
 
 docs/CASES.md has the form of a table. Of each command the exit code, every byte of the output, and every file in its folder
-are compared with the expected outcome. Cases with failing calls are left out: no real file fails at a chosen call. So are cases
+are compared with the expected outcome. At a fault the standard error has the name of the file and a reason, else it is empty.
+Cases with failing calls are left out: no real file fails at a chosen call. So are cases
 whose clusters meet: the program's gate lets all through. Prints each case that fails. The last line counts, and the status is 0
 only if there are cases and all hold.
 """
+import ctypes
 import os
 import pathlib
 import re
 import resource
 import shutil
+import signal
 import subprocess
 import sys
 import tempfile
@@ -26,6 +29,8 @@ LONG = (1 << 30) + 1
 # A file of this size or more is not read. It counts as the same if its size and its time are.
 TOO_LONG = 1 << 28
 HASHED = re.compile(r"\d+ bytes, SHA-256 [0-9a-f]{64}")
+# By prctl(2) and capabilities(7): a process gives up the rights by which root reads and writes files against their modes.
+DROP_RIGHT, RIGHTS_OF_ROOT = 24, (1, 2)
 # The longest text of a case that fails, in characters, and the longest output, in lines, that is printed whole.
 WIDEST, LONGEST = 400, 12
 
@@ -83,6 +88,8 @@ class Folder:
     def __init__(self, path):
         self.path = path
         self.known = self.look()
+        # The modes that were set, by name.
+        self.modes = {}
 
     def look(self):
         """Returns all that stands in the folder, by name."""
@@ -102,11 +109,21 @@ class Folder:
             path.unlink()
         path.parent.mkdir(parents=True, exist_ok=True)
         self.known.pop(name, None)
+        self.modes.pop(name, None)
         return path
 
     def put(self, name, bytes_):
         self.place(name).write_bytes(bytes_)
         self.known[name] = bytes_
+
+    def set_mode(self, name, mode):
+        (self.path / name).chmod(mode)
+        self.modes[name] = mode
+
+    def other_modes(self):
+        """Returns lines about the names whose mode is no longer the one that was set."""
+        now = {name: (self.path / name).stat().st_mode & 0o7777 for name in self.modes if (self.path / name).exists()}
+        return [f"expected {name} with the mode {mode:o}" for name, mode in self.modes.items() if now.get(name) != mode]
 
     def put_other(self, kind, name, rest):
         """Puts there what is no file with bytes."""
@@ -115,6 +132,8 @@ class Folder:
             path.mkdir()
         elif kind == "link":
             path.symlink_to(rest)
+        elif kind == "twin":
+            path.hardlink_to(self.path / rest)
         else:
             with open(path, "wb") as file:
                 file.truncate(int(rest or LONG))
@@ -127,17 +146,22 @@ class Folder:
 
     def undo(self, changes):
         for name in changes:
-            old = self.known.get(name)
+            old, mode = self.known.get(name), self.modes.get(name)
             self.place(name)
             if isinstance(old, bytes):
                 self.put(name, old)
+            if mode is not None:
+                self.set_mode(name, mode)
 
 
 class Outcome:
-    """What a command left: its exit code, its output, and the changed files in the order of the command's words."""
+    """What a command left: its exit code, its output, the changed files in the order of the command's words, and its reasons.
 
-    def __init__(self, code, said, stored):
-        self.code, self.said, self.stored = code, said, stored
+    The reasons are the lines of the standard error. Of an expected outcome they are None if only the faulty name is known.
+    """
+
+    def __init__(self, code, said, stored, reasons, faulty=""):
+        self.code, self.said, self.stored, self.reasons, self.faulty = code, said, stored, reasons, faulty
 
     def differs(self, expected):
         """Returns what differs from the expected outcome: lines that say what was expected and what came."""
@@ -148,12 +172,20 @@ class Outcome:
             at = first_difference(expected.said, self.said)
             lines += [f"expected {len(expected.said)} bytes of output, and came {len(self.said)}. They differ from byte {at} on"]
             lines += [f"expected {shown(expected.said[at:])}", f"came     {shown(self.said[at:])}"]
+        if not self.gives_reasons(expected):
+            wanted = [f"{expected.faulty}: .." if expected.faulty else "none"] if expected.reasons is None else expected.reasons
+            lines += [f"expected the reasons {'; '.join(wanted)}", f"came     {'; '.join(self.reasons) or 'none'}"]
         names, wanted = [name for name, _ in self.stored], [name for name, _ in expected.stored]
         if names != wanted:
             return lines + [f"expected stores of {', '.join(wanted) or 'nothing'}", f"came     {', '.join(names) or 'none'}"]
         for (name, came), (_, want) in zip(self.stored, expected.stored):
             lines += stored_differs(name, came, want)
         return lines
+
+    def gives_reasons(self, expected):
+        if expected.reasons is not None or not expected.faulty:
+            return self.reasons == (expected.reasons or [])
+        return len(self.reasons) == 1 and self.reasons[0].startswith(expected.faulty + ": ")
 
 
 def stored_differs(name, came, want):
@@ -188,8 +220,9 @@ def expected_outcome(names, lines):
         raise Unclear("an exit code")
     code, rest = int(found[1]), found[2]
     # At a fault, the name of the faulty file stands in quotes. A program says it in its line alone.
-    rest = re.sub(r"^'[^']*'(?: |$)", "", rest) if rest and code == 4 else rest
-    said, stored = b"", []
+    quoted = re.match(r"'([^']*)'(?: |$)", rest) if rest and code == 4 else None
+    faulty, rest = (quoted[1], rest[quoted.end() :]) if quoted else ("", rest)
+    said, stored, reasons = b"", [], None
     for line in [rest, *lines[1:]] if rest else lines[1:]:
         word, _, more = line.partition(" ")
         if word == "stores":
@@ -197,11 +230,13 @@ def expected_outcome(names, lines):
             stored.append((name, text if HASHED.fullmatch(text) else spelled(names, text)))
         elif word == "removes":
             stored.append((more, None))
+        elif word == "reason":
+            reasons = [*(reasons or []), more]
         elif word == "prints":
             said += names[more]
         else:
             said += with_digits(names, line).encode() + b"\n"
-    return Outcome(code, said[:-6] if said.endswith(b"[cut]\n") else said, stored)
+    return Outcome(code, said[:-6] if said.endswith(b"[cut]\n") else said, stored, reasons, faulty)
 
 
 class Table:
@@ -216,7 +251,7 @@ class Table:
 
     def forget(self):
         """What a line says of the next command alone."""
-        self.fails, self.output, self.memory, self.input = False, None, None, None
+        self.fails, self.output, self.memory, self.size, self.input, self.is_plain = False, None, None, None, None, False
 
     def define(self, kind, rest, below):
         name, _, text = (rest if kind == "text" else without_remark(rest)).partition(" ")
@@ -237,8 +272,10 @@ class Table:
             self.folder.put(name, hex_file(self.data / more))
         elif kind == "copy":
             self.folder.put(name, (self.data / more).read_bytes())
-        elif kind in ("long", "sparse", "folder", "link"):
+        elif kind in ("long", "sparse", "folder", "link", "twin"):
             self.folder.put_other(kind, name, more)
+        elif kind == "mode":
+            self.folder.set_mode(name, int(more, 8))
         elif kind == "no":
             self.folder.place(name)
         elif kind == "use":
@@ -249,6 +286,10 @@ class Table:
             self.output = name
         elif kind == "memory":
             self.memory = int(name)
+        elif kind == "size":
+            self.size = int(name)
+        elif kind == "plain":
+            self.is_plain = True
         elif kind == "input":
             self.input = spelled(self.names, rest)
         else:
@@ -264,19 +305,29 @@ class Table:
                 shutil.copytree(path, self.folder.path / path.name)
         self.folder.known = self.folder.look()
 
+    def limit(self):
+        """What the program's process may take and do."""
+        if self.memory:
+            resource.setrlimit(resource.RLIMIT_AS, (self.memory, self.memory))
+        if self.size is not None:
+            signal.signal(signal.SIGXFSZ, signal.SIG_IGN)
+            resource.setrlimit(resource.RLIMIT_FSIZE, (self.size, self.size))
+        if self.is_plain and os.geteuid() == 0:
+            for right in RIGHTS_OF_ROOT:
+                ctypes.CDLL(None).prctl(DROP_RIGHT, right, 0, 0, 0)
+
     def start(self, words):
-        """Runs the program, and returns its exit code and its output."""
-        limit = (lambda: resource.setrlimit(resource.RLIMIT_AS, (self.memory, self.memory))) if self.memory else None
-        how = {"cwd": self.folder.path, "stderr": subprocess.PIPE, "timeout": SECONDS, "preexec_fn": limit}
+        """Runs the program, and returns its exit code, its output and its reasons."""
+        how = {"cwd": self.folder.path, "stderr": subprocess.PIPE, "timeout": SECONDS, "preexec_fn": self.limit}
         how.update({"stdin": subprocess.DEVNULL} if self.input is None else {"input": self.input})
         with open(self.output or os.devnull, "wb") as output:
             ran = subprocess.run([self.program, *words], stdout=output if self.output else subprocess.PIPE, **how)
-        return ran.returncode, (ran.stdout or b"") + ran.stderr
+        return ran.returncode, ran.stdout or b"", ran.stderr.decode("utf-8", "replace").splitlines()
 
     def run(self, words):
-        """Runs a command, and returns its outcome."""
-        code, said = self.start(words)
-        changes = self.folder.changes()
+        """Runs a command, and returns its outcome, and lines about modes that it changed."""
+        code, said, reasons = self.start(words)
+        changes, modes = self.folder.changes(), self.folder.other_modes()
         order = [word.decode("utf-8", "replace").partition("=")[2] or word.decode("utf-8", "replace") for word in words]
         order = [name for name in dict.fromkeys(order) if name in changes]
         stored = [(name, changes[name]) for name in [*order, *sorted(set(changes) - set(order))]]
@@ -284,7 +335,7 @@ class Table:
             self.folder.known.update(changes)
         else:
             self.folder.undo(changes)
-        return Outcome(code, said, stored)
+        return Outcome(code, said, stored, reasons), modes
 
     def judge(self, line, below):
         """Runs a command and compares its outcome. Returns lines that say what differs."""
@@ -301,7 +352,8 @@ class Table:
         if self.fails:
             self.left_out += 1
             return []
-        lines = self.run(words_of(self.names, rest)).differs(expected_outcome(self.names, expected))
+        outcome, modes = self.run(words_of(self.names, rest))
+        lines = outcome.differs(expected_outcome(self.names, expected)) + modes
         self.held += not lines
         return lines
 

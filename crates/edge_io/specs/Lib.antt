@@ -1,5 +1,6 @@
 pub mod Contents
 pub mod Counts
+pub mod Disk
 pub mod LastFile
 pub mod MemFiles
 pub mod MemSay

@@ -3,6 +3,7 @@
 #![tactic(auto)]
 
 mod blob;
+mod disk;
 mod failed;
 mod files;
 mod gate;
@@ -11,12 +12,14 @@ mod meet;
 mod mem_files;
 mod mem_say;
 mod real;
+mod real_disk;
 mod say;
 mod turns;
 mod whole;
 mod word;
 
 pub use blob::Blob;
+pub use disk::{Disk, replace};
 pub use failed::{EdgeErr, Failed, ReadErr};
 pub use files::Files;
 pub use gate::{Gate, OpenGate};

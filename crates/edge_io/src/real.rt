@@ -4,22 +4,39 @@ ghost use Rattle.std.specs.Prelude.{◌≡◌, ◌<◌, ℕ, ◌≤◌, length, 
 ghost use Rattle.std.specs.Prelude.{OnErr};
 ghost use Rattle.std.specs.Io.KnownBytes.{Appends};
 ghost use Rattle.edge_io.specs.Contents.{IsThere, Reads, Stores};
-ghost use Rattle.edge_io.specs.Counts.{ChangesOnlyCount, OnFailed, RaisesOnly, Rose, raised};
+ghost use Rattle.edge_io.specs.Counts.{ChangesOnlyCount, OnFailed, RaisesOnly, Rose, UnlessFailed, raised};
 ghost use Rattle.edge_io.specs.Text.{Says};
 
+use crate::disk::replace;
 use crate::last_file::{Handle, LastFile};
+use crate::real_disk::{BESIDE, RealDisk, follow, write_whole};
 use crate::turns::raise;
 use crate::{EdgeErr, Failed, Files, Say, Word};
 use std::alloc::{AllocError, Global};
+use std::fs::Permissions;
 use std::io::Write;
+use std::os::unix::fs::MetadataExt;
 use std::{fs, io, rt};
 
-/// The operating system's files.
+/// The operating system's files. The reason of a failed call goes to the standard error.
 #[derive(Drop)]
 pub struct RealFiles<R: rt::Files + Drop> {
     rt: R,
+    alloc: Global,
     counts: [u64; 8],
     last: LastFile<R::File>,
+    // The path of the file that is stored, and the name of the file beside it.
+    path: String,
+    beside: String,
+}
+
+/// How a file is stored.
+#[derive(Drop)]
+enum Way {
+    /// What is at the name is written over: it is no plain file, or it has other names, too.
+    InPlace,
+    /// The plain file at the name is replaced by one with this mode. None: no file is there.
+    Replace(Option<Permissions>),
 }
 
 /// Standard output.
@@ -29,19 +46,22 @@ pub struct StdSay<R: Print + Drop> {
     count: u64,
 }
 
-impl<R: rt::Files + Drop> RealFiles<R> {
+impl<R: rt::Files + Eprint + Drop> RealFiles<R> {
     ghost use Rattle.edge_io.specs.LastFile.{kept_of, IsBehind};
 
     /// Files without failed calls and without an open file. `longest` is the length of the longest file name in bytes. This call
-    /// takes the room for it, and no later call takes memory: a lack of memory is never a failed call. A file with a longer name
-    /// is not kept open, so each of its pieces opens it again.
+    /// takes the room for it. Later only a store takes memory, to a symbolic link or a longer name: a lack of memory is never a
+    /// failed call. A file with a longer name is not kept open, so each of its pieces opens it again.
     pub fn new(rt: R, alloc: Global, longest: usize) -> Result<RealFiles<R>, AllocError>
         ensures { IfOk result (λ files. (file : ℕ) → ⟦<RealFiles<R> as Files>⟧.faults files file ≡ 0) }
     {
         Ok(RealFiles {
             rt,
+            alloc,
             counts: [0; 8],
             last: LastFile::new(alloc, longest)?,
+            path: String::with_capacity(alloc, longest)?,
+            beside: String::with_capacity(alloc, longest.saturating_add(BESIDE))?,
         })
     }
 
@@ -61,26 +81,58 @@ impl<R: rt::Files + Drop> RealFiles<R> {
         Ok(n)
     }
 
-    /// Creates or empties a file, and writes its bytes. Closes the open file first.
-    fn write_file(&mut self, name: &Word, bytes: &[u8]) -> io::Result<()>
-        ensures none { kept_of self.new.last ≡ None }
+    /// How the file of a name is stored, and the path of the file that is replaced. Changes no file.
+    fn find_way(&mut self, name: &Word) -> io::Result<Way>
+        ensures last { self.new.last ≡ self.old.last }
         ensures counts { self.new.counts ≡ self.old.counts }
     {
-        self.last.close();
-        let mut file = fs::create(&self.rt, name.as_str())?;
-        write_whole(&mut file, bytes)
+        let name = name.as_str();
+        let mode = match fs::metadata(&self.rt, name) {
+            Ok(about) if !about.is_file() || about.nlink() != 1 => return Ok(Way::InPlace),
+            Ok(about) => Some(about.permissions()),
+            Err(error) if error.kind() == io::ErrorKind::NotFound => None,
+            Err(error) => return Err(error),
+        };
+        self.path.clear();
+        self.path.push_str(name)?;
+        follow(&self.rt, self.alloc, &mut self.path)?;
+        self.beside.clear();
+        self.beside.reserve(self.path.len().saturating_add(BESIDE))?;
+        if mode.is_some() {
+            // A file that may not be written is not replaced.
+            fs::OpenOptions::new()
+                .write(true)
+                .open(&self.rt, self.path.as_str())?;
+        }
+        Ok(Way::Replace(mode))
+    }
+
+    /// Stores the bytes.
+    fn write_file(&mut self, name: &Word, way: Way, bytes: &[u8]) -> io::Result<()>
+        ensures last { self.new.last ≡ self.old.last }
+        ensures counts { self.new.counts ≡ self.old.counts }
+    {
+        match way {
+            Way::InPlace => {
+                let mut file = fs::create(&self.rt, name.as_str())?;
+                write_whole(&mut file, bytes)
+            }
+            Way::Replace(mode) => {
+                let mut disk = RealDisk::new(&self.rt, self.path.as_str(), mode, &mut self.beside);
+                replace(&mut disk, bytes)
+            }
+        }
     }
 }
 
-/// Writes all of the bytes.
-fn write_whole<W: Write>(out: &mut W, bytes: &[u8]) -> io::Result<()>
-    ensures { OnOk result (Appends (W.contents out.old) (W.contents out.new) bytes.now) }
-{
-    out.write_all(bytes)
-}
-
-/// The outcome of a call for a file option. Counts a failure.
-fn counted<T>(counts: &mut [u64; 8], file: u8, outcome: io::Result<T>) -> Result<T, Failed>
+/// The outcome of a call for a file option. Counts a failure, and says its reason on the standard error.
+fn counted<T>(
+    rt: &impl Eprint,
+    counts: &mut [u64; 8],
+    file: u8,
+    name: &Word,
+    outcome: io::Result<T>,
+) -> Result<T, Failed>
     requires { file < 8 }
     ensures ok { IfOk result (λ x. outcome ≡ Ok x) }
     ensures raised { OnErr result (RaisesOnly file (λ k. slice_index counts.old k) (λ k. slice_index counts.new k)) }
@@ -89,7 +141,8 @@ fn counted<T>(counts: &mut [u64; 8], file: u8, outcome: io::Result<T>) -> Result
 {
     match outcome {
         Ok(value) => Ok(value),
-        Err(_) => {
+        Err(error) => {
+            let _ = eprintln!(rt; "{}: {error}", name.as_str());
             raise(counts, file);
             Err(Failed)
         }
@@ -121,7 +174,7 @@ impl<R: Print + Drop> StdSay<R> {
     }
 }
 
-impl<R: rt::Files + Drop> Files for RealFiles<R> {
+impl<R: rt::Files + Eprint + Drop> Files for RealFiles<R> {
     ghost use Rattle.edge_io.specs.LastFile.{kept_of, IsBehind};
 
     ghost contents = { λ _. None };
@@ -164,7 +217,7 @@ impl<R: rt::Files + Drop> Files for RealFiles<R> {
             → ⟦<RealFiles<R> as Files>⟧.faults self.new k ≡ ⟦<RealFiles<R> as Files>⟧.faults self.old k) }
     {
         let outcome = self.read_at(name, at, buf);
-        counted(&mut self.counts, file, outcome)
+        counted(&self.rt, &mut self.counts, file, name, outcome)
     }
 
     fn store(&mut self, file: u8, name: &Word, bytes: &[u8]) -> Result<(), EdgeErr>
@@ -182,14 +235,21 @@ impl<R: rt::Files + Drop> Files for RealFiles<R> {
         // No file stays open.
         ensures none { kept_of self.new.last ≡ None }
 
-        // The count rises by one exactly if the call fails.
-        ensures raised { OnErr result
+        // The count rises by one exactly if the call returns Failed.
+        ensures raised { OnFailed result
             (RaisesOnly file (⟦<RealFiles<R> as Files>⟧.faults self.old) (⟦<RealFiles<R> as Files>⟧.faults self.new)) }
-        ensures kept { OnOk result ((k : ℕ)
+        ensures kept { UnlessFailed result ((k : ℕ)
             → ⟦<RealFiles<R> as Files>⟧.faults self.new k ≡ ⟦<RealFiles<R> as Files>⟧.faults self.old k) }
     {
-        let outcome = self.write_file(name, bytes);
-        counted(&mut self.counts, file, outcome)?;
+        self.last.close();
+        let outcome = match self.find_way(name) {
+            Ok(way) => self.write_file(name, way, bytes),
+            Err(error) if error.kind() == io::ErrorKind::OutOfMemory => {
+                return Err(EdgeErr::NoMemory);
+            }
+            Err(error) => Err(error),
+        };
+        counted(&self.rt, &mut self.counts, file, name, outcome)?;
         Ok(())
     }
 }
