@@ -61,6 +61,8 @@ if [ -x "$program" ]; then
     check 'program: the options of tools/commands.json' python3 tools/command_table.py check "$program"
     check 'program: the examples of the README' python3 tools/readme_examples.py "$program"
     check 'program: faulty ones fail the tables' python3 tools/test_program_cases.py "$program"
+    check 'program: 300 inputs that are changed by chance' python3 tools/fuzz.py "$program" --count 300
+    check 'program: tools/fuzz.py finds faulty ones' python3 tools/test_fuzz.py "$program"
 else
     check "program: $program is there" false
 fi

@@ -240,7 +240,7 @@ def check_program(table, program):
         def end_soon():
             resource.setrlimit(resource.RLIMIT_CPU, (1, 1))
 
-        ran = subprocess.run([program, *words], stdout=subprocess.PIPE, preexec_fn=end_soon, check=False)
+        ran = subprocess.run([program, *words], stdout=subprocess.PIPE, stderr=subprocess.DEVNULL, preexec_fn=end_soon, check=False)
         return ran.stdout == b"usage\n"
 
     with tempfile.TemporaryDirectory() as folder:
