@@ -79,7 +79,7 @@ failed_without (check ∷ checks) h outcome e = at (failed_without checks h.1 ou
 
 -- ---- results
 
-outcome_kept : (network : Hash) (envelope : Envelope) (outcome : TransactionOutcome) → outcome_in (envelope_outcome network envelope outcome) ≡ outcome
+pub outcome_kept : (network : Hash) (envelope : Envelope) (outcome : TransactionOutcome) → outcome_in (envelope_outcome network envelope outcome) ≡ outcome
 outcome_kept network (envelopes.Transaction signed) outcome = refl
 outcome_kept network (envelopes.FeeBump signed) outcome = at (inner_pair network signed.fee_bump.inner.tx outcome) refl (is_success outcome)
   where
@@ -88,7 +88,7 @@ outcome_kept network (envelopes.FeeBump signed) outcome = at (inner_pair network
     at inner is true = is
     at inner is false = is
 
-result_kept : (entries : LedgerMap) (envelope : Envelope) (run : runs.JudgedRun) → (runs.effect_of entries envelope run).result ≡ run.result
+pub result_kept : (entries : LedgerMap) (envelope : Envelope) (run : runs.JudgedRun) → (runs.effect_of entries envelope run).result ≡ run.result
 result_kept entries envelope run = at run.succeeded
   where
     at : (b : Bool) → (if b then (let d : Effect = record {

@@ -5,6 +5,7 @@ mod Framed
 mod Halves
 pub mod Lemmas
 mod Lengthened
+mod Listed
 mod Recording
 mod Rising
 mod Touching

@@ -8,3 +8,5 @@ pub mod Recorded
 pub mod Simulated
 pub mod SimulationFile
 pub mod SimulatedLaws
+pub mod ListRuns
+pub mod ListLaws

@@ -4,6 +4,7 @@
 ghost use Rattle.apply_spec.specs.Laws.{FramedLaw, ExtensionLaw, InvokeLaw};
 ghost use Rattle.apply_spec.specs.Recorded.{RecordedLaw, OnlyLaw, AllowedLaw, OnceLaw, SmallerLaw};
 ghost use Rattle.apply_spec.specs.SimulatedLaws.{SimulatedLaw, SmallerTrapsLaw};
+ghost use Rattle.apply_spec.specs.ListLaws.{ResimulatedLaw, AgreesLaw, KeptRunLaw, StagesLaw};
 
 /// The effect of a transaction depends on its declared keys alone, and is at those keys alone.
 pub fn step_is_framed()
@@ -35,4 +36,17 @@ pub fn footprints_are_recorded()
 pub fn simulated_is_enforced()
     ensures same { SimulatedLaw }
     ensures smaller { SmallerTrapsLaw }
+{}
+
+/// What is simulated on one ledger is simulated on every ledger that agrees on the recorded keys: the same footprint, effect and
+/// sums. So the run of a listed envelope is kept where the ledger still agrees.
+pub fn kept_runs_are_the_same()
+    ensures same { ResimulatedLaw }
+    ensures agrees { AgreesLaw }
+    ensures kept { KeptRunLaw }
+{}
+
+/// A list of envelopes runs like a set in which each of them is a stage of its own.
+pub fn list_is_set()
+    ensures { StagesLaw }
 {}

@@ -18,7 +18,7 @@ use value_types::Hash;
 use xdr_core::NoMemory;
 
 /// Codes by their hashes.
-pub(crate) type Codes<'a> = BTreeMap<[u8; 32], &'a [u8]>;
+pub type Codes<'a> = BTreeMap<[u8; 32], &'a [u8]>;
 
 /// Returns the code at a key, if the key is that of a code and the ground has its entry.
 fn code_at<'a, G: Ground>(ground: &'a G, key: &LedgerKey) -> Option<Code<'a>>
@@ -92,7 +92,7 @@ fn listed<'a>(alloc: Global, codes: Codes<'a>) -> Result<Vec<Code<'a>>, AllocErr
 }
 
 /// Returns the codes in the order of their hashes.
-pub(crate) fn in_order<'a>(alloc: Global, codes: Codes<'a>) -> Result<Vec<Code<'a>>, AllocError>
+pub fn in_order<'a>(alloc: Global, codes: Codes<'a>) -> Result<Vec<Code<'a>>, AllocError>
     ensures rising { IfOk result (λ list. AreRising list.items) }
     ensures same { IfOk result (λ list. list.items ≡ codes_of codes.entry.entries) }
 {

@@ -4,4 +4,5 @@
 mod found;
 mod stage;
 
+pub use found::{Codes, in_order};
 pub use stage::{cluster_codes, stage_codes};

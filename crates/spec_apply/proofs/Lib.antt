@@ -1,0 +1,4 @@
+mod Crosses
+mod Moves
+mod Names
+mod Passes

@@ -1,0 +1,4 @@
+pub mod Naming
+pub mod Runs
+pub mod Moved
+pub mod Passing
