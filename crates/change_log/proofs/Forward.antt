@@ -13,15 +13,14 @@ use Rattle.std.specs.Prelude.{is_some, ◌⊎◌, ◌||◌, IfSome}
 use Rattle.std.proofs.Common.{◌≡◌, ℕ, Bool, true, false, ◌&&◌, cond, T, List, [], ◌∷◌, ◌++◌, map, Option, Some, None, refl, sym}
 use Rattle.std.proofs.Common.{ap, subst, ◌∙◌, inl, inr}
 use Rattle.ledger_spec.specs.declared.Kept.{Kept}
-use Rattle.ledger_spec.specs.LedgerMap.{LedgerMap, IsLedgerMap, IsKeptAt}
+use Rattle.ledger_spec.specs.LedgerMap.{LedgerMap, IsKeptAt}
 use Rattle.ledger_spec.specs.LedgerFile.{is_above}
-use Rattle.ledger_spec.proofs.Lemmas.{kept_at}
 use Rattle.change_log.specs.Groups.{Group, made, gone, altered, before_of, after_of, bytes_of, keeps_entry, keeps_life, group_at}
 use Rattle.change_log.specs.Groups.{groups_at, keys_of, groups, changes}
 use Rattle.change_log.specs.Read.{rise_after, groups_in}
 use Rattle.change_log.specs.Keys.{IsAfter, Rise, has_key}
 use Rattle.change_log.specs.Play.{is_held, set_to, exchanged, replaced_all, played_list}
-use Rattle.change_log.specs.Fits.{IsKept, IsProper}
+use Rattle.change_log.specs.Fits.{IsKept, IsProper, AreKept}
 use Rattle.change_log.proofs.Regrouping.{groups_in_written}
 use Rattle.change_log.proofs.Back.{order, same_kept, held_itself, get_set, same_maps, antisymmetric}
 
@@ -70,9 +69,9 @@ at_key k (Some old) None is too =
     inr (record { group = gone old; one = refl; bytes = sym is.keyed; before = refl; after = refl; proper = own k old is })
 at_key k (Some old) (Some new) is too = two_at k old new (keeps_entry old new && keeps_life old new) refl is too
 
-found_kept : (m : LedgerMap) (k : List ℕ) (a : Option Kept) → IsLedgerMap m → get m k ≡ a → IfSome a (IsKeptAt k)
+found_kept : (m : LedgerMap) (k : List ℕ) (a : Option Kept) → AreKept m → get m k ≡ a → IfSome a (IsKeptAt k)
 found_kept m k None is e = tt
-found_kept m k (Some kept) is e = kept_at m k kept is e
+found_kept m k (Some kept) is e = is k kept e
 
 -- ---- keys that rise
 
@@ -132,13 +131,13 @@ covered m n q e =
     let split = none_in q (entries m) (entries n) (sym (get-from_entries nat_list_cmp_total (entries m ++ entries n) q) ∙ none) in
     get-entries m q ∙ split.0 ∙ sym (get-entries n q ∙ split.1)
 
-module _ (m n : LedgerMap) (is : IsLedgerMap m) (too : IsLedgerMap n) where
+module _ (m n : LedgerMap) (is : AreKept m) (too : AreKept n) where
   at : (k : List ℕ) → Same (get m k) (get n k) ⊎ Differ k (get m k) (get n k)
   at k = at_key k (get m k) (get n k) (found_kept m k (get m k) is refl) (found_kept n k (get n k) too refl)
 
   -- ---- what holds of the groups
 
-  proper_at : (ks : List (List ℕ)) → AllByRecursion IsProper (groups_at ks m n)
+  pub proper_at : (ks : List (List ℕ)) → AllByRecursion IsProper (groups_at ks m n)
   proper_at [] = tt
   proper_at (k ∷ ks) =
       elim (at k) [

@@ -102,7 +102,8 @@ module _ (f : List ℕ → List Group) where
   same_all [] js = same_none js
   same_all (k ∷ ks) js = same_cons k ks (same_all ks) js
 
-same_none_at : (a b : Option Kept) → a ≡ b → group_at a b ≡ []
+-- where two maps have the same, there is no group
+pub same_none_at : (a b : Option Kept) → a ≡ b → group_at a b ≡ []
 same_none_at a b e = subst (λ (x : Option Kept). group_at a x ≡ []) e (itself a)
   where
     itself : (a : Option Kept) → group_at a a ≡ []

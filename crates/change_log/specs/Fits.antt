@@ -1,12 +1,13 @@
 -- What is read of a log is within its XDR format (own).
-use Rattle.std.specs.Prelude.{◌≡◌, ◌<◌, ◌^◌, ◌&&◌, false}
+use Rattle.std.specs.Prelude.{◌≡◌, ◌<◌, ◌^◌, ◌&&◌, ℕ, false, List, Some}
 use Rattle.std.specs.List.{AllByRecursion}
+use Rattle.std.specs.FinMap.{get}
 use Rattle.value_types.specs.Equality.{is_same}
 use Rattle.ledger_types.specs.Entry.{key_of, entry_format}
 use Rattle.ledger_types.specs.Equality.{coded_entry}
 use Rattle.ledger_types.specs.declared.entry.LedgerEntry.{LedgerEntry}
 use Rattle.ledger_spec.specs.declared.Kept.{Kept}
-use Rattle.ledger_spec.specs.LedgerMap.{key_bytes, IsKeptAt, HasCodeHash}
+use Rattle.ledger_spec.specs.LedgerMap.{LedgerMap, key_bytes, IsKeptAt, HasCodeHash}
 use Rattle.ledger_types.specs.Key.{key_format}
 use Rattle.change_log.specs.declared.entry.LoggedEntry.{LoggedEntry}
 use Rattle.change_log.specs.declared.entry.LoggedEntry.TheVariants.{Entry, Ttl}
@@ -30,6 +31,10 @@ FitsChange (State entry) = FitsEntry entry
 -- an entry at its own key
 abbrev pub IsKept : Kept → Type 0
 IsKept kept = IsKeptAt (key_bytes (key_of kept.entry)) kept
+
+-- each entry of a map is at its key
+abbrev pub AreKept : LedgerMap → Type 0
+AreKept m = (key : List ℕ) (kept : Kept) → get m key ≡ Some kept → IsKeptAt key kept
 
 -- an entry that can be kept, with some live-until ledger
 pub record IsEntry (entry : LedgerEntry) : Type 0 where

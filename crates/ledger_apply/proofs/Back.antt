@@ -2,7 +2,7 @@
 use Rattle.std.specs.FinMap.{get}
 use Rattle.std.specs.List.{AllByRecursion, fold}
 use Rattle.std.specs.Prelude.{Ok, IfOk, Result}
-use Rattle.std.proofs.Common.{◌≡◌, ℕ, suc, false, List, [], ◌∷◌, ◌++◌, All, map, None, sym, ap, ap₂, subst, ◌∙◌}
+use Rattle.std.proofs.Common.{◌≡◌, ℕ, suc, Bool, false, List, [], ◌∷◌, ◌++◌, All, map, None, sym, ap, ap₂, subst, ◌∙◌}
 use Rattle.std.proofs.lemmas.List.{append_assoc, append-nil}
 use Rattle.std.proofs.lemmas.List.Elements.{All-from_recursion, recursion_from_All}
 use Rattle.ledger_parts.specs.Shown.{is_read}
@@ -15,6 +15,7 @@ use Rattle.stage_runs.specs.Parts.{run_owned_all, own_back, owns_back}
 use Rattle.ledger_parts.specs.Cut.{runs_over}
 use Rattle.ledger_parts.proofs.Lemmas.{seen_run}
 use Rattle.stage_runs.proofs.Lemmas.{owned_untouched}
+use Rattle.change_log.specs.Log.{Changes}
 use Rattle.ledger_apply.specs.State.{between, done_in, pending_of, reports_of, IsKeyed}
 use Rattle.ledger_apply.specs.Job.{cluster_of, own_of, IsCut, IsRun, IsRunOn, AreDone, back, IsMovedOf}
 use Rattle.ledger_apply.specs.declared.running.ClusterDone.{ClusterDone}
@@ -22,17 +23,17 @@ use Rattle.ledger_apply.specs.declared.job.Job.{Job}
 use Rattle.xdr_core.specs.declared.error.NoMemory.{NoMemory}
 use Rattle.ledger_apply.proofs.Moved.{kept_whole}
 
-module _ (step : Step) (laws : IsFramed step) (lent : LedgerMap) where
+module _ (step : Step) (laws : IsFramed step) (logs : Bool) (lent : LedgerMap) where
   -- what the run of a part's cluster is
-  ran : (x y : Job) (d : ClusterDone) → IsCut x → IsMovedOf lent (cluster_of x) → IsRun step lent x y → y.done ≡ Ok d
+  ran : (x y : Job) (d : ClusterDone) → IsCut x → IsMovedOf lent (cluster_of x) → IsRun step logs lent x y → y.done ≡ Ok d
       → run_owned_all step lent (start (own_of x)) (cluster_of x) ≡ done_in (own_of y) d
   ran x y d cut moved run ok =
-      let here : IsRunOn step lent (cluster_of x) (own_of x) (done_in (own_of y) d) =
-      subst (λ (r : Result ClusterDone NoMemory). IfOk r (λ e. IsRunOn step lent (cluster_of x) (own_of x) (done_in (own_of y) e))) ok run.run in
+      let here : IsRunOn step logs lent (cluster_of x) (own_of x) (done_in (own_of y) d) x.log.items y.log.items =
+      subst (λ (r : Result ClusterDone NoMemory). IfOk r (λ e. IsRunOn step logs lent (cluster_of x) (own_of x) (done_in (own_of y) e) x.log.items y.log.items)) ok run.run in
       sym (here.run ∙ seen_run step laws (is_read here.keys) lent (cluster_of x) (own_of x) here.reads moved)
 
   -- it changed nothing at other keys
-  none_else : (x y : Job) (d : ClusterDone) → IsCut x → IsMovedOf lent (cluster_of x) → IsRun step lent x y → y.done ≡ Ok d
+  none_else : (x y : Job) (d : ClusterDone) → IsCut x → IsMovedOf lent (cluster_of x) → IsRun step logs lent x y → y.done ≡ Ok d
       → (q : Bytes) → writes_in (cluster_of y) q ≡ false → get (own_of y) q ≡ None
   none_else x y d cut moved run ok q w =
       let none : writes_in (cluster_of x) q ≡ false = ap (λ (c : Cluster). writes_in c q) (sym run.same) ∙ w in
@@ -41,13 +42,13 @@ module _ (step : Step) (laws : IsFramed step) (lent : LedgerMap) where
   abbrev after : RunState → LedgerMap → List Extension → List Reported → RunState
   after s m p r = record { entries = m; pending = s.pending ++ p; results = s.results ++ r }
 
-  one_back : (x y : Job) (d : ClusterDone) → IsCut x → IsMovedOf lent (cluster_of x) → IsRun step lent x y → y.done ≡ Ok d → (s : RunState)
+  one_back : (x y : Job) (d : ClusterDone) → IsCut x → IsMovedOf lent (cluster_of x) → IsRun step logs lent x y → y.done ≡ Ok d → (s : RunState)
       → own_back s (run_owned_all step lent (start (own_of x)) (cluster_of x)) ≡ after s (back s.entries y) d.pending.items d.reports
   one_back x y d cut moved run ok s =
       ap (own_back s) (ran x y d cut moved run ok)
       ∙ ap (λ (m : LedgerMap). after s (laid_over m s.entries) d.pending.items d.reports) (sym (kept_whole (own_of y) (cluster_of y) (none_else x y d cut moved run ok)))
 
-  pub all_back : (i : ℕ) (xs ys : List Job) (ds : List ClusterDone) → IsWorked (λ _ x y. IsRun step lent x y) i xs ys → AllByRecursion IsCut xs
+  pub all_back : (i : ℕ) (xs ys : List Job) (ds : List ClusterDone) → IsWorked (λ _ x y. IsRun step logs lent x y) i xs ys → AllByRecursion IsCut xs
       → AllByRecursion (λ x. IsMovedOf lent (cluster_of x)) xs → AreDone ys ds → (s : RunState)
       → owns_back s (runs_over step lent (map own_of xs) (map cluster_of xs)) ≡ after s (fold back s.entries ys) (pending_of ds) (reports_of ds)
   all_back i [] [] [] w cut moved done s = ap₂ (λ (p : List Extension) (r : List Reported). let t : RunState = record { entries = s.entries; pending = p; results = r } in t) (sym (append-nil s.pending)) (sym (append-nil s.results))
@@ -62,15 +63,22 @@ module _ (step : Step) (laws : IsFramed step) (lent : LedgerMap) where
       ∙ ap₂ (λ (p : List Extension) (r : List Reported). let t : RunState = record { entries = fold back (back s.entries y) ys; pending = p; results = r } in t)
       (append_assoc s.pending d.pending.items (pending_of ds)) (append_assoc s.results d.reports (reports_of ds))
 
+  -- the map before the end of the stage, after all parts came back
+  pub back_entries : (xs ys : List Job) (ds : List ClusterDone) → IsWorked (λ _ x y. IsRun step logs lent x y) 0 xs ys → All IsCut xs
+      → AllByRecursion (λ x. IsMovedOf lent (cluster_of x)) xs → AreDone ys ds → (before : List Reported)
+      → fold back lent ys ≡ (owns_back (between lent before) (runs_over step lent (map own_of xs) (map cluster_of xs))).entries
+  back_entries xs ys ds w cut moved done before =
+      ap (λ (s : RunState). s.entries) (sym (all_back 0 xs ys ds w (recursion_from_All IsCut xs cut) moved done (between lent before)))
+
   -- the end of the stage after all parts came back
-  pub all_ended : (xs ys : List Job) (ds : List ClusterDone) → IsWorked (λ _ x y. IsRun step lent x y) 0 xs ys → All IsCut xs
+  pub all_ended : (xs ys : List Job) (ds : List ClusterDone) → IsWorked (λ _ x y. IsRun step logs lent x y) 0 xs ys → All IsCut xs
       → AllByRecursion (λ x. IsMovedOf lent (cluster_of x)) xs → AreDone ys ds → (before : List Reported)
       → between (put_all_in (fold back lent ys) (pending_of ds)) (before ++ reports_of ds)
       ≡ ended (owns_back (between lent before) (runs_over step lent (map own_of xs) (map cluster_of xs)))
   all_ended xs ys ds w cut moved done before =
       ap ended (sym (all_back 0 xs ys ds w (recursion_from_All IsCut xs cut) moved done (between lent before)))
 
-  each_keyed : (i : ℕ) (xs ys : List Job) (ds : List ClusterDone) → IsWorked (λ _ x y. IsRun step lent x y) i xs ys → AreDone ys ds → AllByRecursion IsKeyed ds
+  each_keyed : (i : ℕ) (xs ys : List Job) (ds : List ClusterDone) → IsWorked (λ _ x y. IsRun step logs lent x y) i xs ys → AreDone ys ds → AllByRecursion IsKeyed ds
   each_keyed i xs [] [] w done = tt
   each_keyed i xs [] (d ∷ ds) w done = absurd done
   each_keyed i [] (y ∷ ys) ds w done = absurd w
@@ -78,13 +86,15 @@ module _ (step : Step) (laws : IsFramed step) (lent : LedgerMap) where
   each_keyed i (x ∷ xs) (y ∷ ys) (d ∷ ds) w done =
       (subst (λ (r : Result ClusterDone NoMemory). IfOk r IsKeyed) done.0 w.0.keyed, each_keyed (suc i) xs ys ds w.1 done.1)
 
-  pub all_keyed : (i : ℕ) (xs ys : List Job) (ds : List ClusterDone) → IsWorked (λ _ x y. IsRun step lent x y) i xs ys → AreDone ys ds → All IsKeyed ds
+  pub all_keyed : (i : ℕ) (xs ys : List Job) (ds : List ClusterDone) → IsWorked (λ _ x y. IsRun step logs lent x y) i xs ys → AreDone ys ds → All IsKeyed ds
   all_keyed i xs ys ds w done = All-from_recursion IsKeyed ds (each_keyed i xs ys ds w done)
 
 -- the same run, of entries that are told in another way
-pub run_on_same : {step : Step} {lent : LedgerMap} {cluster : Cluster} {own own' : LedgerMap} {ran : RunState} → own ≡ own'
-    → IsRunOn step lent cluster own ran → IsRunOn step lent cluster own' ran
-run_on_same {step} {lent} {cluster} {own} {own'} {ran} e run = subst (λ (m : LedgerMap). IsRunOn step lent cluster m ran) e run
+pub run_on_same : {step : Step} {logs : Bool} {lent : LedgerMap} {cluster : Cluster} {own own' : LedgerMap} {ran : RunState}
+    {old new : List Changes} → own ≡ own'
+    → IsRunOn step logs lent cluster own ran old new → IsRunOn step logs lent cluster own' ran old new
+run_on_same {step} {logs} {lent} {cluster} {own} {own'} {ran} {old} {new} e run =
+    subst (λ (m : LedgerMap). IsRunOn step logs lent cluster m ran old new) e run
 
 -- one more job that is done
 pub done_more : (js : List Job) (ds : List ClusterDone) (j : Job) (d : ClusterDone) → AreDone js ds → j.done ≡ Ok d → AreDone (js ++ j ∷ []) (ds ++ d ∷ [])

@@ -11,7 +11,10 @@ use Rattle.ledger_types.proofs.header.Header.TheSendSync as header
 use Rattle.ledger_types.proofs.verdicts.Verdicts.TheSendSync as verdicts
 use Rattle.code_cache.proofs.Lemmas.{cache_sync}
 use Rattle.value_types.proofs.items.Items.TheSendSync as items
-use Rattle.ledger_parts.proofs.Lemmas.{envelope_sync, extension_send, key_sync, map_send, map_sync, success_send}
+use Rattle.ledger_parts.proofs.Lemmas.{entry_send, envelope_sync, extension_send, key_send, key_sync, map_send, map_sync, success_send}
+use Rattle.ledger_types.proofs.record.TtlEntry.TheSendSync as ttl
+use Rattle.change_log.specs.contracts.entry.LoggedEntry as LoggedEntry
+use Rattle.change_log.specs.contracts.change.LedgerEntryChange as LedgerEntryChange
 use Rattle.ledger_apply.specs.contracts.reports.Reports as Reports
 use Rattle.ledger_apply.specs.contracts.running.ClusterDone as ClusterDone
 use Rattle.ledger_apply.specs.contracts.job.Job as Job
@@ -29,8 +32,14 @@ reports_send = search (success_send, pair.the_field_send, option.the_send, heap_
 pub done_send : IsSend (ClusterDone.the_field).row
 done_send = search (reports_send, extension_send, heap_crosses, sendable) depth 20 fits 5000
 
+pub logged_send : IsSend (LoggedEntry.the_field).row
+logged_send = search (entry_send, ttl.the_field_send, sendable) depth 20 fits 5000
+
+pub change_send : IsSend (LedgerEntryChange.the_field).row
+change_send = search (logged_send, key_send, sendable) depth 20 fits 5000
+
 pub job_send : (a : NamedLft) → IsSend (Job.the_field a).row
-job_send a = search (envelope_sync, map_send, done_send, result.the_field_send, memory.the_send, sendable) depth 20 fits 5000
+job_send a = search (envelope_sync, map_send, done_send, change_send, items.the_send, heap_crosses, result.the_field_send, memory.the_send, sendable) depth 20 fits 5000
 
 pub work_sync : (a : NamedLft) (G : RattleType) → IsSync G → IsSync (ClusterWork.the_field a G).row
 work_sync a G z = search (map_sync, cache_sync, header.the_field_sync, verdicts.the_field_sync, heap_crosses, sendable) depth 20 fits 5000

@@ -4,13 +4,18 @@ mod Crosses
 mod Cutting
 mod Firsts
 mod Jobs
+mod Leading
 pub mod Lemmas
 mod Lists
 mod Merging
 mod Moved
+mod Noting
 mod Raising
 mod Searching
 mod Spelling
+mod FormersListed
+mod Staging
 mod Steps
+mod FormerChanges
 mod Waiting
 mod Written

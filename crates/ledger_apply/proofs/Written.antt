@@ -17,15 +17,15 @@ use Rattle.ledger_apply.proofs.Raising.{either, neither, put_in_either, left_by_
 abbrev pub written : List LedgerKey → Extension → Bool
 written keys extension = maps.has_bytes keys (key_bytes extension.key)
 
-or_false : (a : Bool) → (a || false) ≡ a
+pub or_false : (a : Bool) → (a || false) ≡ a
 or_false true = refl
 or_false false = refl
 
-or_join : (a b c : Bool) → (a || (b || c)) ≡ ((a || b) || c)
+pub or_join : (a b c : Bool) → (a || (b || c)) ≡ ((a || b) || c)
 or_join true b c = refl
 or_join false b c = refl
 
-any_push : (p : LedgerKey → Bool) (keys : List LedgerKey) (key : LedgerKey) → list_any p (keys ++ key ∷ []) ≡ (list_any p keys || p key)
+pub any_push : (p : LedgerKey → Bool) (keys : List LedgerKey) (key : LedgerKey) → list_any p (keys ++ key ∷ []) ≡ (list_any p keys || p key)
 any_push p [] key = or_false (p key)
 any_push p (k ∷ keys) key = ap (λ (b : Bool). p k || b) (any_push p keys key) ∙ or_join (p k) (list_any p keys) (p key)
 

@@ -1,11 +1,14 @@
 -- The jobs of a stage: each cluster with its part, and what it left (own).
-use Rattle.std.specs.Prelude.{◌≡◌, true, false, List, [], ◌∷◌, None, Ok, IfOk}
+use Rattle.std.specs.Prelude.{◌≡◌, Bool, true, false, List, [], ◌∷◌, None, Ok, IfOk}
 use Rattle.std.specs.List.{AllByRecursion}
 use Rattle.std.specs.FinMap.{get, retain_keys}
+use Rattle.change_log.specs.Log.{Changes}
+use Rattle.ledger_parts.specs.Notes.{noted_in, shown_note}
 use Rattle.ledger_parts.specs.Shown.{is_read, shown, shown_step, PassesRead}
 use Rattle.stage_runs.specs.Maps.{Bytes, LedgerKey, LedgerMap, laid_over}
 use Rattle.stage_runs.specs.Transactions.{Step}
-use Rattle.stage_runs.specs.Runs.{Cluster, RunState, run_cluster, writes_in}
+use Rattle.stage_runs.specs.Runs.{Cluster, RunState, run_cluster, start, writes_in}
+use Rattle.ledger_apply.specs.LoggedLists.{written_sides, AddsLists}
 use Rattle.ledger_apply.specs.Spelled.{AreEnvelopes}
 use Rattle.ledger_apply.specs.State.{done_in, IsKeyed}
 use Rattle.ledger_apply.specs.declared.running.ClusterDone.{ClusterDone}
@@ -19,22 +22,27 @@ cluster_of job = job.envelopes.now
 abbrev pub own_of : Job → LedgerMap
 own_of job = job.own
 
--- The job has only entries at keys that the cluster declares read-write.
+-- The job has only entries at keys that the cluster declares read-write, and nothing is logged yet.
 pub record IsCut (job : Job) : Type 0 where
   pub owned : (q : Bytes) → writes_in (cluster_of job) q ≡ false → get (own_of job) q ≡ None
   pub fits : AreEnvelopes (cluster_of job)
+  pub unlogged : job.log.items ≡ []
 
 -- The cluster ran on its own entries, and saw besides them only the lent ones at some keys. All keys that it declares read-only
--- are among them.
-pub record IsRunOn (step : Step) (lent : LedgerMap) (cluster : Cluster) (own : LedgerMap) (ran : RunState) : Type 0 where
+-- are among them. What its transactions changed was added to the log, if one is kept.
+pub record IsRunOn (step : Step) (logs : Bool) (lent : LedgerMap) (cluster : Cluster) (own : LedgerMap) (ran : RunState)
+    (old new : List Changes) : Type 0 where
   pub keys : List LedgerKey
   pub reads : PassesRead (is_read keys) cluster
   pub run : ran ≡ run_cluster (shown_step (shown keys lent) step) own cluster
+  pub log : AddsLists logs
+      (noted_in (shown_step (shown keys lent) step) (shown_note (shown keys lent) written_sides) (start own) cluster) old new
 
 -- The job's cluster ran on the job's entries, unless memory ran out.
-pub record IsRun (step : Step) (lent : LedgerMap) (before after : Job) : Type 0 where
+pub record IsRun (step : Step) (logs : Bool) (lent : LedgerMap) (before after : Job) : Type 0 where
   pub same : cluster_of after ≡ cluster_of before
-  pub run : IfOk after.done (λ d. IsRunOn step lent (cluster_of before) (own_of before) (done_in (own_of after) d))
+  pub run : IfOk after.done (λ d. IsRunOn step logs lent (cluster_of before) (own_of before) (done_in (own_of after) d)
+      before.log.items after.log.items)
   pub keyed : IfOk after.done IsKeyed
 
 -- the map after what a job's part owns at the keys of its cluster came back

@@ -7,3 +7,6 @@ pub mod Refused
 pub mod Final
 pub mod Job
 pub mod Search
+pub mod Logged
+pub mod LoggedLists
+pub mod Formers

@@ -10,6 +10,7 @@ ghost use Rattle.ledger_apply.specs.Job.{IsRun, IsRunOn};
 use crate::cluster::run_cluster;
 use crate::moving::read_keys_of;
 use crate::running::ClusterDone;
+use change_log::Changes;
 use code_cache::Cache;
 use edge_io::Gate;
 use entry_map::EntryMap;
@@ -27,10 +28,12 @@ pub struct Job<'a> {
     pub own: EntryMap,
     /// `Err(NoMemory)` until the cluster has run, and if memory ran out in its run.
     pub done: Result<ClusterDone, NoMemory>,
+    /// What each of its transactions changed, if a log is kept.
+    pub log: Vec<Changes>,
 }
 
 /// What the workers of a stage share: the entries that no cluster of the stage declares read-write, the codes among them, what
-/// all transactions run under, the gate, and the index of the stage in its set.
+/// all transactions run under, the gate, the index of the stage in its set, and whether a log is kept.
 #[derive(Drop)]
 pub struct ClusterWork<'a, T> {
     pub alloc: Global,
@@ -40,12 +43,13 @@ pub struct ClusterWork<'a, T> {
     pub verdicts: &'a Verdicts,
     pub gate: &'a T,
     pub stage: usize,
+    pub logs: bool,
     pub ghost settings: { IsTrue (are_settings header.now.settings) },
     pub ghost next: { IsTrue (has_next header.now) },
 }
 
 /// Runs a cluster on its part of the ledger: its own entries, and the keys that it declares read-only. Returns its entries, and
-/// what the cluster leaves beside them.
+/// what the cluster leaves beside them. What its transactions change is added to the log, if one is kept.
 fn run_part(
     alloc: Global,
     lent: &EntryMap,
@@ -54,16 +58,28 @@ fn run_part(
     verdicts: &Verdicts,
     own: EntryMap,
     envelopes: &[Envelope],
+    logs: bool,
+    log: &mut Vec<Changes>,
 ) -> Result<(EntryMap, ClusterDone), NoMemory>
     requires fits { AreEnvelopes envelopes.now }
     requires settings { IsTrue (are_settings header.now.settings) }
     requires next { IsTrue (has_next header.now) }
-    ensures run { IfOk result (λ r. IsRunOn (enforced header.now verdicts.now) lent.now envelopes.now own (done_in r.0 r.1)) }
+    ensures run { IfOk result (λ r. IsRunOn (enforced header.now verdicts.now) logs lent.now envelopes.now own (done_in r.0 r.1)
+        log.old.items log.new.items) }
     ensures keyed { IfOk result (λ r. IsKeyed r.1) }
 {
     let read_only = read_keys_of(alloc, envelopes)?;
     let mut seen = OnPart::new(Part { own, read_only }, lent)?;
-    let done = run_cluster(alloc, &mut seen, header, verdicts, envelopes, Some(codes))?;
+    let done = run_cluster(
+        alloc,
+        &mut seen,
+        header,
+        verdicts,
+        envelopes,
+        Some(codes),
+        logs,
+        log,
+    )?;
     let OnPart { part, lent: _ } = seen;
     Ok((part.own, done))
 }
@@ -71,7 +87,7 @@ fn run_part(
 impl<'a, 'b, T: Gate> Work<Job<'a>> for ClusterWork<'b, T> {
     ghost can = { λ _ _ job. AreEnvelopes job.envelopes.now };
 
-    ghost gives = { λ work _ x y. IsRun (enforced work.header.now work.verdicts.now) work.lent.now x y };
+    ghost gives = { λ work _ x y. IsRun (enforced work.header.now work.verdicts.now) work.logs work.lent.now x y };
 
     /// Enters the gate, and runs the cluster. Its index in the list of jobs is its index in the stage.
     fn work(&self, index: usize, job: &mut Job<'a>) {
@@ -85,6 +101,8 @@ impl<'a, 'b, T: Gate> Work<Job<'a>> for ClusterWork<'b, T> {
             self.verdicts,
             own,
             job.envelopes,
+            self.logs,
+            &mut job.log,
         ) {
             Ok((own, done)) => {
                 job.own = own;

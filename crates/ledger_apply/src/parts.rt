@@ -1,7 +1,7 @@
 //! Cuts the parts of a stage's clusters out of the entries, runs them, and puts them back.
 
 ghost use Rattle.std.specs.Prelude.{◌≡◌, ◌∷◌, ◌++◌, [], All, IfOk, OnOk, IsTrue, map};
-ghost use Rattle.std.specs.List.{fold};
+ghost use Rattle.std.specs.List.{flat_map, fold};
 ghost use Rattle.ledger_spec.specs.LedgerFile.{are_settings, has_next};
 ghost use Rattle.ledger_parts.specs.Cut.{left_of, cut_from};
 ghost use Rattle.code_cache.specs.Cached.{AreRising};
@@ -17,6 +17,7 @@ use crate::moving::move_written;
 use crate::running::ClusterDone;
 use crate::stages::SetStage;
 use crate::workers::Workers;
+use change_log::Changes;
 use code_cache::{Cache, Code};
 use edge_io::Gate;
 use entry_map::EntryMap;
@@ -47,6 +48,7 @@ pub fn cut_one<'a>(
         envelopes,
         own,
         done: Err(NoMemory),
+        log: Vec::new(alloc),
     })
 }
 
@@ -102,7 +104,7 @@ fn work_all<R: Threads + Sync, T: Gate + Sync>(
     requires fits { All (λ job. AreEnvelopes job.envelopes.now) jobs.old }
     requires settings { IsTrue (are_settings header.now.settings) }
     requires next { IsTrue (has_next header.now) }
-    ensures { IsWorked (λ _ x y. IsRun (enforced header.now verdicts.now) lent.now x y) 0 jobs.old jobs.new }
+    ensures { IsWorked (λ _ x y. IsRun (enforced header.now verdicts.now) workers.now.logs lent.now x y) 0 jobs.old jobs.new }
 {
     let work = ClusterWork {
         alloc,
@@ -112,6 +114,7 @@ fn work_all<R: Threads + Sync, T: Gate + Sync>(
         verdicts,
         gate: workers.gate,
         stage: index,
+        logs: workers.logs,
     };
     run_each(workers.rt, &work, workers.count, jobs);
 }
@@ -133,7 +136,8 @@ fn work_with_codes<R: Threads + Sync, T: Gate + Sync>(
     requires fits { All (λ job. AreEnvelopes job.envelopes.now) jobs.old }
     requires settings { IsTrue (are_settings header.now.settings) }
     requires next { IsTrue (has_next header.now) }
-    ensures { OnOk result (IsWorked (λ _ x y. IsRun (enforced header.now verdicts.now) lent.now x y) 0 jobs.old jobs.new) }
+    ensures { OnOk result (IsWorked (λ _ x y. IsRun (enforced header.now verdicts.now) workers.now.logs lent.now x y) 0
+        jobs.old jobs.new) }
 {
     let ground = Lent { entries: lent };
     let listed = shared_codes(alloc, &ground, stage)?;
@@ -158,7 +162,7 @@ pub fn work_through<'a, R: Threads + Sync, T: Gate + Sync>(
     requires fits { All (λ job. AreEnvelopes job.envelopes.now) jobs.items }
     requires settings { IsTrue (are_settings header.now.settings) }
     requires next { IsTrue (has_next header.now) }
-    ensures { IfOk result (λ worked. IsWorked (λ _ x y. IsRun (enforced header.now verdicts.now) lent.now x y) 0
+    ensures { IfOk result (λ worked. IsWorked (λ _ x y. IsRun (enforced header.now verdicts.now) workers.now.logs lent.now x y) 0
         jobs.entry.items worked.items) }
 {
     let mut jobs = jobs;
@@ -169,16 +173,19 @@ pub fn work_through<'a, R: Threads + Sync, T: Gate + Sync>(
 }
 
 /// Puts the entries of parts back, and lists what else their clusters left, in their order. It is out of memory if memory ran out
-/// in the run of one of the clusters. The list needs no memory if it has room for all jobs; the map may.
+/// in the run of one of the clusters. The list needs no memory if it has room for all jobs; the map may. What the clusters logged
+/// is added to the log.
 pub fn put_back(
     entries: &mut EntryMap,
     room: Vec<ClusterDone>,
     jobs: Vec<Job<'_>>,
+    log: &mut Vec<Changes>,
 ) -> Result<Vec<ClusterDone>, NoMemory>
     requires fits { All (λ job. AreEnvelopes job.envelopes.now) jobs.items }
     requires empty { room.items ≡ [] }
     ensures entries { OnOk result (entries.new ≡ fold back entries.old jobs.entry.items) }
     ensures done { IfOk result (λ done. AreDone jobs.entry.items done.items) }
+    ensures log { IfOk result (λ _. log.new.items ≡ log.old.items ++ flat_map (λ job. job.log.items) jobs.entry.items) }
 {
     let mut dones = room;
     for job in jobs {
@@ -186,9 +193,11 @@ pub fn put_back(
             envelopes,
             mut own,
             done,
+            log: mut lists,
         } = job;
         let one = done?;
         dones.push(one)?;
+        log.append(&mut lists)?;
         move_written(&mut own, entries, envelopes)?;
     }
     Ok(dones)

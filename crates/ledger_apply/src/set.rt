@@ -1,18 +1,25 @@
 //! Applies transaction sets.
 
-ghost use Rattle.std.specs.Prelude.{◌≡◌, ◌≤◌, All, IfOk, IfErr, OnOk, IsTrue, length, map};
+ghost use Rattle.std.specs.Prelude.{◌≡◌, ◌≤◌, ◌<◌, ◌^◌, ◌++◌, true, false, All, Ok, IfOk, IfErr, OnOk, IsTrue, length, map};
 ghost use Rattle.std.specs.List.{AllByRecursion};
 ghost use Rattle.xdr_spec.specs.Format.{optional};
 ghost use Rattle.invoke_types.specs.Success.{success_format};
 ghost use Rattle.ledger_spec.specs.LedgerFile.{are_settings, has_next};
+ghost use Rattle.ledger_spec.specs.LedgerMap.{IsLedgerMap};
 ghost use Rattle.tx_xdr.specs.Set.{set_format};
 ghost use Rattle.tx_xdr.specs.Stages.{stages_of as stages_of_set};
 ghost use Rattle.tx_results.specs.Report.{HavePreimages};
 ghost use Rattle.tx_results.specs.Results.{result_set_format};
 ghost use Rattle.stage_runs.specs.Runs.{run_stage as run_stage_in, run_set as run_stages_in, clusters_in, HasNoConflict};
+ghost use Rattle.stage_runs.specs.Runs.{run_clusters};
+ghost use Rattle.ledger_parts.specs.Notes.{noted_in_stage};
+ghost use Rattle.change_log.specs.Log.{log_format};
+ghost use Rattle.change_log.specs.Play.{played};
 ghost use Rattle.apply_spec.specs.Enforced.{enforced};
 ghost use Rattle.apply_spec.specs.Outputs.{results_of, preimages_of};
 ghost use Rattle.apply_spec.specs.Runs.{run_set, new_header};
+ghost use Rattle.ledger_apply.specs.Logged.{logged_over, logged_set};
+ghost use Rattle.ledger_apply.specs.LoggedLists.{written_sides, list_if, AreStageLogs, IsStageLog};
 ghost use Rattle.ledger_apply.specs.State.{between};
 ghost use Rattle.ledger_apply.specs.Stages.{stage_of, clusters_of, IsSpelled};
 ghost use Rattle.ledger_apply.specs.Final.{run_stages_over};
@@ -24,6 +31,7 @@ use crate::reports::Reports;
 use crate::stage::{run_component, run_stage};
 use crate::stages::{SetStage, stages_of};
 use crate::workers::Workers;
+use change_log::{Log, LoggedStage};
 use edge_io::Gate;
 use entry_map::EntryMap;
 use invoke_types::SuccessPreimage;
@@ -36,6 +44,9 @@ use tx_xdr::TxSet;
 use value_types::Items;
 use xdr_core::NoMemory;
 
+/// As many stages as a log can hold.
+const MOST_STAGES: usize = 4_294_967_295;
+
 /// The ledger after a set, and the results and success preimages in the set's order.
 #[derive(Drop)]
 pub struct Applied {
@@ -45,7 +56,14 @@ pub struct Applied {
     pub successes: Items<Option<SuccessPreimage>, 4294967295>,
 }
 
-/// Runs one stage of a set. `index` is its index in the set.
+/// What a set does to a ledger, and the change log.
+#[derive(Drop)]
+pub struct Logged {
+    pub applied: Applied,
+    pub log: Log,
+}
+
+/// Runs one stage of a set. `index` is its index in the set. Returns the stage's log, if one is kept.
 fn run_one<R: Threads + Sync, T: Gate + Sync>(
     workers: &Workers<'_, R, T>,
     alloc: Global,
@@ -55,14 +73,18 @@ fn run_one<R: Threads + Sync, T: Gate + Sync>(
     reports: &mut Reports,
     index: usize,
     stage: SetStage<'_>,
-) -> Result<(), NoMemory>
+) -> Result<Option<LoggedStage>, NoMemory>
     requires fits { IsSpelled stage }
     requires settings { IsTrue (are_settings header.now.settings) }
     requires next { IsTrue (has_next header.now) }
     requires free { HasNoConflict (clusters_in (stage_of stage)) }
-    ensures { OnOk result (between entries.new reports.new
+    ensures run { OnOk result (between entries.new reports.new
         ≡ run_stage_in (enforced header.now verdicts.now) (between entries.old reports.old)
         (clusters_in (stage_of stage.entry))) }
+    ensures log { IfOk result (IsStageLog workers.now.logs (noted_in_stage (enforced header.now verdicts.now) written_sides
+        (between entries.old reports.old) (clusters_in (stage_of stage.entry)))
+        (run_clusters (enforced header.now verdicts.now) (between entries.old reports.old)
+        (clusters_in (stage_of stage.entry))).entries entries.new) }
 {
     match stage {
         SetStage::Component(component) => run_component(
@@ -74,7 +96,20 @@ fn run_one<R: Threads + Sync, T: Gate + Sync>(
     }
 }
 
-/// Runs stages in their order.
+/// Adds the log of a stage, if there is one.
+fn push_stage(log: &mut Vec<LoggedStage>, stage: Option<LoggedStage>) -> Result<(), NoMemory>
+    ensures { OnOk result (log.new.items ≡ log.old.items ++ list_if stage) }
+{
+    match stage {
+        None => Ok(()),
+        Some(stage) => {
+            log.push(stage)?;
+            Ok(())
+        }
+    }
+}
+
+/// Runs stages in their order. Returns their logs, if a log is kept.
 fn run_stages<R: Threads + Sync, T: Gate + Sync>(
     workers: &Workers<'_, R, T>,
     alloc: Global,
@@ -83,23 +118,56 @@ fn run_stages<R: Threads + Sync, T: Gate + Sync>(
     verdicts: &Verdicts,
     reports: &mut Reports,
     stages: &[SetStage<'_>],
-) -> Result<(), NoMemory>
+) -> Result<Vec<LoggedStage>, NoMemory>
     requires fits { All IsSpelled stages.now }
     requires settings { IsTrue (are_settings header.now.settings) }
     requires next { IsTrue (has_next header.now) }
     requires free { AllByRecursion HasNoConflict (clusters_of stages.now) }
-    ensures { OnOk result (between entries.new reports.new
+    ensures run { OnOk result (between entries.new reports.new
         ≡ run_stages_in (enforced header.now verdicts.now) (between entries.old reports.old) (clusters_of stages.now)) }
+    ensures log { IfOk result (λ log. AreStageLogs workers.now.logs (enforced header.now verdicts.now)
+        (between entries.old reports.old) (clusters_of stages.now) entries.new log.items) }
 {
+    // What is known of `entries` as a map of a ledger comes from a call.
+    let _count = entries.len();
+    let mut log = Vec::new(alloc);
     for (index, stage) in stages.iter().enumerate() {
-        run_one(
+        let logged = run_one(
             workers, alloc, entries, header, verdicts, reports, index, *stage,
         )?;
+        push_stage(&mut log, logged)?;
     }
-    Ok(())
+    Ok(log)
 }
 
-/// Runs the stages of a set over a ledger, and makes the new ledger's header.
+/// Puts a log together. A log of more than 2^32 - 1 stages is out of memory.
+fn log_of(
+    old_seq: u32,
+    old_close_time: u64,
+    new_close_time: u64,
+    stages: Vec<LoggedStage>,
+) -> Result<Log, NoMemory>
+    ensures log { IfOk result (λ log. log ≡ record {
+      old_seq = old_seq;
+      old_close_time = old_close_time;
+      new_close_time = new_close_time;
+      stages = stages.items;
+    }) }
+    ensures few { IfOk result (λ _. length stages.items < 2 ^ 32) }
+    ensures numbers { (old_seq < 2 ^ 32) × (old_close_time < 2 ^ 64) × (new_close_time < 2 ^ 64) }
+{
+    if stages.len() > MOST_STAGES {
+        return Err(NoMemory);
+    }
+    Ok(Log {
+        old_seq,
+        old_close_time,
+        new_close_time,
+        stages: Items::from_vec(stages),
+    })
+}
+
+/// Runs the stages of a set over a ledger, and makes the new ledger's header and the log. The log has no stages if none is kept.
 fn run_on<R: Threads + Sync, T: Gate + Sync>(
     workers: &Workers<'_, R, T>,
     alloc: Global,
@@ -107,22 +175,30 @@ fn run_on<R: Threads + Sync, T: Gate + Sync>(
     close_time: u64,
     verdicts: &Verdicts,
     stages: &[SetStage<'_>],
-) -> Result<Applied, NoMemory>
+) -> Result<(Applied, Log), NoMemory>
     requires fits { All IsSpelled stages.now }
     requires settings { IsTrue (are_settings ledger.header.settings) }
     requires next { IsTrue (has_next ledger.header) }
     requires free { AllByRecursion HasNoConflict (clusters_of stages.now) }
-    ensures header { IfOk result (λ a. a.ledger.header ≡ new_header ledger.header close_time) }
-    ensures entries { IfOk result (λ a. a.ledger.entries ≡ (run_stages_over ledger.header verdicts.now ledger.entries
+    ensures header { IfOk result (λ a. a.0.ledger.header ≡ new_header ledger.header close_time) }
+    ensures entries { IfOk result (λ a. a.0.ledger.entries ≡ (run_stages_over ledger.header verdicts.now ledger.entries
         (clusters_of stages.now) close_time).entries) }
-    ensures results { IfOk result (λ a. a.results.pairs ≡ results_of
+    ensures results { IfOk result (λ a. a.0.results.pairs ≡ results_of
         (run_stages_over ledger.header verdicts.now ledger.entries (clusters_of stages.now) close_time)) }
-    ensures successes { IfOk result (λ a. a.successes ≡ preimages_of
+    ensures successes { IfOk result (λ a. a.0.successes ≡ preimages_of
         (run_stages_over ledger.header verdicts.now ledger.entries (clusters_of stages.now) close_time)) }
-    ensures spelled { IfOk result (λ a. result_set_format.fits a.results) }
-    ensures successes_spelled { IfOk result (λ a. All (λ s. (optional success_format).fits s) a.successes) }
-    ensures each { IfOk result (λ a. length a.successes ≡ length a.results.pairs) }
-    ensures preimages { IfOk result (λ a. HavePreimages a.results.pairs a.successes) }
+    ensures spelled { IfOk result (λ a. result_set_format.fits a.0.results) }
+    ensures successes_spelled { IfOk result (λ a. All (λ s. (optional success_format).fits s) a.0.successes) }
+    ensures each { IfOk result (λ a. length a.0.successes ≡ length a.0.results.pairs) }
+    ensures preimages { IfOk result (λ a. HavePreimages a.0.results.pairs a.0.successes) }
+
+    // What is known of a log, if one is kept.
+    ensures log { IfOk result (λ a. workers.now.logs ≡ true
+        → a.1 ≡ logged_over ledger.header verdicts.now ledger.entries (clusters_of stages.now) close_time) }
+    ensures log_spelled { IfOk result (λ a. log_format.fits a.1) }
+    ensures map { IfOk result (λ a. IsLedgerMap a.0.ledger.entries) }
+    ensures forwards { IfOk result (λ a. workers.now.logs ≡ true
+        → played false a.1 ledger.header ledger.entries ≡ Ok (a.0.ledger.header, a.0.ledger.entries)) }
 {
     let Ledger {
         header,
@@ -133,7 +209,7 @@ fn run_on<R: Threads + Sync, T: Gate + Sync>(
         ..header
     };
     let mut reports = Reports::new(alloc);
-    run_stages(
+    let logged = run_stages(
         workers,
         alloc,
         &mut entries,
@@ -142,8 +218,11 @@ fn run_on<R: Threads + Sync, T: Gate + Sync>(
         &mut reports,
         stages,
     )?;
+    // What is known of `entries` as a map of a ledger comes from a call.
+    let _count = entries.len();
+    let log = log_of(header.seq, header.close_time, close_time, logged)?;
     let (results, successes) = reports.into_parts();
-    Ok(Applied {
+    let applied = Applied {
         ledger: Ledger {
             header: Header {
                 seq: header.seq + 1,
@@ -153,7 +232,68 @@ fn run_on<R: Threads + Sync, T: Gate + Sync>(
         },
         results,
         successes,
-    })
+    };
+    Ok((applied, log))
+}
+
+/// Applies a set to a ledger, as `apply_set` and `apply_logged` do. The log has no stages if none is kept.
+fn apply_with<'a, R: Threads + Sync, T: Gate + Sync>(
+    rt: &R,
+    alloc: Global,
+    ledger: Ledger,
+    set: &'a TxSet,
+    close_time: u64,
+    verdicts: &Verdicts,
+    workers: usize,
+    gate: &T,
+    logs: bool,
+) -> Result<(Applied, Log), ApplyErr<'a>>
+    requires fits { set_format.fits set.now }
+    requires settings { IsTrue (are_settings ledger.header.settings) }
+    requires next { IsTrue (has_next ledger.header) }
+    requires workers { (1 ≤ workers) × (workers ≤ 64) }
+
+    // A set is refused for its least conflict, and only for that.
+    ensures conflict { IfErr result (IsConflictUnlessMemory (map clusters_in (stages_of_set set.now)) ledger) }
+    ensures free { IfOk result (λ _. AllByRecursion HasNoConflict (map clusters_in (stages_of_set set.now))) }
+
+    ensures header { IfOk result (λ a. a.0.ledger.header ≡ new_header ledger.header close_time) }
+    ensures entries { IfOk result (λ a. a.0.ledger.entries
+        ≡ (run_set ledger.header verdicts.now ledger.entries set.now close_time).entries) }
+    ensures results { IfOk result (λ a. a.0.results.pairs ≡ results_of
+        (run_set ledger.header verdicts.now ledger.entries set.now close_time)) }
+    ensures successes { IfOk result (λ a. a.0.successes ≡ preimages_of
+        (run_set ledger.header verdicts.now ledger.entries set.now close_time)) }
+
+    // The results and the success preimages can be written.
+    ensures spelled { IfOk result (λ a. result_set_format.fits a.0.results) }
+    ensures successes_spelled { IfOk result (λ a. All (λ s. (optional success_format).fits s) a.0.successes) }
+    ensures each { IfOk result (λ a. length a.0.successes ≡ length a.0.results.pairs) }
+    ensures preimages { IfOk result (λ a. HavePreimages a.0.results.pairs a.0.successes) }
+
+    // What is known of a log, if one is kept.
+    ensures log { IfOk result (λ a. logs ≡ true → a.1 ≡ logged_set ledger.header verdicts.now ledger.entries set.now close_time) }
+    ensures log_spelled { IfOk result (λ a. log_format.fits a.1) }
+    ensures map { IfOk result (λ a. IsLedgerMap a.0.ledger.entries) }
+    ensures forwards { IfOk result (λ a. logs ≡ true
+        → played false a.1 ledger.header ledger.entries ≡ Ok (a.0.ledger.header, a.0.ledger.entries)) }
+{
+    let stages = stages_of(alloc, set)?;
+    let workers = Workers {
+        rt,
+        count: workers,
+        gate,
+        logs,
+    };
+    if let Some(conflict) = first_conflict(&workers, alloc, &stages)? {
+        return Err(ApplyErr::Conflict {
+            stage: conflict.stage,
+            found: conflict.found,
+            ledger,
+        });
+    }
+    let applied = run_on(&workers, alloc, ledger, close_time, verdicts, &stages)?;
+    Ok(applied)
 }
 
 /// Applies a set to a ledger, unless two clusters of one of its stages conflict. All stages are tested before anything runs.
@@ -195,19 +335,63 @@ pub fn apply_set<'a, R: Threads + Sync, T: Gate + Sync>(
     ensures each { IfOk result (λ a. length a.successes ≡ length a.results.pairs) }
     ensures preimages { IfOk result (λ a. HavePreimages a.results.pairs a.successes) }
 {
-    let stages = stages_of(alloc, set)?;
-    let workers = Workers {
-        rt,
-        count: workers,
-        gate,
-    };
-    if let Some(conflict) = first_conflict(&workers, alloc, &stages)? {
-        return Err(ApplyErr::Conflict {
-            stage: conflict.stage,
-            found: conflict.found,
-            ledger,
-        });
-    }
-    let applied = run_on(&workers, alloc, ledger, close_time, verdicts, &stages)?;
+    let (applied, _log) = apply_with(
+        rt, alloc, ledger, set, close_time, verdicts, workers, gate, false,
+    )?;
     Ok(applied)
+}
+
+/// Applies a set to a ledger as `apply_set` does, and also returns the change log. Played on the old ledger, the log gives the
+/// new one, and backwards the old one. Before each transaction, the entries at its read-write keys are copied.
+pub fn apply_logged<'a, R: Threads + Sync, T: Gate + Sync>(
+    rt: &R,
+    alloc: Global,
+    ledger: Ledger,
+    set: &'a TxSet,
+    close_time: u64,
+    verdicts: &Verdicts,
+    workers: usize,
+    gate: &T,
+) -> Result<Logged, ApplyErr<'a>>
+    requires fits { set_format.fits set.now }
+    requires settings { IsTrue (are_settings ledger.header.settings) }
+    requires next { IsTrue (has_next ledger.header) }
+    requires workers { (1 ≤ workers) × (workers ≤ 64) }
+
+    // A set is refused for its least conflict, and only for that.
+    ensures conflict { IfErr result (IsConflictUnlessMemory (map clusters_in (stages_of_set set.now)) ledger) }
+    ensures free { IfOk result (λ _. AllByRecursion HasNoConflict (map clusters_in (stages_of_set set.now))) }
+
+    ensures header { IfOk result (λ a. a.applied.ledger.header ≡ new_header ledger.header close_time) }
+    ensures entries { IfOk result (λ a. a.applied.ledger.entries
+        ≡ (run_set ledger.header verdicts.now ledger.entries set.now close_time).entries) }
+    ensures results { IfOk result (λ a. a.applied.results.pairs ≡ results_of
+        (run_set ledger.header verdicts.now ledger.entries set.now close_time)) }
+    ensures successes { IfOk result (λ a. a.applied.successes ≡ preimages_of
+        (run_set ledger.header verdicts.now ledger.entries set.now close_time)) }
+
+    // The results and the success preimages can be written.
+    ensures spelled { IfOk result (λ a. result_set_format.fits a.applied.results) }
+    ensures successes_spelled { IfOk result (λ a. All (λ s. (optional success_format).fits s) a.applied.successes) }
+    ensures each { IfOk result (λ a. length a.applied.successes ≡ length a.applied.results.pairs) }
+    ensures preimages { IfOk result (λ a. HavePreimages a.applied.results.pairs a.applied.successes) }
+
+    // The log is that of the set's run, and it can be written.
+    ensures log { IfOk result (λ a. a.log ≡ logged_set ledger.header verdicts.now ledger.entries set.now close_time) }
+    ensures log_spelled { IfOk result (λ a. log_format.fits a.log) }
+
+    // The new entries are a map of a ledger.
+    ensures map { IfOk result (λ a. IsLedgerMap a.applied.ledger.entries) }
+
+    // Played on the old ledger, the log gives the new one, and backwards on the new ledger the old one.
+    ensures forwards { IfOk result (λ a. played false a.log ledger.header ledger.entries
+        ≡ Ok (a.applied.ledger.header, a.applied.ledger.entries)) }
+    ensures backwards { IfOk result (λ a. played true a.log a.applied.ledger.header a.applied.ledger.entries
+        ≡ Ok (ledger.header, ledger.entries)) }
+{
+    let made = apply_with(
+        rt, alloc, ledger, set, close_time, verdicts, workers, gate, true,
+    )?;
+    let (applied, log) = made;
+    Ok(Logged { applied, log })
 }

@@ -1,31 +1,46 @@
 //! Runs stages.
 
-ghost use Rattle.std.specs.Prelude.{◌≡◌, ◌++◌, All, OnOk, IsTrue, map};
+ghost use Rattle.std.specs.Prelude.{◌≡◌, ◌<◌, ◌^◌, ◌++◌, All, IfOk, OnOk, IsTrue, length, map};
+ghost use Rattle.std.specs.List.{AllByRecursion, flat_map};
 ghost use Rattle.ledger_spec.specs.LedgerFile.{are_settings, has_next};
+ghost use Rattle.ledger_spec.specs.LedgerMap.{IsLedgerMap};
 ghost use Rattle.stage_runs.specs.Runs.{put_all_in, ended, run_stage as run_stage_in, clusters_in, HasNoConflict};
+ghost use Rattle.stage_runs.specs.Runs.{run_clusters};
 ghost use Rattle.stage_runs.specs.Parts.{owns_back};
 ghost use Rattle.ledger_parts.specs.Cut.{runs_over};
+ghost use Rattle.ledger_parts.specs.Notes.{noted_over, noted_in_stage};
+ghost use Rattle.change_log.specs.Groups.{changes, changes_of};
 ghost use Rattle.apply_spec.specs.Enforced.{enforced};
 ghost use Rattle.tx_xdr.specs.Stages.{component_stage};
 ghost use Rattle.ledger_apply.specs.State.{between, pending_of, reports_of, IsKeyed};
 ghost use Rattle.ledger_apply.specs.Spelled.{IsStage, IsComponent};
 ghost use Rattle.ledger_apply.specs.Stages.{stage_of, IsSpelled};
+ghost use Rattle.ledger_apply.specs.LoggedLists.{written_sides, IsStageLog, IsWritable};
+ghost use Rattle.ledger_apply.specs.Formers.{groups_since, has_extension, AreFormersOf, IsFormer};
 ghost use Rattle.ledger_apply.specs.Job.{cluster_of, own_of, IsCut, AreMoved};
 
 use crate::entries::put_all;
+use crate::formers::{Former, Formers, add_extensions, changes_since, listed};
 use crate::job::Job;
 use crate::parts::{cut, cut_one, put_back, work_through};
 use crate::reports::Reports;
 use crate::running::ClusterDone;
 use crate::stages::SetStage;
 use crate::workers::Workers;
+use change_log::{Changes, LoggedStage};
 use edge_io::Gate;
 use entry_map::EntryMap;
+use ledger_parts::Lent;
 use ledger_types::{Header, Verdicts};
 use std::alloc::Global;
+use std::collections::BTreeMap;
 use std::thread::Threads;
 use tx_xdr::{Component, Stage};
+use value_types::Items;
 use xdr_core::NoMemory;
+
+/// As many lists as a stage of a log can hold.
+const MOST_LISTS: usize = 4_294_967_295;
 
 /// Counts the transactions of jobs. More than 2^64 - 1 count as 2^64 - 1.
 fn count_envelopes(jobs: &[Job<'_>]) -> usize {
@@ -54,8 +69,74 @@ pub fn end_stage(
     Ok(())
 }
 
-/// Runs the parts that were cut out of the entries, puts them back, and ends the stage. Room for what the clusters leave is made
-/// before they run.
+/// Lists the keys of the extensions that clusters left, and what is there.
+fn pending_formers(
+    alloc: Global,
+    entries: &EntryMap,
+    done: &[ClusterDone],
+) -> Result<Vec<Former>, NoMemory>
+    requires { All IsKeyed done.now }
+    ensures formers { IfOk result (λ formers. AreFormersOf entries.now (has_extension (pending_of done.now)) formers.items) }
+    ensures map { IsLedgerMap entries.now }
+{
+    // What is known of `entries` as a map of a ledger comes from a call.
+    let _count = entries.len();
+    let ground = Lent { entries };
+    let mut formers: Formers = BTreeMap::new(alloc);
+    for left in done {
+        add_extensions(alloc, &ground, &mut formers, &left.pending)?;
+    }
+    let list = listed(alloc, formers)?;
+    Ok(list)
+}
+
+/// Returns the change log of what became of some keys of a ledger's entries.
+fn changes_in(alloc: Global, entries: &EntryMap, formers: &[Former]) -> Result<Changes, NoMemory>
+    requires { AllByRecursion IsFormer formers.now }
+    ensures list { IfOk result (λ list. list ≡ flat_map changes_of (groups_since entries.now formers.now)) }
+    ensures few { IfOk result (λ list. length list < 2 ^ 32) }
+    ensures map { IsLedgerMap entries.now }
+{
+    let _count = entries.len();
+    let ground = Lent { entries };
+    changes_since(alloc, &ground, formers)
+}
+
+/// Ends a stage, as `end_stage` does, and returns what its end changed. The merge itself takes no memory; the log does.
+fn end_logged(
+    alloc: Global,
+    entries: &mut EntryMap,
+    reports: &mut Reports,
+    done: Vec<ClusterDone>,
+) -> Result<Changes, NoMemory>
+    requires { All IsKeyed done.items }
+    ensures entries { OnOk result (entries.new ≡ put_all_in entries.old (pending_of done.items)) }
+    ensures reports { OnOk result (reports.new ≡ reports.old ++ reports_of done.items) }
+    ensures list { IfOk result (λ list. list ≡ changes entries.old entries.new) }
+    ensures sound { IfOk result (λ _. IsWritable entries.old entries.new) }
+{
+    let formers = pending_formers(alloc, entries, &done)?;
+    end_stage(entries, reports, done)?;
+    let changes = changes_in(alloc, entries, &formers)?;
+    Ok(changes)
+}
+
+/// Puts the lists of a stage together. A stage with more than 2^32 - 1 transactions is out of memory.
+fn logged_stage(lists: Vec<Changes>, end: Changes) -> Result<LoggedStage, NoMemory>
+    ensures stage { IfOk result (λ stage. stage ≡ record { transactions = lists.items; end = end }) }
+    ensures few { IfOk result (λ _. length lists.items < 2 ^ 32) }
+{
+    if lists.len() > MOST_LISTS {
+        return Err(NoMemory);
+    }
+    Ok(LoggedStage {
+        transactions: Items::from_vec(lists),
+        end,
+    })
+}
+
+/// Runs the parts that were cut out of the entries, puts them back, and ends the stage. Room for what the clusters leave, but for
+/// their logs, is made before they run.
 fn run_parts<R: Threads + Sync, T: Gate + Sync>(
     workers: &Workers<'_, R, T>,
     alloc: Global,
@@ -66,29 +147,40 @@ fn run_parts<R: Threads + Sync, T: Gate + Sync>(
     index: usize,
     stage: SetStage<'_>,
     parts: Vec<Job<'_>>,
-) -> Result<(), NoMemory>
+) -> Result<Option<LoggedStage>, NoMemory>
     requires spelled { IsSpelled stage }
     requires same { map cluster_of parts.items ≡ clusters_in (stage_of stage) }
     requires settings { IsTrue (are_settings header.now.settings) }
     requires next { IsTrue (has_next header.now) }
     requires cut { All IsCut parts.items }
     requires moved { AreMoved entries.old parts.items }
-    ensures { OnOk result (between entries.new reports.new
+    ensures run { OnOk result (between entries.new reports.new
         ≡ ended (owns_back (between entries.old reports.old) (runs_over (enforced header.now verdicts.now) entries.old
         (map own_of parts.entry.items) (map cluster_of parts.entry.items)))) }
+    ensures log { IfOk result (IsStageLog workers.now.logs (noted_over (enforced header.now verdicts.now) written_sides
+        entries.old (map own_of parts.entry.items) (map cluster_of parts.entry.items))
+        (owns_back (between entries.old reports.old) (runs_over (enforced header.now verdicts.now) entries.old
+        (map own_of parts.entry.items) (map cluster_of parts.entry.items))).entries entries.new) }
 {
     reports.reserve(count_envelopes(&parts))?;
     let room = Vec::with_capacity(alloc, parts.len())?;
     let jobs = work_through(
         workers, alloc, entries, header, verdicts, index, stage, parts,
     )?;
-    let done = put_back(entries, room, jobs)?;
-    end_stage(entries, reports, done)?;
-    Ok(())
+    let mut lists = Vec::new(alloc);
+    let done = put_back(entries, room, jobs, &mut lists)?;
+    if workers.logs {
+        let end = end_logged(alloc, entries, reports, done)?;
+        let stage = logged_stage(lists, end)?;
+        Ok(Some(stage))
+    } else {
+        end_stage(entries, reports, done)?;
+        Ok(None)
+    }
 }
 
 /// Runs a stage without a conflict: its clusters by workers, each on its part of the entries, and then its end. `index` is that
-/// of the stage in its set.
+/// of the stage in its set. Returns the stage's log, if one is kept.
 pub fn run_stage<R: Threads + Sync, T: Gate + Sync>(
     workers: &Workers<'_, R, T>,
     alloc: Global,
@@ -98,13 +190,16 @@ pub fn run_stage<R: Threads + Sync, T: Gate + Sync>(
     reports: &mut Reports,
     index: usize,
     stage: &Stage,
-) -> Result<(), NoMemory>
+) -> Result<Option<LoggedStage>, NoMemory>
     requires fits { IsStage stage.now }
     requires settings { IsTrue (are_settings header.now.settings) }
     requires next { IsTrue (has_next header.now) }
     requires free { HasNoConflict (clusters_in stage.now) }
-    ensures { OnOk result (between entries.new reports.new
+    ensures run { OnOk result (between entries.new reports.new
         ≡ run_stage_in (enforced header.now verdicts.now) (between entries.old reports.old) (clusters_in stage.now)) }
+    ensures log { IfOk result (IsStageLog workers.now.logs (noted_in_stage (enforced header.now verdicts.now) written_sides
+        (between entries.old reports.old) (clusters_in stage.now)) (run_clusters (enforced header.now verdicts.now)
+        (between entries.old reports.old) (clusters_in stage.now)).entries entries.new) }
 {
     let parts = cut(alloc, entries, stage.clusters.as_slice())?;
     run_parts(
@@ -117,11 +212,10 @@ pub fn run_stage<R: Threads + Sync, T: Gate + Sync>(
         index,
         SetStage::Parallel(stage),
         parts,
-    )?;
-    Ok(())
+    )
 }
 
-/// Runs a component: a stage of one cluster. `index` is that of the stage in its set.
+/// Runs a component: a stage of one cluster. `index` is that of the stage in its set. Returns the stage's log, if one is kept.
 pub fn run_component<R: Threads + Sync, T: Gate + Sync>(
     workers: &Workers<'_, R, T>,
     alloc: Global,
@@ -131,13 +225,17 @@ pub fn run_component<R: Threads + Sync, T: Gate + Sync>(
     reports: &mut Reports,
     index: usize,
     component: &Component,
-) -> Result<(), NoMemory>
+) -> Result<Option<LoggedStage>, NoMemory>
     requires fits { IsComponent component.now }
     requires settings { IsTrue (are_settings header.now.settings) }
     requires next { IsTrue (has_next header.now) }
-    ensures { OnOk result (between entries.new reports.new
+    ensures run { OnOk result (between entries.new reports.new
         ≡ run_stage_in (enforced header.now verdicts.now) (between entries.old reports.old)
         (clusters_in (component_stage component.now))) }
+    ensures log { IfOk result (IsStageLog workers.now.logs (noted_in_stage (enforced header.now verdicts.now) written_sides
+        (between entries.old reports.old) (clusters_in (component_stage component.now)))
+        (run_clusters (enforced header.now verdicts.now) (between entries.old reports.old)
+        (clusters_in (component_stage component.now))).entries entries.new) }
 {
     let part = cut_one(alloc, entries, component.envelopes.as_slice())?;
     let mut parts = Vec::with_capacity(alloc, 1)?;
@@ -152,6 +250,5 @@ pub fn run_component<R: Threads + Sync, T: Gate + Sync>(
         index,
         SetStage::Component(component),
         parts,
-    )?;
-    Ok(())
+    )
 }

@@ -7,7 +7,7 @@ use Rattle.std.specs.List.{AllByRecursion}
 use Rattle.std.proofs.Common.{◌≡◌, Bool, true, false, not, ◌||◌, cond, List, [], ◌∷◌, ◌++◌, filter, Option, Some, None, refl, sym, ap, ap₂, ◌∙◌}
 use Rattle.stage_runs.specs.Maps.{Bytes, Kept, LedgerMap, laid_over}
 use Rattle.stage_runs.specs.Transactions.{Envelope, Effect, Step, declares, IsFramed}
-use Rattle.stage_runs.specs.Runs.{Cluster, Stage, RunState, before, after, start, run_transaction, run_all, run_stage, ended, writes_in, declares_in, AreApart, HasNoConflict}
+use Rattle.stage_runs.specs.Runs.{Cluster, Stage, RunState, before, after, start, run_transaction, run_all, run_clusters, run_stage, ended, writes_in, declares_in, AreApart, HasNoConflict}
 use Rattle.stage_runs.specs.Parts.{run_owned_all, own_parts, lent_of, is_moved, owns_back, run_owned_parts}
 use Rattle.ledger_parts.specs.Shown.{shown_step, shown_with, PassesRead}
 use Rattle.ledger_parts.specs.Cut.{without, left_of, cut_from, runs_over}
@@ -108,11 +108,17 @@ agree_self : (m : LedgerMap) (clusters : Stage) → AgreeFor m m clusters
 agree_self m [] = tt
 agree_self m (c ∷ clusters) = ((λ q w. refl), agree_self m clusters)
 
+-- the clusters on their parts, before the stage's end
+pub cut_clusters : (step : Step) → IsFramed step → (r : RunState) (clusters : Stage) → HasNoConflict clusters
+    → owns_back (record r { entries = left_of r.entries clusters }) (runs_over step (left_of r.entries clusters) (cut_from r.entries clusters) clusters)
+    ≡ run_clusters step r clusters
+cut_clusters step laws r clusters free =
+    ap (λ (m : LedgerMap). owns_back (record r { entries = m }) (runs_over step m (cut_from r.entries clusters) clusters)) (left_is r.entries clusters)
+    ∙ ap (λ (rs : List RunState). owns_back (record r { entries = lent_of r.entries clusters }) rs)
+    (runs_cut step (lent_of r.entries clusters) r.entries r.entries clusters free (agree_self r.entries clusters))
+    ∙ moved_run step laws r clusters free
+
 pub cut_run : (step : Step) → IsFramed step → (r : RunState) (clusters : Stage) → HasNoConflict clusters
     → ended (owns_back (record r { entries = left_of r.entries clusters }) (runs_over step (left_of r.entries clusters) (cut_from r.entries clusters) clusters))
     ≡ run_stage step r clusters
-cut_run step laws r clusters free =
-    ap (λ (m : LedgerMap). ended (owns_back (record r { entries = m }) (runs_over step m (cut_from r.entries clusters) clusters))) (left_is r.entries clusters)
-    ∙ ap (λ (rs : List RunState). ended (owns_back (record r { entries = lent_of r.entries clusters }) rs))
-    (runs_cut step (lent_of r.entries clusters) r.entries r.entries clusters free (agree_self r.entries clusters))
-    ∙ ap ended (moved_run step laws r clusters free)
+cut_run step laws r clusters free = ap ended (cut_clusters step laws r clusters free)

@@ -17,4 +17,5 @@ returns-clause-cut c =
     record {
       owned = λ q w. ap (λ (n : LedgerMap). get n q) (c.in_ok-move_written.ensures.to ∙ ap (laid_over m) c.new-own.ensures ∙ over_empty m) ∙ kept_owned c.args.entries.now txs q w;
       fits = c.requires;
+      unlogged = c.new.ensures.items;
     }

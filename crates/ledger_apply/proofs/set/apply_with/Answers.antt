@@ -10,10 +10,11 @@ use Rattle.apply_spec.specs.Outputs.{results_of, preimages_of}
 use Rattle.ledger_apply.specs.declared.conflict.SetConflict.{SetConflict}
 use Rattle.ledger_apply.specs.declared.stages.SetStage.{SetStage}
 use Rattle.ledger_apply.specs.Final.{run_stages_over}
+use Rattle.ledger_apply.specs.Logged.{logged_over}
 use Rattle.ledger_apply.specs.Stages.{clusters_of, IsSpelled}
 use Rattle.ledger_apply.proofs.Firsts.{clusters_listed}
 use Rattle.ledger_apply.proofs.Spelling.{listed_spelled}
-use Rattle.ledger_apply.proofs.set.apply_set.Goals as goal
+use Rattle.ledger_apply.proofs.set.apply_with.Goals as goal
 
 pub first_conflict-requires-clause-spelled : goal.first_conflict-requires-clause-spelled
 first_conflict-requires-clause-spelled g c κs within =
@@ -70,3 +71,10 @@ returns-clause-successes g c =
     ap clusters_of c.deref-2.ensures.value ∙ clusters_listed c.in_ok-stages.stages.items (stages_of c.args.set.now) c.in_ok-stages.ensures in
     c.in_ok-applied.ensures.successes
     ∙ ap (λ (ss : List Stage). preimages_of (run_stages_over c.args.ledger.header c.args.verdicts.now c.args.ledger.entries ss c.args.close_time)) same
+
+pub returns-clause-log : goal.returns-clause-log
+returns-clause-log g c = λ e.
+    let same : clusters_of c.deref-2.result.now ≡ map clusters_in (stages_of c.args.set.now) =
+    ap clusters_of c.deref-2.ensures.value ∙ clusters_listed c.in_ok-stages.stages.items (stages_of c.args.set.now) c.in_ok-stages.ensures in
+    c.in_ok-applied.ensures.log e
+    ∙ ap (λ (ss : List Stage). logged_over c.args.ledger.header c.args.verdicts.now c.args.ledger.entries ss c.args.close_time) same
