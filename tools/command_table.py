@@ -7,7 +7,8 @@ python3 tools/command_table.py bash               completions for bash
 python3 tools/command_table.py zsh                completions for zsh
 python3 tools/command_table.py check [PROGRAM]    says whether the README has the table's usage lines, and whether the
                                                   program knows the table's options: it must reject a command if one of them
-                                                  is left out, twice there, or out of its range. The status is 1 if not.
+                                                  is left out, twice there, out of its range, or together with one that
+                                                  it excludes. The status is 1 if not.
 """
 import json
 import pathlib
@@ -213,10 +214,27 @@ def sample(option, folder, number):
     return str(option["least"]) if "least" in option else f"{folder}/{number}"
 
 
-def wrong_words(command, right):
+def together(command):
+    """Returns lists of options that may stand together: those that exclude none, and each of the others with what it allows."""
+    options = command["options"]
+    lists = [[it for it in options if "excludes" not in it]]
+    for option in options:
+        if "excludes" in option:
+            others = [it for it in lists[0] if option["excludes"] not in (it["name"], it.get("needs"))]
+            lists.append([it for it in options if it is option or it in others])
+    return lists
+
+
+def excluding(command):
+    """Returns the pairs of options of which the first excludes the second."""
+    named = {it["name"]: it for it in command["options"]}
+    return [(it, named[it["excludes"]]) for it in command["options"] if "excludes" in it]
+
+
+def wrong_words(command, options, right):
     """Returns commands that the program has to reject, made of a right one: (what is wrong, words)."""
     rows = [("an option that is not there", [command["name"], *sum(right, []), "--no-such-option"])]
-    for i, option in enumerate(command["options"]):
+    for i, option in enumerate(options):
         others = [words for j, words in enumerate(right) if j != i]
         name = f"--{option['name']}"
         rows.append((f"{name} twice", [command["name"], *sum(right, []), *right[i]]))
@@ -225,7 +243,7 @@ def wrong_words(command, right):
         bad = ["x" * 9] if "words" in option else [""]
         if "least" in option:
             bad += [str(option["greatest"] + 1), "x"] + ([str(option["least"] - 1)] if option["least"] else [])
-        if not is_optional(option) or any(it.get("needs") == option["name"] for it in command["options"]):
+        if not is_optional(option) or any(it.get("needs") == option["name"] for it in options):
             rows.append((f"no {name}", [command["name"], *sum(others, [])]))
         rows += [(f"{name} {value!r}", [command["name"], *sum(others, []), f"{name}={value}"]) for value in bad]
     return rows
@@ -244,10 +262,10 @@ def check_program(table, program):
         return ran.stdout == b"usage\n"
 
     with tempfile.TemporaryDirectory() as folder:
-        for command in table["commands"]:
-            options = [it for it in command["options"] if not is_flag(it)]
+        for command, given in ((command, given) for command in table["commands"] for given in together(command)):
+            options = [it for it in given if not is_flag(it)]
             right = [[f"--{it['name']}", sample(it, folder, number)] for number, it in enumerate(options)]
-            flags = [[f"--{it['name']}"] for it in command["options"] if is_flag(it)]
+            flags = [[f"--{it['name']}"] for it in given if is_flag(it)]
             for option, words in zip(options, right):
                 # Numbers at both ends of their range, and each of an option's words.
                 values = option.get("words") or ([str(option["least"]), str(option["greatest"])] if "least" in option else [])
@@ -260,10 +278,14 @@ def check_program(table, program):
             if is_usage([command["name"], *sum((words for it, words in zip(options, right) if not is_optional(it)), [])]):
                 faults.append(f"{command['name']}: the program rejects the options that are needed")
             ordered = [[f"--{it['name']}", sample(it, folder, n)] if not is_flag(it) else [f"--{it['name']}"]
-                       for n, it in enumerate(command["options"])]
-            for what, words in wrong_words(command, ordered):
+                       for n, it in enumerate(given)]
+            for what, words in wrong_words(command, given, ordered):
                 if not is_usage(words):
                     faults.append(f"{command['name']}: the program accepts {what}")
+            for option, other in excluding(command):
+                both = [command["name"], *sum(ordered, []), f"--{other['name']}", sample(other, folder, 99)]
+                if option in given and not is_usage(both):
+                    faults.append(f"{command['name']}: the program accepts --{option['name']} together with --{other['name']}")
         for words in ([], ["help"], ["version"], ["--help"]):
             if not is_usage(words):
                 faults.append(f"the program accepts {' '.join(words) or 'no words'}")

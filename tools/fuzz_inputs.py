@@ -252,10 +252,11 @@ class Inputs:
         made = Input(command)
         for name, option in self.known[command].items():
             self.give(chance, made, sample, name, option)
-        if {"schedule", "log"} <= set(made.options):
-            # The words are wrong with both.
-            del made.options["log"]
-            made.stores.remove("log")
+        for name, option in self.known[command].items():
+            if name in made.options and option.get("excludes") in made.options:
+                # The words are wrong with both.
+                del made.options[name]
+                made.stores.remove(name)
         self.change_files(chance, made)
         made.spell(self.known[command])
         if chance.random() < 0.03:

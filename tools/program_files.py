@@ -258,6 +258,31 @@ def generated_next(count, seed, time):
     return ledger_file(counting_records(counts), number=101, time=int(time))
 
 
+def logged(record_):
+    """A record's entry and its TTL entry, as a change log has them."""
+    bytes_ = record_[1]
+    return bytes_[:-36], u32(0) + u32(9) + bytes_[-36:] + u32(0)
+
+
+def counted(number, count):
+    """The changes of a call of `bump` that adds 1 to a count. The counter's life stays."""
+    old, life = logged(data_record(counter_key(number), value_u32(count), 101 if count else 50))
+    new, _ = logged(data_record(counter_key(number), value_u32(count + 1), 101))
+    return array([u32(3) + old, u32(3) + life, u32(1) + new])
+
+
+def generated_log(count, seed, time):
+    """The change log of the generated set. The ends of its stages change nothing."""
+    numbers, counts, stages = drawn(int(count), int(seed)), [0] * 64, []
+    for first in range(0, int(count), 512):
+        lists = []
+        for number in sorted(numbers[first : first + 512], key=lambda number: number % 8):
+            lists.append(counted(number, counts[number]))
+            counts[number] += 1
+        stages.append(array(lists) + array([]))
+    return u32(100) + u64(1000) + u64(int(time)) + array(stages)
+
+
 def generated_applied(count, seed, time):
     return applied_text(101, int(count), generated_report(count, seed), generated_next(count, seed, time))
 
@@ -295,6 +320,42 @@ def built_report(count, seed, most):
 
 def built_applied(count, seed, most, time):
     return applied_text(101, int(count), built_report(count, seed, most), generated_next(count, seed, time))
+
+
+# ---- what `apply-list` makes of the transactions in the order of the built set
+
+
+def built_order(count, seed, most):
+    return array([envelope(it) for cluster in built_stage(int(count), int(seed), int(most)) for it in cluster])
+
+
+def built_listed(count, seed, most, time):
+    return built_applied(count, seed, most, time) + kept_line(count, seed)
+
+
+# ---- what `apply-list` makes of those transactions, if they declare no keys
+
+
+def bare_transactions(count, seed):
+    limits = (2000, 356, 76)
+    return [transaction(index + 1, call(number, "bump"), [], [], limits) for index, number in enumerate(drawn(int(count), int(seed)))]
+
+
+def bare_list(count, seed):
+    return array([envelope(it) for it in bare_transactions(count, seed)])
+
+
+def bare_report(count, seed):
+    return report_file([(it, BUMPED) for it in bare_transactions(count, seed)])
+
+
+def kept_line(count, seed):
+    """A run on the opening ledger is kept if the call is the first one of its contract."""
+    return f"kept {len(set(drawn(int(count), int(seed))))} of {count}\n".encode()
+
+
+def bare_applied(count, seed, time):
+    return applied_text(101, int(count), bare_report(count, seed), generated_next(count, seed, time)) + kept_line(count, seed)
 
 
 def base64(maker, *words):

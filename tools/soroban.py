@@ -90,6 +90,8 @@ def read_options(command, words):
             reject(f"{command['name']} needs {command_table.shown(option)}")
         if name in values and option.get("needs", name) not in values:
             reject(f"--{name} needs {command_table.shown(known[option['needs']]).strip('[]')}")
+        if name in values and option.get("excludes") in values:
+            reject(f"--{name} and --{option['excludes']} exclude each other")
     return values
 
 

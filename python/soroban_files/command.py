@@ -1,7 +1,7 @@
 """The command `soroban-files`.
 
 Its status is that of the program where both speak of the same: 1 for refused bytes and modules, 2 for wrong words, 3 for a
-ledger, verdicts or schedule that are refused, 4 for a file that cannot be read or written.
+ledger, verdicts or schedule that are refused, 4 for a file that cannot be read or written, 8 for a change log that does not fit.
 """
 from __future__ import annotations
 
@@ -13,7 +13,7 @@ import re
 import sys
 from typing import Any, Dict, List, NoReturn, Optional
 
-from . import __version__, diff, files, ledgers, lint, program, schema, wallet, where
+from . import __version__, changes, diff, files, ledgers, lint, program, schema, wallet, where
 from .program import NoProgram, Program, Refused
 from .xdr import Json, Misfit, Refusal
 
@@ -150,8 +150,9 @@ def do_explore(words: argparse.Namespace) -> int:
 
     ledger, tx_set = decoded("ledger", words.ledger), decoded("set", words.set, words.base64)
     report, after = decoded("report", words.report), decoded("ledger", words.next)
+    log = decoded("log", words.log) if words.log is not None else None
     names = names_in(words.names) if words.names else None
-    write_file(words.out, explore.page_of(ledger, tx_set, report, after, words.theme, names).encode())
+    write_file(words.out, explore.page_of(ledger, tx_set, report, after, words.theme, names, log).encode())
     return 0
 
 
@@ -239,6 +240,9 @@ def parser() -> argparse.ArgumentParser:
     inputs = {"ledger": "the ledger before", "set": "the set", "report": "the report", "next": "the ledger after"}
     for name, help_ in inputs.items():
         explored.add_argument(name, metavar=name.upper(), help=help_)
+    explored.add_argument(
+        "--log", metavar="FILE", help="the change log: the page also shows what each transaction changed"
+    )
     explored.add_argument("--out", metavar="FILE", help="by default the standard output")
     explored.add_argument("--base64", action="store_true", help="the set is base64 text")
     explored.add_argument("--theme", choices=("light", "dark"), default="", help="by default the reader's own")
@@ -257,6 +261,9 @@ def main(arguments: Optional[List[str]] = None) -> int:
     except ledgers.LedgerRefusal as refusal:
         print(f"{refusal}: {refusal.why}", file=sys.stderr)
         return 3
+    except changes.Unfit as unfit:
+        print(f"{unfit}: {unfit.why}", file=sys.stderr)
+        return 8
     except (Misfit, ValueError, NoProgram, Refused, wallet.NoCryptography) as error:
         print(error, file=sys.stderr)
         return 1

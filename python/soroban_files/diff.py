@@ -1,7 +1,7 @@
 """What changed from one ledger to another: the header, entries made, gone and changed, and lives."""
 from __future__ import annotations
 
-from typing import Any, Dict, Iterator, List, NamedTuple
+from typing import Any, Dict, Iterator, List, NamedTuple, Sequence
 
 from . import ledgers, schema, values
 from .where import key_line
@@ -43,7 +43,12 @@ class Difference(NamedTuple):
 
 def difference(before: Json, after: Json) -> Difference:
     """Returns what changed between two ledgers; entries come in the order of their keys' bytes."""
-    old, new = ledgers.entries(before), ledgers.entries(after)
+    header = plain_fields(without_records(before), without_records(after), "")
+    return of_records(ledgers.entries(before), ledgers.entries(after), list(header))
+
+
+def of_records(old: Dict[bytes, Json], new: Dict[bytes, Json], header: Sequence[Field] = ()) -> Difference:
+    """Returns what changed between records by their keys' bytes, with these changes of the header."""
     both = [(old[key], new[key]) for key in sorted(old.keys() & new.keys())]
     pairs = [(a["entry"], b["entry"]) for a, b in both if a["entry"] != b["entry"]]
     changed = [Change(ledgers.key_of(entry), list(entry_fields(earlier, entry))) for earlier, entry in pairs]
@@ -52,10 +57,9 @@ def difference(before: Json, after: Json) -> Difference:
         for a, b in both
         if a["ttl"] != b["ttl"]
     ]
-    header = list(plain_fields(without_records(before), without_records(after), ""))
     made = [new[key] for key in sorted(new.keys() - old.keys())]
     gone = [old[key] for key in sorted(old.keys() - new.keys())]
-    return Difference(header, made, gone, changed, lives)
+    return Difference(list(header), made, gone, changed, lives)
 
 
 def without_records(ledger: Json) -> Json:

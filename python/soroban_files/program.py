@@ -52,11 +52,12 @@ class Simulated(NamedTuple):
 
 
 class Applied(NamedTuple):
-    """What `apply` made: the report as JSON, its file, and the file of the next ledger."""
+    """What `apply` made: the report as JSON, its file, the file of the next ledger, and the change log if it was asked for."""
 
     report: Json
     report_file: bytes
     ledger_file: bytes
+    log_file: Optional[bytes] = None
 
 
 def path_of(path: Optional[str] = None) -> str:
@@ -104,8 +105,19 @@ class Program:
         instructions, memory = (int(number) for number in used.groups()) if used else (0, 0)
         return Simulated(found["soroban_data"], found["result"], found["success"], instructions, memory)
 
-    def apply(self, tx_set: bytes, ledger: bytes, verdicts: bytes, close_time: int, workers: int = 1) -> Applied:
-        """Applies a set to a ledger. Raises `Refused` if the program refuses a file, or finds a conflict."""
+    def apply(
+        self,
+        tx_set: bytes,
+        ledger: bytes,
+        verdicts: bytes,
+        close_time: int,
+        workers: int = 1,
+        is_logged: bool = False,
+    ) -> Applied:
+        """Applies a set to a ledger, with a change log if asked for.
+
+        Raises `Refused` if the program refuses a file, or finds a conflict.
+        """
         words = [
             "apply",
             "--set",
@@ -118,10 +130,12 @@ class Program:
             str(close_time),
         ]
         words += ["--workers", str(workers), "--report", "report", "--ledger-out", "next"]
+        words += ["--log", "log"] * is_logged
         ran = self.run(words, {"set": tx_set, "ledger": ledger, "verdicts": verdicts})
         if ran.code:
             raise Refused(ran.code, ran.said)
-        return Applied(schema.read(schema.REPORT, ran.files["report"]), ran.files["report"], ran.files["next"])
+        report, next_ledger = ran.files["report"], ran.files["next"]
+        return Applied(schema.read(schema.REPORT, report), report, next_ledger, ran.files.get("log"))
 
     def vet(self, module: bytes) -> str:
         """Returns the line that `vet` says of a module."""

@@ -217,10 +217,12 @@ class CommandTest(unittest.TestCase):
         self.good("wallet", "set", envelope, "--out", self.path("set"))
         self.assertIn("is signed by its source", self.good(*verify, "--set", self.path("set")))
         files = [self.get(name) for name in ("set", f"ledger-{number}", "v")]
-        applied = Program().apply(files[0], files[1], files[2], 2000 + number)
+        applied = Program().apply(files[0], files[1], files[2], 2000 + number, is_logged=True)
         self.put("report", applied.report_file)
         self.put(f"ledger-{number + 1}", applied.ledger_file)
-        self.good("explore", before, self.path("set"), self.path("report"), after, "--out", self.path("page"))
+        words = ["--log", self.put("log", applied.log_file or b""), "--out", self.path("page")]
+        self.good("explore", before, self.path("set"), self.path("report"), after, *words)
+        self.assertRegex(self.get("page").decode(), r"[1-9]\d* changes?, footprint, limits, hash")
         return self.good("diff", before, after)
 
     @unittest.skipUnless(wallet.has_cryptography() and is_there(), "the package cryptography or the program is missing")
@@ -301,6 +303,29 @@ class CommandTest(unittest.TestCase):
             )
             self.assertEqual((status, said), (1, ""))
             self.assertNotEqual(errors, "")
+
+    def test_log(self) -> None:
+        """With the change log the page has more; a log that does not fit, or that is none, is refused."""
+        ledger, after = self.put("l", self.ledger()), self.put("n", self.ledger(seq=101, close_time="1005"))
+        tx_set, report = self.put("s", encode("set", envelopes.parallel_set([[]]))), self.put("r", encode("report", []))
+        header = {"old_seq": 100, "old_close_time": "1000", "new_close_time": "1005"}
+        stage = {"transactions": [], "end": []}
+        log = self.put("log", encode("log", {**header, "stages": [stage]}))
+        more = self.put("more", encode("log", {**header, "stages": [stage, stage]}))
+        words, out = ["explore", ledger, tx_set, report, after], self.path("page")
+        self.assertNotIn("end of the stage", self.good(*words))
+        self.assertIn("end of the stage", self.good(*words, "--log", log))
+        status, said, errors = self.run_it(*words, "--log", more, "--out", out)
+        self.assertEqual((status, said, errors), (8, "", "log does not fit: stages: the log has 2, the set 1\n"))
+        status, said, errors = self.run_it(*words[:4], ledger, "--log", log, "--out", out)
+        self.assertEqual((status, said), (8, ""))
+        self.assertIn("log does not fit: header: it leads from ledger 100 closed at 1000 to ledger 101", errors)
+        bad = self.put("bad", self.get("log")[:-1])
+        status, said, errors = self.run_it(*words, "--log", bad, "--out", out)
+        self.assertEqual((status, said), (1, ""))
+        self.assertIn("refused at 31: end", errors)
+        self.assertEqual(self.run_it(*words, "--log", self.path("none"))[0], 4)
+        self.assertFalse(os.path.exists(out))
 
     @unittest.skipUnless(wallet.has_cryptography(), "the package cryptography is missing")
     def test_bad_seeds(self) -> None:

@@ -166,6 +166,7 @@ class Command:
         "ledger": "ledger",
         "verdicts": "verdicts",
         "set": "set",
+        "log": "log",
     }
 
     def __init__(self, words: List[str], room: Room, outcome: List[str]) -> None:
@@ -187,6 +188,9 @@ class Command:
             yield ("set", self.options["set"], text) if self.name == "apply" else ("envelope", self.options["tx"], text)
             if "schedule" in self.options:
                 yield "schedule", self.options["schedule"], False
+        elif self.name == "apply-list":
+            for kind in ("ledger", "verdicts", "list"):
+                yield kind, self.options[kind], False
         elif self.name == "show":
             yield self.options["kind"], self.options["file"], text
         elif self.name in ("migrate", "play"):
@@ -198,7 +202,7 @@ class Command:
 
     def follows(self) -> bool:
         """Returns whether another ledger has to be able to follow the one that is read."""
-        return self.name in ("apply", "simulate") or (self.name == "play" and self.options["back"] == "0")
+        return self.name in ("apply", "apply-list", "simulate") or (self.name == "play" and self.options["back"] == "0")
 
     def judged(self) -> Optional[str]:
         """Returns the line of the first refusal, after it has taken all inputs there and back."""
@@ -284,12 +288,10 @@ class Commands(unittest.TestCase):
                 self.names_envelopes(command, value)
 
     def names_envelopes(self, command: Command, report: Json) -> None:
-        """A report names the envelopes of the set by their hashes, in the order of the set. A run that stops names some of them."""
+        """A report names the envelopes by their hashes, in their order. A run that stops names some of them."""
         room, options = command.room, command.options
-        text = room[options["set"]] or b""
-        tx_set = decode("set", files.from_base64(text) if "base64" in options else text)
         network = ledgers.body(decode("ledger", room[options["ledger"]] or b""))["network_id"]
-        named = [hashes.envelope_hash(network, envelope) for envelope in envelopes_of(tx_set)]
+        named = [hashes.envelope_hash(network, envelope) for envelope in self.sent(command)]
         reported = [pair["transaction_hash"] for pair in report]
         if "steps" in options:
             rest = iter(named)
@@ -297,6 +299,14 @@ class Commands(unittest.TestCase):
         else:
             self.assertEqual(reported, named)
         self.counts["hashes"] += len(reported)
+
+    def sent(self, command: Command) -> List[Json]:
+        """Returns the envelopes that a command applies."""
+        room, options = command.room, command.options
+        if command.name == "apply-list":
+            return list(decode("list", room[options["list"]] or b""))
+        text = room[options["set"]] or b""
+        return envelopes_of(decode("set", files.from_base64(text) if "base64" in options else text))
 
 
 def envelopes_of(tx_set: Json) -> List[Json]:

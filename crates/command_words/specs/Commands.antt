@@ -26,17 +26,18 @@ abbrev pub with_flag : Text → App → App
 with_flag name a = with_rule a (flag_rule name)
 
 -- apply --set FILE --ledger FILE --verdicts FILE --close-time SECONDS --workers COUNT --report FILE --ledger-out FILE
---   [--schedule FILE [--steps COUNT]] [--base64]
+--   [--schedule FILE [--steps COUNT] | --log FILE] [--base64]
 unfoldable pub apply_app : App
 apply_app =
     with_flag (codes "base64")
+    (with_optional (codes "log")
     (with_optional (codes "steps")
     (with_optional (codes "schedule")
     (with_option (codes "ledger-out")
     (with_option (codes "report")
     (with_option (codes "workers")
     (with_option (codes "close-time")
-    (with_option (codes "verdicts") (with_option (codes "ledger") (with_option (codes "set") (new_app (codes "apply")))))))))))
+    (with_option (codes "verdicts") (with_option (codes "ledger") (with_option (codes "set") (new_app (codes "apply"))))))))))))
 
 -- simulate --tx FILE --ledger FILE --verdicts FILE --close-time SECONDS --out FILE [--base64]
 unfoldable pub simulate_app : App
@@ -75,6 +76,15 @@ play_app =
     with_option (codes "back")
     (with_option (codes "ledger-out") (with_option (codes "ledger") (with_option (codes "log") (new_app (codes "play")))))
 
+-- apply-list --list FILE --ledger FILE --verdicts FILE --close-time SECONDS --workers COUNT --report FILE --ledger-out FILE
+unfoldable pub apply_list_app : App
+apply_list_app =
+    with_option (codes "ledger-out")
+    (with_option (codes "report")
+    (with_option (codes "workers")
+    (with_option (codes "close-time")
+    (with_option (codes "verdicts") (with_option (codes "ledger") (with_option (codes "list") (new_app (codes "apply-list"))))))))
+
 -- the program before it has commands: without help, and without its own name among the words
 abbrev pub bare_app : App
 bare_app =
@@ -93,5 +103,6 @@ soroban_app =
     (with_subcommand
     (with_subcommand
     (with_subcommand
+    (with_subcommand
     (with_subcommand (with_subcommand (with_subcommand bare_app apply_app.top) simulate_app.top) show_app.top) vet_app.top)
-    migrate_app.top) gen_app.top) build_app.top) play_app.top
+    migrate_app.top) gen_app.top) build_app.top) play_app.top) apply_list_app.top

@@ -1,6 +1,5 @@
 -- The words of a command line, as clap reads them (own).
 use Rattle.std.specs.Prelude.{◌≤◌, ⊤, Bool, true, false, List, [], ◌∷◌, Option, Some, None, if◌then◌else◌, codes, option_and_then}
-use Rattle.std.specs.Prelude.{option_map}
 use Rattle.std.specs.Str.{bytes_eq}
 use Rattle.clap.specs.Faults.{fault_of}
 use Rattle.clap.specs.Kinds.{Kinds}
@@ -12,7 +11,8 @@ use Rattle.command_words.specs.Values.{with_name}
 use Rattle.command_words.specs.Values.{workers_in}
 use Rattle.command_words.specs.declared.request.Request.{Request}
 use Rattle.command_words.specs.declared.request.ScheduleOptions.{ScheduleOptions}
-use Rattle.command_words.specs.declared.request.Request.TheVariants.{Apply, Simulate, Show, Vet, Migrate, Gen, Build, Play}
+use Rattle.command_words.specs.declared.request.Request.TheVariants.{Apply, ApplyList, Build, Gen, Migrate, Play, Show}
+use Rattle.command_words.specs.declared.request.Request.TheVariants.{Simulate, Vet}
 
 infixl 10 ◌>>=◌
 abbrev ◌>>=◌ : {A B : Type 0} → Option A → (A → Option B) → Option B
@@ -37,6 +37,17 @@ schedule_from (Some file) (Some text) = do
   steps ← number64_in text
   Some (Some (record { file = file; steps = steps }))
 
+-- The file of the change log of `apply`, if one is asked for. A log together with a schedule is wrong.
+abbrev pub log_from : Option Text → Option ScheduleOptions → Option (Option Text)
+log_from None schedule = Some None
+log_from (Some file) None = Some (Some file)
+log_from (Some file) (Some schedule) = None
+
+-- the file of a schedule or of a change log, if there is one
+abbrev pub more_of : Option ScheduleOptions → Option Text → Option Text
+more_of None log = log
+more_of (Some schedule) log = Some schedule.file
+
 -- apply, with the values of its options
 abbrev pub apply_from : List Row → Option Request
 apply_from rows = do
@@ -48,7 +59,8 @@ apply_from rows = do
   report ← first_of (codes "report") rows
   ledger_out ← first_of (codes "ledger-out") rows
   schedule ← schedule_from (first_of (codes "schedule") rows) (first_of (codes "steps") rows)
-  _ ← guard (are_names (with_name (option_map (λ s. s.file) schedule) (set ∷ ledger ∷ verdicts ∷ report ∷ ledger_out ∷ [])))
+  log ← log_from (first_of (codes "log") rows) schedule
+  _ ← guard (are_names (with_name (more_of schedule log) (set ∷ ledger ∷ verdicts ∷ report ∷ ledger_out ∷ [])))
   Some (Apply (record {
     set = set;
     ledger = ledger;
@@ -58,6 +70,7 @@ apply_from rows = do
     report = report;
     ledger_out = ledger_out;
     schedule = schedule;
+    log = log;
     base64 = has_base64 rows;
   }))
 
@@ -132,11 +145,33 @@ play_from rows = do
   _ ← guard (are_names (log ∷ ledger ∷ ledger_out ∷ []))
   Some (Play (record { log = log; ledger = ledger; ledger_out = ledger_out; back = back }))
 
+-- apply-list, with the values of its options
+abbrev pub apply_list_from : List Row → Option Request
+apply_list_from rows = do
+  list ← first_of (codes "list") rows
+  ledger ← first_of (codes "ledger") rows
+  verdicts ← first_of (codes "verdicts") rows
+  close_time ← option_and_then number64_in (first_of (codes "close-time") rows)
+  workers ← option_and_then workers_in (first_of (codes "workers") rows)
+  report ← first_of (codes "report") rows
+  ledger_out ← first_of (codes "ledger-out") rows
+  _ ← guard (are_names (list ∷ ledger ∷ verdicts ∷ report ∷ ledger_out ∷ []))
+  Some (ApplyList (record {
+    list = list;
+    ledger = ledger;
+    verdicts = verdicts;
+    close_time = close_time;
+    workers = workers;
+    report = report;
+    ledger_out = ledger_out;
+  }))
+
 -- the numbers of a request are in their ranges
 abbrev pub IsInRange : Request → Type 0
 IsInRange (Apply a) = (1 ≤ a.workers) × (a.workers ≤ 64)
 IsInRange (Gen g) = (1 ≤ g.count) × (g.count ≤ 100000)
 IsInRange (Build b) = (1 ≤ b.clusters) × (b.clusters ≤ 1024)
+IsInRange (ApplyList a) = (1 ≤ a.workers) × (a.workers ≤ 64)
 IsInRange _ = ⊤
 
 -- the command of a subcommand's matches
@@ -149,7 +184,8 @@ asked_from (Some found) = if bytes_eq found.0 (codes "apply") then apply_from fo
     else (if bytes_eq found.0 (codes "migrate") then migrate_from found.1
     else (if bytes_eq found.0 (codes "gen") then gen_from found.1
     else (if bytes_eq found.0 (codes "build") then build_from found.1
-    else (if bytes_eq found.0 (codes "play") then play_from found.1 else None)))))))
+    else (if bytes_eq found.0 (codes "play") then play_from found.1
+    else (if bytes_eq found.0 (codes "apply-list") then apply_list_from found.1 else None))))))))
 
 -- clap finds no fault
 abbrev pub are_right : Kinds → Bool

@@ -4,8 +4,8 @@ ghost use Rattle.std.specs.Prelude.{◌≡◌, false, IfOk};
 ghost use Rattle.clap.specs.Simple.{app_of, new_app, with_rule, with_subcommand};
 ghost use Rattle.clap.specs.Walk.{rule_of};
 ghost use Rattle.clap.specs.declared.builder.command.Command.TheViews.{out-Command as fields_of};
-ghost use Rattle.command_words.specs.Commands.{apply_app, bare_app, build_app, flag_rule, gen_app, migrate_app, option_rule};
-ghost use Rattle.command_words.specs.Commands.{play_app};
+ghost use Rattle.command_words.specs.Commands.{apply_app, apply_list_app, bare_app, build_app, flag_rule, gen_app, migrate_app};
+ghost use Rattle.command_words.specs.Commands.{option_rule, play_app};
 ghost use Rattle.command_words.specs.Commands.{optional_rule, show_app, simulate_app, soroban_app, vet_app, with_flag};
 ghost use Rattle.command_words.specs.Commands.{with_option, with_optional};
 
@@ -24,6 +24,7 @@ pub fn soroban_command<'a>(alloc: Global) -> Result<Command<'a>, AllocError>
     let command = with_command(command, gen_command(alloc)?)?;
     let command = with_command(command, build_command(alloc)?)?;
     let command = with_command(command, play_command(alloc)?)?;
+    let command = with_command(command, apply_list_command(alloc)?)?;
     Ok(command)
 }
 
@@ -49,6 +50,7 @@ fn apply_command<'a>(alloc: Global) -> Result<Command<'a>, AllocError>
     let command = with_option(command, alloc, "ledger-out")?;
     let command = with_optional(command, alloc, "schedule")?;
     let command = with_optional(command, alloc, "steps")?;
+    let command = with_optional(command, alloc, "log")?;
     with_flag(command, alloc, "base64")
 }
 
@@ -125,6 +127,17 @@ fn play_command<'a>(alloc: Global) -> Result<Command<'a>, AllocError>
     let command = Command::new(alloc, "play");
     let command = with_options(command, alloc, "log", "ledger", "ledger-out")?;
     with_option(command, alloc, "back")
+}
+
+#[tactic(auto, unfolding(crate::specs::Commands::apply_list_app))]
+fn apply_list_command<'a>(alloc: Global) -> Result<Command<'a>, AllocError>
+    ensures app { IfOk result (λ c. app_of c ≡ apply_list_app) }
+    ensures local { IfOk result (λ c. (fields_of c).has_globals ≡ false) }
+{
+    let command = Command::new(alloc, "apply-list");
+    let command = with_options(command, alloc, "list", "ledger", "verdicts")?;
+    let command = with_options(command, alloc, "close-time", "workers", "report")?;
+    with_option(command, alloc, "ledger-out")
 }
 
 fn with_command<'a>(

@@ -6,13 +6,14 @@ ghost use Rattle.clap.specs.Simple.{subcommand_rows_of};
 ghost use Rattle.clap.specs.Walk.{first_of, rows_of};
 ghost use Rattle.command_words.specs.Answers.{ReadsWords};
 ghost use Rattle.command_words.specs.Values.{back_in, is_set, kind_in, number_in};
-ghost use Rattle.command_words.specs.Words.{IsInRange, apply_from, asked_from, build_from, gen_from, migrate_from, schedule_from};
+ghost use Rattle.command_words.specs.Words.{IsInRange, apply_from, apply_list_from, asked_from, build_from, gen_from, log_from};
+ghost use Rattle.command_words.specs.Words.{migrate_from, more_of as more_of_in, schedule_from};
 ghost use Rattle.command_words.specs.Words.{play_from, show_from, simulate_from, vet_from};
 
 use crate::values::{are_names, are_names_with, kind_in, number_in};
 use crate::{
-    ApplyRequest, BuildRequest, GenRequest, MigrateRequest, PlayRequest, Request, ScheduleOptions,
-    ShowKind, ShowRequest, SimulateRequest, VetRequest, WordsErr,
+    ApplyListRequest, ApplyRequest, BuildRequest, GenRequest, MigrateRequest, PlayRequest, Request,
+    ScheduleOptions, ShowKind, ShowRequest, SimulateRequest, VetRequest, WordsErr,
 };
 use clap::ArgMatches;
 use edge_io::Word;
@@ -43,6 +44,7 @@ pub fn request_from(alloc: Global, matches: &ArgMatches<'_>) -> Result<Request, 
         "gen" => gen_request(alloc, found),
         "build" => build_request(alloc, found),
         "play" => play_request(alloc, found),
+        "apply-list" => apply_list_request(alloc, found),
         _ => Err(WordsErr::Usage),
     }
 }
@@ -66,7 +68,8 @@ fn apply_request(alloc: Global, found: &ArgMatches<'_>) -> Result<Request, Words
     let report = value_of(alloc, found, "report")?;
     let ledger_out = value_of(alloc, found, "ledger-out")?;
     let schedule = schedule_of(alloc, found)?;
-    let more = schedule.as_ref().map(|s| &s.file);
+    let log = log_of(alloc, found, &schedule)?;
+    let more = more_of(&schedule, &log);
     if !are_names_with(more, &[&set, &ledger, &verdicts, &report, &ledger_out]) {
         return Err(WordsErr::Usage);
     }
@@ -79,8 +82,37 @@ fn apply_request(alloc: Global, found: &ArgMatches<'_>) -> Result<Request, Words
         report,
         ledger_out,
         schedule,
+        log,
         base64: is_set(found, "base64"),
     }))
+}
+
+/// The file of the change log of `apply`, if one is asked for.
+fn log_of(
+    alloc: Global,
+    found: &ArgMatches<'_>,
+    schedule: &Option<ScheduleOptions>,
+) -> Result<Option<Word>, WordsErr>
+    ensures { ReadsWords result (log_from (first_of (codes "log") (rows_of (found_of found.now))) schedule.now) }
+{
+    if !is_given(found, "log") {
+        return Ok(None);
+    }
+    if schedule.is_some() {
+        return Err(WordsErr::Usage);
+    }
+    let file = value_of(alloc, found, "log")?;
+    Ok(Some(file))
+}
+
+/// The file of a schedule or of a change log, if there is one.
+fn more_of<'a>(schedule: &'a Option<ScheduleOptions>, log: &'a Option<Word>) -> Option<&'a Word>
+    ensures { option_map (λ n. n.now) result ≡ more_of_in schedule.now log.now }
+{
+    match schedule {
+        Some(schedule) => Some(&schedule.file),
+        None => log.as_ref(),
+    }
 }
 
 /// The schedule of `apply`, if one is given.
@@ -228,6 +260,31 @@ fn back_of(found: &ArgMatches<'_>, id: &str) -> Result<bool, WordsErr>
 {
     let number = number_of(found, id, 0, 1)?;
     Ok(number == 1)
+}
+
+fn apply_list_request(alloc: Global, found: &ArgMatches<'_>) -> Result<Request, WordsErr>
+    ensures request { ReadsWords result (apply_list_from (rows_of (found_of found.now))) }
+    ensures range { IfOk result IsInRange }
+{
+    let list = value_of(alloc, found, "list")?;
+    let ledger = value_of(alloc, found, "ledger")?;
+    let verdicts = value_of(alloc, found, "verdicts")?;
+    let close_time = number_of(found, "close-time", 0, u64::MAX)?;
+    let workers = number_of(found, "workers", 1, MAX_WORKERS)?;
+    let report = value_of(alloc, found, "report")?;
+    let ledger_out = value_of(alloc, found, "ledger-out")?;
+    if !are_names(&[&list, &ledger, &verdicts, &report, &ledger_out]) {
+        return Err(WordsErr::Usage);
+    }
+    Ok(Request::ApplyList(ApplyListRequest {
+        list,
+        ledger,
+        verdicts,
+        close_time,
+        workers,
+        report,
+        ledger_out,
+    }))
 }
 
 /// Whether an option is given.

@@ -20,6 +20,8 @@ pub struct ApplyRequest {
     pub ledger_out: Word,
     /// The order in which the transactions run, if it is given.
     pub schedule: Option<ScheduleOptions>,
+    /// The file that gets the change log, if one is asked for. It is not asked for together with a schedule.
+    pub log: Option<Word>,
     /// Whether the set's file is base64 text.
     pub base64: bool,
 }
@@ -122,6 +124,24 @@ pub struct PlayRequest {
     pub back: bool,
 }
 
+/// The options of `apply-list`.
+#[derive(Debug, Drop)]
+pub struct ApplyListRequest {
+    /// The file of the envelopes.
+    pub list: Word,
+    /// The file of the ledger before the list.
+    pub ledger: Word,
+    pub verdicts: Word,
+    /// The close time of the new ledger, in seconds since 1970.
+    pub close_time: u64,
+    /// The number of workers, from 1 to 64. The result is the same for any number.
+    pub workers: u64,
+    /// The file that gets the results.
+    pub report: Word,
+    /// The file that gets the new ledger.
+    pub ledger_out: Word,
+}
+
 /// A command, with its options.
 #[derive(Debug, Drop)]
 pub enum Request {
@@ -133,4 +153,5 @@ pub enum Request {
     Gen(GenRequest),
     Build(BuildRequest),
     Play(PlayRequest),
+    ApplyList(ApplyListRequest),
 }

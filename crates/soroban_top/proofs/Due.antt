@@ -25,8 +25,8 @@ use Rattle.xdr_spec.proofs.Lemmas.{decoded_refuses, spells_decoded}
 use Rattle.soroban_top.specs.FirstConflict.{FoundConflict, first_conflict, free_of_conflict, stages_in, unless_found}
 use Rattle.soroban_top.specs.Judged.{as_verdicts, envelope_in, set_in, verdicts_in}
 use Rattle.soroban_top.specs.Laws.{CanRun, ConflictLaw, DoneLaw, IncompleteLaw, IsIncompleteAt, MalformedLaw, ScheduleLaw, SimulateDoneLaw, SimulateMalformedLaw, SimulateVerdictsLaw, VerdictsLaw}
-use Rattle.soroban_top.specs.Scheduled.{as_schedule, complete_for, with_steps, outputs_by, schedule_in, unless_incomplete}
-use Rattle.soroban_top.specs.Outcome.{applied, simulated, simulation_of}
+use Rattle.soroban_top.specs.Scheduled.{as_schedule, complete_for, with_steps, schedule_in, unless_incomplete}
+use Rattle.soroban_top.specs.Outcome.{applied_by, simulated, simulation_of}
 use Rattle.soroban_top.specs.Product.{Made, file}
 use Rattle.soroban_top.specs.Steps.{◌>>=◌, status_of}
 use Rattle.soroban_top.specs.declared.scheduled.ScheduledSteps.{ScheduledSteps}
@@ -119,7 +119,7 @@ not_malformed m options f at why set = of_scheduled (λ s. s ≡ status.Malforme
 
 -- what is stored and printed for a set in an order
 made_for : ApplyRequest → Header × LedgerMap → Verdicts → Option ScheduledSteps → TxSet → Made
-made_for a ledger verdicts scheduled set = applied (file 3 a.report) (file 4 a.ledger_out) (outputs_by scheduled ledger verdicts set a.close_time)
+made_for a ledger verdicts scheduled set = applied_by a ledger verdicts scheduled set
 
 pub malformed_law : MalformedLaw
 unfolding verdicts_in set_in made_for
@@ -188,7 +188,7 @@ verdicts_is : {B : Type 0} (r : Result Verdicts XdrErr) (rest : Verdicts → Res
 verdicts_is (Ok v) rest at none h = absurd (none v h)
 verdicts_is (Err e) rest at none h = (e, refl, cc)
 
-verdicts_due : {B : Type 0} (bytes : List ℕ) (rest : Verdicts → Result B Status) (at : ℕ) → IsBytes bytes → ((v : Verdicts) → status_of (rest v) ≡ status.Verdicts at → ⊥) → (status_of (as_verdicts (decoded verdicts_format bytes) >>= rest) ≡ status.Verdicts at) ↔ ((why : Why) × Refuses verdicts_format bytes at why)
+pub verdicts_due : {B : Type 0} (bytes : List ℕ) (rest : Verdicts → Result B Status) (at : ℕ) → IsBytes bytes → ((v : Verdicts) → status_of (rest v) ≡ status.Verdicts at → ⊥) → (status_of (as_verdicts (decoded verdicts_format bytes) >>= rest) ≡ status.Verdicts at) ↔ ((why : Why) × Refuses verdicts_format bytes at why)
 verdicts_due bytes rest at fit none = (
   λ h. let e = verdicts_is (decoded verdicts_format bytes) rest at none h in
       let refuses : Refuses verdicts_format bytes e.0.at e.0.why = decoded_refuses verdicts_format verdicts_lawful bytes fit e.0 e.1 in
@@ -199,7 +199,7 @@ verdicts_due bytes rest at fit none = (
 pub verdicts_law : VerdictsLaw
 unfolding verdicts_in
 verdicts_law a m bytes given at =
-    rw (given.is_ledger, given.has_verdicts) (verdicts_due bytes _ at given.are_bytes (λ v. set_file _ (never_verdicts at) m a.base64 a.set a.schedule (λ scheduled set. applied (file 3 a.report) (file 4 a.ledger_out) (outputs_by scheduled given.ledger v set a.close_time))))
+    rw (given.is_ledger, given.has_verdicts) (verdicts_due bytes _ at given.are_bytes (λ v. set_file _ (never_verdicts at) m a.base64 a.set a.schedule (applied_by a given.ledger v)))
 
 -- ---- simulate
 

@@ -11,6 +11,7 @@ use Rattle.ledger_types.specs.declared.verdicts.Verdicts.{Verdicts}
 use Rattle.schedule_runs.specs.Plans.{first_incomplete}
 use Rattle.schedule_runs.specs.Schedule.{schedule_format}
 use Rattle.schedule_runs.specs.declared.schedule.Schedule.{Schedule}
+use Rattle.set_build.specs.Built.{envelopes_format}
 use Rattle.tx_xdr.specs.Envelope.{envelope_format}
 use Rattle.tx_xdr.specs.Set.{set_format}
 use Rattle.tx_xdr.specs.declared.envelope.Envelope.{Envelope}
@@ -21,6 +22,7 @@ use Rattle.xdr_spec.specs.declared.XdrErr.{XdrErr}
 use Rattle.soroban_top.specs.FirstConflict.{FoundConflict, first_conflict, free_of_conflict, stages_in, unless_found}
 use Rattle.soroban_top.specs.Judged.{as_bytes, as_spelled, as_verdicts, bytes_of, envelope_in, envelope_opened, opened, set_in, set_opened, verdicts_in}
 use Rattle.soroban_top.specs.Scheduled.{as_schedule, complete_for, may_run, scheduled_at, with_steps, schedule_in, unless_incomplete}
+use Rattle.soroban_top.specs.SetBuilt.{list_in}
 use Rattle.soroban_top.specs.Steps.{◌>>=◌, status_of}
 use Rattle.soroban_top.specs.declared.scheduled.ScheduledSteps.{ScheduledSteps}
 use Rattle.soroban_top.specs.declared.status.Status.{Status}
@@ -123,13 +125,17 @@ pub set_file : {B : Type 0} (P : Status → Type 0) → Later P → (m : FileMap
 unfolding set_in
 set_file P later m base64 name options f = text_file P later (get m name) base64 name set_in (scheduled_or_not m options f) (λ bytes. of_set P later (decoded set_format bytes) m options f)
 
-of_envelope : {B : Type 0} (P : Status → Type 0) → Later P → (r : Result Envelope XdrErr) (f : Envelope → B) → P (status_of (as_spelled r >>= (λ e. Ok (f e))))
-of_envelope P later (Ok e) f = later.after.done
-of_envelope P later (Err e) f = later.malformed e.at e.why
+of_spelled : {A B : Type 0} (P : Status → Type 0) → Later P → (r : Result A XdrErr) (f : A → B) → P (status_of (as_spelled r >>= (λ x. Ok (f x))))
+of_spelled P later (Ok x) f = later.after.done
+of_spelled P later (Err e) f = later.malformed e.at e.why
 
 pub envelope_file : {B : Type 0} (P : Status → Type 0) → Later P → (found : Option (List ℕ)) (base64 : Bool) (name : List ℕ) (f : Envelope → B) → P (status_of (bytes_of found name >>= envelope_opened base64 name >>= (λ e. Ok (f e))))
 unfolding envelope_in
-envelope_file P later found base64 name f = text_file P later found base64 name envelope_in (λ e. Ok (f e)) (λ bytes. of_envelope P later (decoded envelope_format bytes) f)
+envelope_file P later found base64 name f = text_file P later found base64 name envelope_in (λ e. Ok (f e)) (λ bytes. of_spelled P later (decoded envelope_format bytes) f)
+
+pub list_file : {B : Type 0} (P : Status → Type 0) → Later P → (found : Option (List ℕ)) (name : List ℕ) (f : List Envelope → B) → P (status_of (bytes_of found name >>= list_in >>= (λ l. Ok (f l))))
+unfolding list_in
+list_file P later found name f = text_file P later found false name list_in (λ l. Ok (f l)) (λ bytes. of_spelled P later (decoded envelopes_format bytes) f)
 
 -- ---- the verdicts' file, and what is read after it
 

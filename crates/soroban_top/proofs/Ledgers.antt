@@ -31,9 +31,10 @@ use Rattle.xdr_spec.proofs.Lemmas.{spells_decoded}
 use Rattle.soroban_top.specs.FirstConflict.{free_of_conflict, stages_in}
 use Rattle.soroban_top.specs.Judged.{as_ledger, envelope_in, ledger_at, ledger_in, set_at, set_in, verdicts_at, verdicts_in}
 use Rattle.soroban_top.specs.Laws.{AppliedLaw, CanRun, found, IsFree, IsScheduled, IsSpelledIn, LedgerDoneLaw, LedgerLaw, LedgerShownLaw, MigrateDoneLaw, MigrateLaw, MigrateRefusedLaw, NoLedgerLaw, SimulateEnforcedLaw, SimulateLaw, SimulateLedgerLaw, SimulateNoLedgerLaw, StoppedLaw, WholeLaw}
+use Rattle.soroban_top.specs.LogStored.{log_bytes}
 use Rattle.soroban_top.specs.Migrated.{migrated}
-use Rattle.soroban_top.specs.Scheduled.{complete_for, may_run, outputs_by, outputs_of, outputs_stopped, scheduled_at}
-use Rattle.soroban_top.specs.Outcome.{applied, only_said, simulated, simulation_of}
+use Rattle.soroban_top.specs.Scheduled.{complete_for, may_run, outputs_of, outputs_stopped, scheduled_at}
+use Rattle.soroban_top.specs.Outcome.{applied, applied_by, only_said, simulated, simulation_of}
 use Rattle.soroban_top.specs.Product.{Made, file}
 use Rattle.soroban_top.specs.Shown.{any_ledger_in}
 use Rattle.soroban_top.specs.Steps.{◌>>=◌, status_of}
@@ -53,7 +54,7 @@ is_refusal (Err e) rest reason at none h =
     let same : e ≡ refusal reason at = ap₂ refusal reasons places in
     ap Err same
 
-ledger_due : {B : Type 0} (follows : Bool) (bytes : List ℕ) (rest : Header × LedgerMap → Result B Status) (at : ℕ) → IsBytes bytes → ((l : Header × LedgerMap) → status_of (rest l) ≡ status.Ledger ledger_why.Xdr at → ⊥)
+pub ledger_due : {B : Type 0} (follows : Bool) (bytes : List ℕ) (rest : Header × LedgerMap → Result B Status) (at : ℕ) → IsBytes bytes → ((l : Header × LedgerMap) → status_of (rest l) ≡ status.Ledger ledger_why.Xdr at → ⊥)
     → (status_of (as_ledger (ledger_of follows bytes) >>= rest) ≡ status.Ledger ledger_why.Xdr at) ↔ ((why : Why) × Refuses file_format bytes at why)
 ledger_due follows bytes rest at fit none = (
   λ h. (xdr_refused follows bytes at fit).0 (is_refusal (ledger_of follows bytes) rest ledger_why.Xdr at none h),
@@ -65,7 +66,7 @@ unfolding ledger_in
 ledger_law a m bytes given at =
     let later = never_ledger ledger_why.Xdr at in
     rw given.has_ledger (ledger_due true bytes _ at given.are_bytes (λ l. verdicts_file _ later (λ place h. cc) (get m a.verdicts) a.verdicts _
-    (λ v. set_file _ later m a.base64 a.set a.schedule (λ scheduled set. applied (file 3 a.report) (file 4 a.ledger_out) (outputs_by scheduled l v set a.close_time)))))
+    (λ v. set_file _ later m a.base64 a.set a.schedule (applied_by a l v))))
 
 pub simulate_ledger : SimulateLedgerLaw
 unfolding ledger_in
@@ -83,7 +84,7 @@ ledger_refused : {B : Type 0} (r : Result (Header × LedgerMap) LedgerRefusal) (
 ledger_refused (Ok x) rest l why at none is h = none x h
 ledger_refused (Err e) rest l why at none is h = cc
 
-no_ledger : {B : Type 0} (bytes : List ℕ) (rest : Header × LedgerMap → Result B Status) → IsBytes bytes → ((why : LedgerWhy) (at : ℕ) (l : Header × LedgerMap) → status_of (rest l) ≡ status.Ledger why at → ⊥)
+pub no_ledger : {B : Type 0} (bytes : List ℕ) (rest : Header × LedgerMap → Result B Status) → IsBytes bytes → ((why : LedgerWhy) (at : ℕ) (l : Header × LedgerMap) → status_of (rest l) ≡ status.Ledger why at → ⊥)
     → ((why : LedgerWhy) × (at : ℕ) × (status_of (as_ledger (ledger_of true bytes) >>= rest) ≡ status.Ledger why at)) ↔ (((header : Header) × (entries : LedgerMap) × IsFileOf true bytes header entries) → ⊥)
 no_ledger bytes rest fit none = (
   λ h is. ledger_refused (ledger_of true bytes) rest (is.0, is.1) h.0 h.1 (none h.0 h.1) (file_is_read true bytes is.0 is.1 is.2) h.2,
@@ -94,7 +95,7 @@ pub no_ledger_law : NoLedgerLaw
 unfolding ledger_in
 no_ledger_law a m bytes given =
     rw given.has_ledger (no_ledger bytes _ given.are_bytes (λ reason at l. verdicts_file _ (never_ledger reason at) (λ place h. cc) (get m a.verdicts) a.verdicts _
-    (λ v. set_file _ (never_ledger reason at) m a.base64 a.set a.schedule (λ scheduled set. applied (file 3 a.report) (file 4 a.ledger_out) (outputs_by scheduled l v set a.close_time)))))
+    (λ v. set_file _ (never_ledger reason at) m a.base64 a.set a.schedule (applied_by a l v))))
 
 pub simulate_no_ledger : SimulateNoLedgerLaw
 unfolding ledger_in
@@ -103,7 +104,7 @@ simulate_no_ledger s m bytes given =
     (λ v. envelope_file _ (never_ledger reason at) (get m s.tx) s.base64 s.tx (λ e. simulated (file 3 s.out) (simulation_of l v e s.close_time)))))
 
 pub applied_law : AppliedLaw
-unfolding ledger_in verdicts_in set_in free_of_conflict outputs_of
+unfolding ledger_in verdicts_in set_in free_of_conflict outputs_of log_bytes
 applied_law a m header entries verdicts set given third free plain =
     let ledger = file_is_read true given.ledger header entries given.is_ledger in
     let read = spells_decoded verdicts_format verdicts_lawful verdicts given.bytes given.spells in
@@ -117,7 +118,7 @@ run_of a m options ledger verdicts = do
   set ← set_at m a.base64 a.set
   scheduled ← scheduled_at m options
   _ ← may_run scheduled set
-  Ok (applied (file 3 a.report) (file 4 a.ledger_out) (outputs_by scheduled ledger verdicts set a.close_time))
+  Ok (applied_by a ledger verdicts scheduled set)
 
 run_by_schedule : (a : ApplyRequest) (m : FileMap) (options : Option ScheduleOptions) (set : TxSet) (scheduled : ScheduledSteps) (ledger : Header × LedgerMap) (verdicts : Verdicts) → IsSpelledIn set_format set a.set a.base64 m
     → IsScheduled options m (Some scheduled) → CanRun (Some scheduled) set
@@ -128,8 +129,12 @@ run_by_schedule a m options set scheduled ledger verdicts third is can =
     let none = (no_conflict_is (stages_in set)).1 can.0 in
     rw (third.has_text, third.opens, spelled, scheduled_found options m (Some scheduled) is, none, can.1) refl
 
+-- the same `apply` without a schedule, and without a log
+abbrev alone : ApplyRequest → ApplyRequest
+alone a = record a { schedule = None; log = None }
+
 run_by_itself : (a : ApplyRequest) (m : FileMap) (set : TxSet) (ledger : Header × LedgerMap) (verdicts : Verdicts) → IsSpelledIn set_format set a.set a.base64 m → IsFree set
-    → run_of a m None ledger verdicts ≡ Ok (applied (file 3 a.report) (file 4 a.ledger_out) (outputs_of ledger verdicts set a.close_time))
+    → run_of (alone a) m None ledger verdicts ≡ Ok (applied (file 3 a.report) (file 4 a.ledger_out) (outputs_of ledger verdicts set a.close_time))
 unfolding set_in free_of_conflict
 run_by_itself a m set ledger verdicts third free =
     let spelled = spells_decoded set_format set_lawful set third.bytes third.spells in
@@ -145,8 +150,8 @@ stopped_law a m header entries verdicts set scheduled given third is can =
 
 pub whole_law : WholeLaw
 whole_law a m set scheduled third is can all =
-    same_after (ledger_at m a.ledger) (λ l. verdicts_at m a.verdicts >>= run_of a m a.schedule l) (λ l. verdicts_at m a.verdicts >>= run_of a m None l)
-    (λ l. same_after (verdicts_at m a.verdicts) (run_of a m a.schedule l) (run_of a m None l)
+    same_after (ledger_at m a.ledger) (λ l. verdicts_at m a.verdicts >>= run_of a m a.schedule l) (λ l. verdicts_at m a.verdicts >>= run_of (alone a) m None l)
+    (λ l. same_after (verdicts_at m a.verdicts) (run_of a m a.schedule l) (run_of (alone a) m None l)
     (λ v. run_by_schedule a m a.schedule set scheduled l v third is can
     ∙ ap (λ (o : Outputs). Ok (applied (file 3 a.report) (file 4 a.ledger_out) o)) (whole_outputs scheduled l v set a.close_time can all)
     ∙ sym (run_by_itself a m set l v third can.0)))

@@ -7,6 +7,8 @@ mod Generated
 mod Later
 mod Leaving
 mod Ledgers
+mod ListsApplied
+mod Logging
 mod Made
 mod Present
 mod PutTogether

@@ -5,7 +5,7 @@ use Rattle.std.specs.FinMap.{get}
 use Rattle.base64_text.specs.Text.{bytes_in}
 use Rattle.command_words.specs.declared.request.Request.{Request}
 use Rattle.command_words.specs.declared.request.ScheduleOptions.{ScheduleOptions}
-use Rattle.command_words.specs.declared.request.Request.TheVariants.{Apply, Simulate, Show, Vet, Migrate, Gen, Build, Play}
+use Rattle.command_words.specs.declared.request.Request.TheVariants.{Apply, Simulate, Show, Vet, Migrate, Gen, Build, Play, ApplyList}
 use Rattle.command_words.specs.declared.request.ShowKind.{ShowKind}
 use Rattle.command_words.specs.declared.request.ShowKind.TheVariants as kinds
 use Rattle.edge_io.specs.Contents.{Contents, FileMap}
@@ -211,6 +211,10 @@ no_fault (Some (Play p)) m there =
     (λ ledger. both (log_at m p.log) _ (judged m p.log log_in there.1.0 log_judged)
     (λ log. replayed_judged (file 2 p.ledger_out) p.back log ledger))
 no_fault (Some (Build b)) m there = both (list_at m b.list) _ (judged m b.list list_in there.0 list_judged) (λ list. tt)
+no_fault (Some (ApplyList a)) m there =
+    both (ledger_at m a.ledger) _ (judged m a.ledger ledger_in there.0 ledger_judged)
+    (λ ledger. both (verdicts_at m a.verdicts) _ (judged m a.verdicts verdicts_in there.1.0 verdicts_judged)
+    (λ verdicts. both (list_at m a.list) _ (judged m a.list list_in there.1.1.0 list_judged) (λ list. tt)))
 
 unless : (P : Type 0) (status : Status) → IsNoFault status → UnlessFault status P → P
 unless P (Fault name) none h = absurd none

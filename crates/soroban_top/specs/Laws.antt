@@ -25,6 +25,7 @@ use Rattle.command_words.specs.declared.request.ShowRequest.{ShowRequest}
 use Rattle.command_words.specs.declared.request.SimulateRequest.{SimulateRequest}
 use Rattle.command_words.specs.declared.request.VetRequest.{VetRequest}
 use Rattle.edge_io.specs.Contents.{FileMap}
+use Rattle.ledger_apply.specs.Logged.{logged_set}
 use Rattle.ledger_file.specs.FileOf.{IsFileOf}
 use Rattle.ledger_spec.specs.LedgerFile.{ledger_bytes}
 use Rattle.ledger_spec.specs.LedgerMap.{LedgerMap}
@@ -67,6 +68,8 @@ use Rattle.soroban_top.specs.Outcome.{applied, due, only_said, outcome_of}
 use Rattle.soroban_top.specs.Product.{Made, file}
 use Rattle.soroban_top.specs.Steps.{◌>>=◌}
 use Rattle.soroban_top.specs.Vetted.{as_vetted}
+use Rattle.soroban_top.specs.LogPlays.{PlaysBetween}
+use Rattle.soroban_top.specs.LogStored.{with_log}
 use Rattle.soroban_top.specs.declared.scheduled.ScheduledSteps.{ScheduledSteps}
 use Rattle.soroban_top.specs.declared.status.Status.{Status}
 use Rattle.soroban_top.specs.declared.status.Status.TheVariants as status
@@ -199,13 +202,15 @@ DoneLaw = (a : ApplyRequest) (m : FileMap) (bytes : List ℕ) (scheduled : Optio
     → IsScheduled a.schedule m scheduled
     → (due_of a m ≡ status.Done) ↔ ((set : TxSet) × Spells set_format set bytes × CanRun scheduled set)
 
--- Of a set without a conflict, the outputs over the ledger are stored and printed.
+-- Of a set without a conflict, the outputs over the ledger are stored and printed. The change log is stored after them, if it is
+-- asked for.
 abbrev pub AppliedLaw : Type 0
 AppliedLaw = (a : ApplyRequest) (m : FileMap) (header : Header) (entries : LedgerMap) (verdicts : Verdicts) (set : TxSet)
     → AreFilesOf a.ledger a.verdicts m header entries verdicts → IsSpelledIn set_format set a.set a.base64 m → IsFree set
     → a.schedule ≡ None
     → outcome_of (Apply a) m
-    ≡ Ok (applied (file 3 a.report) (file 4 a.ledger_out) (outputs header verdicts entries set a.close_time))
+    ≡ Ok (with_log a.log (log_format.spell (logged_set header verdicts entries set a.close_time))
+    (applied (file 3 a.report) (file 4 a.ledger_out) (outputs header verdicts entries set a.close_time)))
 
 -- If a schedule is given, those of its first steps are stored and printed, with the header after the whole set.
 abbrev pub StoppedLaw : Type 0
@@ -224,7 +229,7 @@ WholeLaw =
     (a : ApplyRequest) (m : FileMap) (set : TxSet) (scheduled : ScheduledSteps) → IsSpelledIn set_format set a.set a.base64 m
     → IsScheduled a.schedule m (Some scheduled) → CanRun (Some scheduled) set
     → steps_of scheduled.schedule.stages ≤ scheduled.steps
-    → outcome_of (Apply a) m ≡ outcome_of (Apply (record a { schedule = None })) m
+    → outcome_of (Apply a) m ≡ outcome_of (Apply (record a { schedule = None; log = None })) m
 
 -- All its steps run if their number is not given.
 abbrev pub AllStepsLaw : Type 0
@@ -442,3 +447,27 @@ PlayLaw = (p : PlayRequest) (m : FileMap) (ledger after : Header × LedgerMap) (
     → HasPlayed p m ledger bytes → Spells log_format log bytes → played p.back log ledger.0 ledger.1 ≡ Ok after
     → outcome_of (Play p) m
     ≡ Ok (stored_and_said (file 2 p.ledger_out) (ledger_bytes after.0 after.1) (played_line (length log.stages)))
+
+-- the log's file spells this log
+abbrev pub IsLogIn : Log → List ℕ → FileMap → Type 0
+IsLogIn log name m = content_of m name ≡ Ok (log_format.spell log)
+
+-- Take a log that plays between two ledgers, as the log of a set does. Played on the file of the old ledger, it gives the new
+-- one.
+abbrev pub PlayThereLaw : Type 0
+PlayThereLaw =
+    (p : PlayRequest) (m : FileMap) (log : Log) (header : Header) (entries : LedgerMap) (new : Header × LedgerMap)
+    (bytes : List ℕ) → PlaysBetween log (header, entries) new → p.back ≡ false → IsLogIn log p.log m
+    → content_of m p.ledger ≡ Ok bytes → IsFileOf true bytes header entries
+    → outcome_of (Play p) m
+    ≡ Ok (stored_and_said (file 2 p.ledger_out) (ledger_bytes new.0 new.1) (played_line (length log.stages)))
+
+-- Played backwards on the file that `apply` stores of the new ledger, it gives the old one. An old ledger of version 1 comes back
+-- in the newest version.
+abbrev pub PlayBackLaw : Type 0
+PlayBackLaw =
+    (p : PlayRequest) (m : FileMap) (log : Log) (header : Header) (entries : LedgerMap) (new : Header × LedgerMap)
+    (bytes : List ℕ) → PlaysBetween log (header, entries) new → p.back ≡ true → IsLogIn log p.log m
+    → IsFileOf true bytes header entries → content_of m p.ledger ≡ Ok (ledger_bytes new.0 new.1)
+    → outcome_of (Play p) m
+    ≡ Ok (stored_and_said (file 2 p.ledger_out) (ledger_bytes header entries) (played_line (length log.stages)))

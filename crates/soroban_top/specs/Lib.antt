@@ -19,3 +19,7 @@ pub mod Shown
 pub mod Steps
 pub mod Vetted
 pub mod Views
+pub mod ListApplied
+pub mod ListLaws
+pub mod LogStored
+pub mod LogPlays

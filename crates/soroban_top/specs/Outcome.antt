@@ -3,15 +3,21 @@ use Rattle.std.specs.Prelude.{◌≡◌, ℕ, List, [], ◌∷◌, Option, Some,
 use Rattle.apply_spec.specs.Outputs.{Outputs}
 use Rattle.apply_spec.specs.Runs.{running_header}
 use Rattle.apply_spec.specs.SimulationFile.{SimulationOutputs, simulation_outputs}
+use Rattle.command_words.specs.declared.request.ApplyRequest.{ApplyRequest}
 use Rattle.command_words.specs.declared.request.Request.{Request}
-use Rattle.command_words.specs.declared.request.Request.TheVariants.{Apply, Simulate, Show, Vet, Migrate, Gen, Build, Play}
+use Rattle.command_words.specs.declared.request.Request.TheVariants.{Apply, ApplyList, Build, Gen, Migrate, Play, Show}
+use Rattle.command_words.specs.declared.request.Request.TheVariants.{Simulate, Vet}
 use Rattle.edge_io.specs.Contents.{FileMap}
 use Rattle.ledger_spec.specs.LedgerMap.{LedgerMap}
 use Rattle.ledger_types.specs.declared.header.Header.{Header}
 use Rattle.ledger_types.specs.declared.verdicts.Verdicts.{Verdicts}
 use Rattle.tx_xdr.specs.declared.envelope.Envelope.{Envelope}
+use Rattle.tx_xdr.specs.declared.set.TxSet.{TxSet}
+use Rattle.soroban_top.specs.Asked.{log_asked}
 use Rattle.soroban_top.specs.Generating.{generated}
 use Rattle.soroban_top.specs.Judged.{ledger_at, verdicts_at, set_at, envelope_at}
+use Rattle.soroban_top.specs.ListApplied.{outputs_of_list}
+use Rattle.soroban_top.specs.LogStored.{log_bytes, with_log}
 use Rattle.soroban_top.specs.Migrated.{any_ledger_at, migrated}
 use Rattle.soroban_top.specs.Scheduled.{scheduled_at, may_run, outputs_by}
 use Rattle.soroban_top.specs.Product.{Made, File, file}
@@ -20,6 +26,7 @@ use Rattle.soroban_top.specs.SetBuilt.{list_at, set_built}
 use Rattle.soroban_top.specs.Shown.{shown_at}
 use Rattle.soroban_top.specs.Steps.{◌>>=◌, status_of}
 use Rattle.soroban_top.specs.Vetted.{vetted_at}
+use Rattle.soroban_top.specs.declared.scheduled.ScheduledSteps.{ScheduledSteps}
 use Rattle.soroban_top.specs.declared.status.Status.{Status}
 use Rattle.soroban_top.specs.declared.status.Status.TheVariants.{Usage, NoMemory}
 
@@ -29,6 +36,13 @@ applied report ledger_out made = record {
   stores = record { file = report; bytes = made.report } ∷ record { file = ledger_out; bytes = made.ledger } ∷ [];
   says = made.lines;
 }
+
+-- What is stored and printed for a set that runs in this order, or in its own. The change log is stored last, if one is asked
+-- for.
+abbrev pub applied_by : ApplyRequest → Header × LedgerMap → Verdicts → Option ScheduledSteps → TxSet → Made
+applied_by a ledger verdicts scheduled set =
+    with_log (log_asked scheduled a.log) (log_bytes ledger verdicts set a.close_time)
+    (applied (file 3 a.report) (file 4 a.ledger_out) (outputs_by scheduled ledger verdicts set a.close_time))
 
 -- the footprint and the result are stored; then the lines are printed
 abbrev pub simulated : File → SimulationOutputs → Made
@@ -52,7 +66,7 @@ outcome_of (Apply a) m = do
   set ← set_at m a.base64 a.set
   scheduled ← scheduled_at m a.schedule
   _ ← may_run scheduled set
-  Ok (applied (file 3 a.report) (file 4 a.ledger_out) (outputs_by scheduled ledger verdicts set a.close_time))
+  Ok (applied_by a ledger verdicts scheduled set)
 outcome_of (Simulate s) m = do
   ledger ← ledger_at m s.ledger
   verdicts ← verdicts_at m s.verdicts
@@ -75,6 +89,11 @@ outcome_of (Play p) m = do
   ledger ← played_ledger_at m p.back p.ledger
   log ← log_at m p.log
   replayed (file 2 p.ledger_out) p.back log ledger
+outcome_of (ApplyList a) m = do
+  ledger ← ledger_at m a.ledger
+  verdicts ← verdicts_at m a.verdicts
+  list ← list_at m a.list
+  Ok (applied (file 3 a.report) (file 4 a.ledger_out) (outputs_of_list ledger verdicts list a.close_time))
 
 -- the outcome of the words
 abbrev pub outcome_if : Option Request → FileMap → Result Made Status

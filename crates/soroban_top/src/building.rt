@@ -54,7 +54,7 @@ pub fn build<'a, F: Files>(
 }
 
 /// Reads the list of envelopes in a file.
-fn read_list<F: Files>(
+pub(crate) fn read_list<F: Files>(
     alloc: Global,
     files: &mut F,
     file: &FileArg<'_>,

@@ -1,6 +1,6 @@
 //! Reads the input files of `apply` and `simulate`: each is read whole and checked.
 
-ghost use Rattle.std.specs.Prelude.{◌≡◌, ◌<◌, ◌+◌, ◌^◌, [], ◌∷◌, IfOk, IfErr, IfSome, IsTrue};
+ghost use Rattle.std.specs.Prelude.{◌≡◌, ◌<◌, ◌+◌, ◌^◌, [], ◌∷◌, IfOk, IfErr, IfSome, IsTrue, is_some};
 ghost use Rattle.ledger_spec.specs.LedgerFile.{are_settings, has_next};
 ghost use Rattle.ledger_types.specs.Header.{header_format};
 ghost use Rattle.tx_xdr.specs.Envelope.{envelope_format};
@@ -117,6 +117,7 @@ pub fn read_scheduled<F: Files>(
     options: &Option<ScheduleOptions>,
 ) -> Result<Option<ScheduledSteps>, Status>
     ensures given { IfSome (F.contents files.old) (λ m. Gives (λ o. o) result (scheduled_at m options.now)) }
+    ensures asked { IfOk result (λ o. is_some o ≡ is_some options.now) }
     ensures same { F.contents files.new ≡ F.contents files.old }
     ensures counts { NoLower (F.faults files.old) (F.faults files.new) }
     ensures cause { IfErr result (HasCause (schedule_files options.now) (F.faults files.old) (F.faults files.new)) }

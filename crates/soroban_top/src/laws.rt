@@ -1,11 +1,13 @@
 //! The outcomes of the commands, in terms of the spellings of their files' bytes.
 
 ghost use Rattle.soroban_top.specs.ConflictLaws.{FirstConflictLaw, NoConflictLaw};
+ghost use Rattle.soroban_top.specs.ListLaws.{ListAppliedLaw, ListDoneLaw, ListLedgerLaw, ListMalformedLaw};
+ghost use Rattle.soroban_top.specs.ListLaws.{ListNoLedgerLaw, ListVerdictsLaw};
 ghost use Rattle.soroban_top.specs.Laws.{AllStepsLaw, AppliedLaw, ConflictLaw, DoneLaw, EnvelopeDoneLaw, EnvelopeMalformedLaw};
 ghost use Rattle.soroban_top.specs.Laws.{BuildDoneLaw, BuildLaw, BuildMalformedLaw};
 ghost use Rattle.soroban_top.specs.Laws.{GenLaw, IncompleteLaw, LedgerDoneLaw, LedgerLaw, LedgerShownLaw, MalformedLaw};
 ghost use Rattle.soroban_top.specs.Laws.{MigrateDoneLaw, MigrateLaw, MigrateRefusedLaw, NoLedgerLaw, ScheduleLaw, SetDoneLaw};
-ghost use Rattle.soroban_top.specs.Laws.{PlayDoneLaw, PlayLaw, PlayMalformedLaw, PlayUnfitLaw};
+ghost use Rattle.soroban_top.specs.Laws.{PlayBackLaw, PlayDoneLaw, PlayLaw, PlayMalformedLaw, PlayThereLaw, PlayUnfitLaw};
 ghost use Rattle.soroban_top.specs.Laws.{SetMalformedLaw, SimulateDoneLaw, SimulateEnforcedLaw, SimulateLaw, SimulateLedgerLaw};
 ghost use Rattle.soroban_top.specs.Laws.{SimulateMalformedLaw, SimulateNoLedgerLaw, SimulateVerdictsLaw, StoppedLaw};
 ghost use Rattle.soroban_top.specs.Laws.{ValueDoneLaw, ValueMalformedLaw, VerdictsLaw, VetLaw, WholeLaw};
@@ -14,7 +16,7 @@ ghost use Rattle.soroban_top.specs.Laws.{ValueDoneLaw, ValueMalformedLaw, Verdic
 /// accepted, Verdicts is due exactly if the verdicts' bytes are refused. If these are accepted, too, Malformed is due exactly if
 /// the set's bytes are refused. If the schedule's file is accepted or none is given, Conflict is due exactly if they spell a set
 /// with this first conflict, and Done exactly if they spell a set without a conflict, for which the schedule is complete, if one
-/// is given. Then its outputs over the ledger are stored.
+/// is given. Then its outputs over the ledger are stored, and the change log, if it is asked for.
 pub fn apply_laws()
     ensures ledger { LedgerLaw }
     ensures no_ledger { NoLedgerLaw }
@@ -106,4 +108,23 @@ pub fn play_laws()
     ensures unfit { PlayUnfitLaw }
     ensures done { PlayDoneLaw }
     ensures stored { PlayLaw }
+{}
+
+/// `play` of a log that plays between two ledgers, as the log that `apply` stores does: on the file of the old ledger it stores
+/// the new one. Backwards, on the file that `apply` stores of the new ledger, it stores the old one.
+pub fn play_back_laws()
+    ensures there { PlayThereLaw }
+    ensures back { PlayBackLaw }
+{}
+
+/// `apply-list`: Ledger and Verdicts are due as for `apply`. If both files are accepted, Malformed is due exactly if the list's
+/// bytes are refused, and Done exactly if they spell a list of envelopes. Then the outputs of the list over the ledger are
+/// stored and printed.
+pub fn apply_list_laws()
+    ensures ledger { ListLedgerLaw }
+    ensures no_ledger { ListNoLedgerLaw }
+    ensures verdicts { ListVerdictsLaw }
+    ensures malformed { ListMalformedLaw }
+    ensures done { ListDoneLaw }
+    ensures stored { ListAppliedLaw }
 {}

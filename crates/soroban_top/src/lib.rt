@@ -10,6 +10,7 @@ ghost use Rattle.soroban_top.specs.Ends.{Ends, outside};
 ghost use Rattle.soroban_top.specs.Judged.{AreThere};
 ghost use Rattle.soroban_top.specs.Left.{Leaves, OnRefused};
 ghost use Rattle.soroban_top.specs.Lines.{line_of};
+ghost use Rattle.soroban_top.specs.LogPlays.{LogPlaysIf};
 ghost use Rattle.soroban_top.specs.Outcome.{due, outcome_if, outcome_of, says_of};
 ghost use Rattle.soroban_top.specs.Steps.{Gives, GivesExactly, UnlessFault, UnlessFree, status_of};
 
@@ -22,6 +23,7 @@ mod judged;
 mod key_bytes;
 mod laws;
 mod lines;
+mod listing;
 mod migrate;
 mod opened;
 mod outputs;
@@ -42,8 +44,8 @@ use edge_io::{Files, Gate, Say, Word};
 pub use ending::finish;
 pub use key_bytes::KeyBytes;
 pub use laws::{
-    apply_laws, build_laws, first_conflict_laws, gen_laws, migrate_laws, play_laws, schedule_laws,
-    show_laws, simulate_laws, vet_law,
+    apply_laws, apply_list_laws, build_laws, first_conflict_laws, gen_laws, migrate_laws,
+    play_back_laws, play_laws, schedule_laws, show_laws, simulate_laws, vet_law,
 };
 use product::{FileArg, OutputFile, Product};
 use request::{asked, produce};
@@ -54,7 +56,8 @@ use std::thread::Threads;
 
 /// Runs the command of the words, and prints the lines of its status.
 ///
-/// The runtime starts the threads of the workers of `apply`, which enter the gate before each cluster if no schedule is given.
+/// The runtime starts the threads of the workers of `apply` and `apply-list`. They enter the gate before each cluster if no
+/// schedule is given, and before each envelope of a list.
 pub fn soroban<R: Threads + Sync, F: Files, S: Say, G: Gate + Sync>(
     rt: &R,
     alloc: Global,
@@ -84,7 +87,7 @@ pub fn soroban<R: Threads + Sync, F: Files, S: Say, G: Gate + Sync>(
     ensures steady_exact { F.steady files.old → S.steady say.old → IfSome (F.contents files.old) (λ m.
         (result ≡ due (asked_of words.now) m) ⊎ (result ≡ Status.NoMemory)) }
 
-    // The files and the output's text afterwards.
+    // The files and the output's text afterwards. A change log that is stored can be played there and back.
     ensures left { IfSome (F.contents files.old) (λ m. Ends (asked_of words.now) m result
         (outside (F.contents files.old) (S.text say.old)) (outside (F.contents files.new) (S.text say.new))) }
     ensures refused { OnRefused result
@@ -120,6 +123,7 @@ fn perform<R: Threads + Sync, F: Files, G: Gate + Sync>(
         (λ m. Gives (λ v. v.items) result (says_of (outcome_if (asked_of words.now) m))) }
     ensures left { IfSome (F.contents files.old) (λ m. Leaves (status_of result) (reads_named (asked_of words.now))
         (outcome_if (asked_of words.now) m) (F.contents files.old) (F.contents files.new)) }
+    ensures plays { IfOk result (λ _. IfSome (F.contents files.old) (λ m. LogPlaysIf (asked_of words.now) m)) }
     ensures refused { OnRefused (status_of result) (F.contents files.new ≡ F.contents files.old) }
     ensures steady { F.steady files.old → IfSome (F.contents files.old) (λ m. UnlessFault (due (asked_of words.now) m)
         (SameCounts (F.faults files.old) (F.faults files.new))) }
@@ -144,6 +148,7 @@ fn run<R: Threads + Sync, F: Files, G: Gate + Sync>(
     ensures given { IfSome (F.contents files.old) (λ m. Gives (λ v. v.items) result (says_of (outcome_of request.now m))) }
     ensures left { IfSome (F.contents files.old) (λ m. Leaves (status_of result) (reads_of request.now)
         (outcome_of request.now m) (F.contents files.old) (F.contents files.new)) }
+    ensures plays { IfOk result (λ _. IfSome (F.contents files.old) (λ m. LogPlaysIf (Some request.now) m)) }
     ensures refused { OnRefused (status_of result) (F.contents files.new ≡ F.contents files.old) }
     ensures steady { F.steady files.old → IfSome (F.contents files.old) (λ m. UnlessFault (status_of (outcome_of request.now m))
         (SameCounts (F.faults files.old) (F.faults files.new))) }

@@ -1,7 +1,16 @@
 //! The outputs of a set over a ledger: the report, the new ledger's file, and the lines.
 
-ghost use Rattle.std.specs.Prelude.{◌≡◌, ◌≤◌, All, IfErr, IfOk, IsTrue, length};
-ghost use Rattle.apply_spec.specs.Outputs.{count_line, outputs_with};
+ghost use Rattle.std.specs.Prelude.{◌≡◌, ◌≤◌, ◌<◌, ◌^◌, All, IfErr, IfOk, IfSome, IsTrue, Some, None, true, length, map};
+ghost use Rattle.std.specs.Prelude.{if◌then◌else◌};
+ghost use Rattle.std.specs.List.{AllByRecursion};
+ghost use Rattle.std.specs.Option.{option_map};
+ghost use Rattle.change_log.specs.Log.{log_format};
+ghost use Rattle.apply_spec.specs.Runs.{new_header, run_set as run_set_in};
+ghost use Rattle.ledger_apply.specs.Logged.{logged_set};
+ghost use Rattle.ledger_apply.specs.Refused.{IsConflictUnlessMemory};
+ghost use Rattle.stage_runs.specs.Runs.{clusters_in, HasNoConflict};
+ghost use Rattle.tx_xdr.specs.Stages.{stages_of};
+ghost use Rattle.apply_spec.specs.Outputs.{count_line, outputs_with, preimages_of, results_of};
 ghost use Rattle.invoke_types.specs.Success.{success_format};
 ghost use Rattle.ledger_spec.specs.LedgerFile.{are_settings, has_next, ledger_bytes};
 ghost use Rattle.ledger_spec.specs.LedgerMap.{key_bytes};
@@ -13,6 +22,8 @@ ghost use Rattle.tx_xdr.specs.Set.{set_format};
 ghost use Rattle.sha2.specs.Sha256.{sha256};
 ghost use Rattle.xdr_spec.specs.Format.{optional};
 ghost use Rattle.soroban_top.specs.Counts.{IsOfBytes};
+ghost use Rattle.soroban_top.specs.LogPlays.{SetPlays};
+ghost use Rattle.soroban_top.specs.LogStored.{logs_by, IsLogOf};
 ghost use Rattle.soroban_top.specs.FirstConflict.{free_of_conflict};
 ghost use Rattle.soroban_top.specs.Scheduled.{may_run, outputs_by, outputs_of, outputs_stopped};
 ghost use Rattle.soroban_top.specs.Seen.{seen};
@@ -21,9 +32,10 @@ ghost use Rattle.soroban_top.specs.Views.{outputs_in};
 
 use crate::lines::{count_line, push_hash};
 use crate::{KeyBytes, ScheduledSteps, Status};
+use change_log::{Log, write_log};
 use edge_io::Gate;
 use invoke_types::SuccessPreimage;
-use ledger_apply::{Applied, ApplyErr, apply_set};
+use ledger_apply::{Applied, ApplyErr, Logged, apply_logged, apply_set};
 use ledger_file::{Ledger, write_ledger};
 use ledger_types::{LedgerKey, Verdicts};
 use schedule_runs::{SchedErr, run_schedule};
@@ -43,14 +55,17 @@ pub struct Run<'a> {
     pub close_time: u64,
     pub verdicts: &'a Verdicts,
     pub workers: usize,
+    /// Whether a change log is kept. None is kept of a run by a schedule.
+    pub logs: bool,
 }
 
-/// The report, the new ledger's file, and the lines.
+/// The report, the new ledger's file, the lines, and the change log's file, if one is kept.
 #[derive(Drop)]
 pub struct Outputs {
     pub report: Vec<u8>,
     pub ledger: Vec<u8>,
     pub lines: Vec<u8>,
+    pub log: Option<Vec<u8>>,
 }
 
 /// Runs a set over a ledger, and writes the bytes to store and the lines to print. A set with a conflict is not run, nor is one
@@ -71,12 +86,96 @@ pub fn make_outputs<R: Threads + Sync, G: Gate + Sync>(
     ensures free { IfOk result (λ _. may_run run.now.scheduled.now set ≡ Ok tt) }
     ensures outputs { IfOk result (λ o. outputs_in o ≡ outputs_by run.now.scheduled.now
         (seen ledger) run.now.verdicts.now set run.now.close_time) }
+    ensures log { IfOk result (λ o. IsLogOf (seen ledger) run.now.verdicts.now set run.now.close_time
+        (logs_by run.now.scheduled.now run.now.logs) o.log) }
+    ensures plays { IfOk result (λ _. logs_by run.now.scheduled.now run.now.logs ≡ true
+        → SetPlays (seen ledger) run.now.verdicts.now set run.now.close_time) }
     ensures refused { IfErr result (λ status. UnlessNoMemory status (may_run run.now.scheduled.now set ≡ Err status)) }
     ensures cause { IfErr result IsOfBytes }
 {
     match run.scheduled {
         None => by_workers(rt, alloc, ledger, set, run, gate),
         Some(scheduled) => by_schedule(rt, alloc, ledger, set, run, scheduled),
+    }
+}
+
+/// What a set does to a ledger, and the change log, if one was kept.
+#[derive(Drop)]
+struct Ran {
+    applied: Applied,
+    log: Option<Log>,
+}
+
+/// Runs a set by workers, and keeps its change log, if one is asked for.
+fn run_set<'a, R: Threads + Sync, G: Gate + Sync>(
+    rt: &R,
+    alloc: Global,
+    ledger: Ledger,
+    set: &'a TxSet,
+    run: &Run<'_>,
+    gate: &G,
+) -> Result<Ran, ApplyErr<'a>>
+    requires set { set_format.fits set.now }
+    requires settings { IsTrue (are_settings ledger.header.settings) }
+    requires next { IsTrue (has_next ledger.header) }
+    requires workers { (1 ≤ run.now.workers) × (run.now.workers ≤ 64) }
+    ensures conflict { IfErr result (IsConflictUnlessMemory (map clusters_in (stages_of set.now)) ledger) }
+    ensures free { IfOk result (λ _. AllByRecursion HasNoConflict (map clusters_in (stages_of set.now))) }
+    ensures close_time { IfOk result (λ _. run.now.close_time < 2 ^ 64) }
+    ensures header { IfOk result (λ a. a.applied.ledger.header ≡ new_header ledger.header run.now.close_time) }
+    ensures entries { IfOk result (λ a. a.applied.ledger.entries
+        ≡ (run_set_in ledger.header run.now.verdicts.now ledger.entries set.now run.now.close_time).entries) }
+    ensures results { IfOk result (λ a. a.applied.results.pairs ≡ results_of
+        (run_set_in ledger.header run.now.verdicts.now ledger.entries set.now run.now.close_time)) }
+    ensures successes { IfOk result (λ a. a.applied.successes ≡ preimages_of
+        (run_set_in ledger.header run.now.verdicts.now ledger.entries set.now run.now.close_time)) }
+    ensures spelled { IfOk result (λ a. result_set_format.fits a.applied.results) }
+    ensures successes_spelled { IfOk result (λ a. All (λ s. (optional success_format).fits s) a.applied.successes) }
+    ensures each { IfOk result (λ a. length a.applied.successes ≡ length a.applied.results.pairs) }
+    ensures log { IfOk result (λ a. a.log ≡ (if run.now.logs
+        then Some (logged_set ledger.header run.now.verdicts.now ledger.entries set.now run.now.close_time) else None)) }
+    ensures log_spelled { IfOk result (λ a. IfSome a.log log_format.fits) }
+    ensures plays { IfOk result (λ _. run.now.logs ≡ true
+        → SetPlays (seen ledger) run.now.verdicts.now set.now run.now.close_time) }
+{
+    if run.logs {
+        let logged = apply_logged(
+            rt,
+            alloc,
+            ledger,
+            set,
+            run.close_time,
+            run.verdicts,
+            run.workers,
+            gate,
+        )?;
+        let Logged { applied, log } = logged;
+        return Ok(Ran {
+            applied,
+            log: Some(log),
+        });
+    }
+    let applied = apply_set(
+        rt,
+        alloc,
+        ledger,
+        set,
+        run.close_time,
+        run.verdicts,
+        run.workers,
+        gate,
+    )?;
+    Ok(Ran { applied, log: None })
+}
+
+/// Writes the file of a change log, if one was kept, and drops the log.
+fn log_out(alloc: Global, log: Option<Log>) -> Result<Option<Vec<u8>>, NoMemory>
+    requires { IfSome log log_format.fits }
+    ensures { IfOk result (λ bytes. option_map (λ b. b.items) bytes ≡ option_map (λ l. log_format.spell l) log) }
+{
+    match log {
+        None => Ok(None),
+        Some(log) => Ok(Some(write_log(alloc, &log)?.into_vec())),
     }
 }
 
@@ -97,21 +196,17 @@ fn by_workers<R: Threads + Sync, G: Gate + Sync>(
     ensures free { IfOk result (λ _. free_of_conflict set ≡ Ok tt) }
     ensures outputs { IfOk result (λ o. outputs_in o ≡ outputs_of
         (seen ledger) run.now.verdicts.now set run.now.close_time) }
+    ensures log { IfOk result (λ o. IsLogOf (seen ledger) run.now.verdicts.now set run.now.close_time run.now.logs o.log) }
+    ensures plays { IfOk result (λ _. run.now.logs ≡ true
+        → SetPlays (seen ledger) run.now.verdicts.now set run.now.close_time) }
     ensures refused { IfErr result (λ status. UnlessNoMemory status (free_of_conflict set ≡ Err status)) }
     ensures cause { IfErr result IsOfBytes }
 {
-    match apply_set(
-        rt,
-        alloc,
-        ledger,
-        &set,
-        run.close_time,
-        run.verdicts,
-        run.workers,
-        gate,
-    ) {
-        Ok(applied) => {
-            let outputs = written(rt, alloc, run.workers, applied, set)?;
+    match run_set(rt, alloc, ledger, &set, run, gate) {
+        Ok(ran) => {
+            let Ran { applied, log } = ran;
+            let log = log_out(alloc, log)?;
+            let outputs = written(rt, alloc, run.workers, applied, set, log)?;
             Ok(outputs)
         }
         Err(ApplyErr::Conflict { stage, found, .. }) => {
@@ -143,6 +238,7 @@ fn by_schedule<R: Threads + Sync>(
     ensures free { IfOk result (λ _. may_run (Some scheduled.now) set ≡ Ok tt) }
     ensures outputs { IfOk result (λ o. outputs_in o ≡ outputs_stopped
         (seen ledger) run.now.verdicts.now set run.now.close_time scheduled.now) }
+    ensures log { IfOk result (λ o. option_map (λ b. b.items) o.log ≡ None) }
     ensures refused { IfErr result (λ status. UnlessNoMemory status (may_run (Some scheduled.now) set ≡ Err status)) }
     ensures cause { IfErr result IsOfBytes }
 {
@@ -157,7 +253,7 @@ fn by_schedule<R: Threads + Sync>(
         scheduled.steps,
     ) {
         Ok(applied) => {
-            let outputs = written(rt, alloc, 1, applied, set)?;
+            let outputs = written(rt, alloc, 1, applied, set, None)?;
             Ok(outputs)
         }
         Err(SchedErr::Conflict { stage, found, .. }) => {
@@ -253,19 +349,22 @@ fn report_out(
     Ok((report, line))
 }
 
-/// Writes the bytes to store and the lines to print after a run of a set. The set is dropped.
-fn written<R: Threads + Sync>(
+/// Writes the bytes to store and the lines to print after a run, and adds the change log's file, if there is one. What has run is
+/// dropped.
+pub fn written<R: Threads + Sync, X: Drop>(
     rt: &R,
     alloc: Global,
     workers: usize,
     applied: Applied,
-    set: TxSet,
+    ran: X,
+    log: Option<Vec<u8>>,
 ) -> Result<Outputs, NoMemory>
     requires header { header_format.fits applied.ledger.header }
     requires results { result_set_format.fits applied.results }
     requires successes { All (λ s. (optional success_format).fits s) applied.successes }
     requires each { length applied.successes ≡ length applied.results.pairs }
-    ensures { IfOk result (λ o. outputs_in o ≡ outputs_with applied.ledger.header.seq applied.results.pairs
+    ensures log { IfOk result (λ o. o.log ≡ log) }
+    ensures outputs { IfOk result (λ o. outputs_in o ≡ outputs_with applied.ledger.header.seq applied.results.pairs
         (report_bytes applied.results applied.successes) (ledger_bytes applied.ledger.header applied.ledger.entries)) }
 {
     let Applied {
@@ -275,7 +374,7 @@ fn written<R: Threads + Sync>(
     } = applied;
     let seq = ledger.header.seq;
     let (report, mut lines) = report_out(alloc, seq, &results, successes.as_slice())?;
-    let rest = (set, results, successes);
+    let rest = (ran, results, successes);
     let (report_hash, made) = hashed(rt, alloc, workers, &report, ledger, rest);
     let (ledger, ledger_hash) = made?;
     push_hash(alloc, &mut lines, b"report ", &report_hash)?;
@@ -284,5 +383,6 @@ fn written<R: Threads + Sync>(
         report,
         ledger,
         lines,
+        log,
     })
 }

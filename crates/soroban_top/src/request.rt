@@ -1,9 +1,10 @@
 //! From a request to its product.
 
-ghost use Rattle.std.specs.Prelude.{◌≡◌, IfOk, IfErr, IfSome};
+ghost use Rattle.std.specs.Prelude.{◌≡◌, IfOk, IfErr, IfSome, Some};
 ghost use Rattle.command_words.specs.Words.{IsInRange, asked_of};
 ghost use Rattle.soroban_top.specs.Asked.{reads_of, writes_of};
 ghost use Rattle.soroban_top.specs.Counts.{HasCause, NoLower, SameCounts};
+ghost use Rattle.soroban_top.specs.LogPlays.{LogPlaysIf};
 ghost use Rattle.soroban_top.specs.Outcome.{ReadsWords, outcome_of};
 ghost use Rattle.soroban_top.specs.Steps.{Gives, GivesExactly, UnlessFault, status_of};
 ghost use Rattle.soroban_top.specs.Views.{made_of, targets_of};
@@ -11,6 +12,7 @@ ghost use Rattle.soroban_top.specs.Views.{made_of, targets_of};
 use crate::apply::apply;
 use crate::building::build;
 use crate::generating::generate;
+use crate::listing::apply_list;
 use crate::migrate::migrate;
 use crate::replaying::play;
 use crate::show::show;
@@ -44,6 +46,7 @@ pub fn produce<'a, R: Threads + Sync, F: Files, G: Gate + Sync>(
 ) -> Result<Product<'a>, Status>
     requires range { IsInRange request.now }
     ensures given { IfSome (F.contents files.old) (λ m. Gives made_of result (outcome_of request.now m)) }
+    ensures plays { IfOk result (λ _. IfSome (F.contents files.old) (λ m. LogPlaysIf (Some request.now) m)) }
     ensures targets { IfOk result (λ p. targets_of p.stores.items ≡ writes_of request.now) }
     ensures same { F.contents files.new ≡ F.contents files.old }
     ensures counts { NoLower (F.faults files.old) (F.faults files.new) }
@@ -62,5 +65,6 @@ pub fn produce<'a, R: Threads + Sync, F: Files, G: Gate + Sync>(
         Request::Gen(options) => generate(alloc, options),
         Request::Build(options) => build(alloc, files, options),
         Request::Play(options) => play(alloc, files, options),
+        Request::ApplyList(options) => apply_list(rt, alloc, files, options, gate),
     }
 }

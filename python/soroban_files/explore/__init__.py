@@ -13,23 +13,36 @@ from .view import closed_ledger
 
 
 def page(
-    before: bytes, tx_set: bytes, report: bytes, after: bytes, theme: str = "", names: Optional[Dict[str, str]] = None
+    before: bytes,
+    tx_set: bytes,
+    report: bytes,
+    after: bytes,
+    theme: str = "",
+    names: Optional[Dict[str, str]] = None,
+    log: Optional[bytes] = None,
 ) -> str:
-    """Returns the page of four files: the ledger before, the set, the report, and the ledger after."""
+    """Returns the page of four files: the ledger before, the set, the report, and the ledger after; `log` is a change log."""
     found = (
         ledgers.read(before),
         schema.read(schema.SET, tx_set),
         schema.read(schema.REPORT, report),
         ledgers.read(after),
     )
-    return page_of(*found, theme, names)
+    return page_of(*found, theme, names, None if log is None else schema.read(schema.LOG, log))
 
 
 def page_of(
-    before: Json, tx_set: Json, report: Json, after: Json, theme: str = "", names: Optional[Dict[str, str]] = None
+    before: Json,
+    tx_set: Json,
+    report: Json,
+    after: Json,
+    theme: str = "",
+    names: Optional[Dict[str, str]] = None,
+    log: Optional[Json] = None,
 ) -> str:
     """Returns the page of four files as JSON. Raises `ValueError` if the report is not that of the set.
 
-    `theme` is `light` or `dark`; by default the reader's own. `names` has what to call addresses, by their strkeys.
+    `theme` is `light` or `dark`; by default the reader's own. `names` has what to call addresses, by their strkeys. With the
+    change log, the page shows what each transaction and each end of a stage changed. Raises `Unfit` if the log does not fit.
     """
-    return render(closed_ledger(before, tx_set, report, after), theme, names)
+    return render(closed_ledger(before, tx_set, report, after, log), theme, names)

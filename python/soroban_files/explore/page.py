@@ -3,12 +3,13 @@ from __future__ import annotations
 
 import base64
 import hashlib
+import itertools
 import os
 from datetime import datetime, timedelta
 from typing import Dict, Iterator, List, Optional, Tuple
 
 from .. import ledgers, results, values
-from ..diff import Change, Field
+from ..diff import Change, Difference, Field
 from ..xdr import Json
 from .shown import (
     code,
@@ -37,6 +38,7 @@ MOST_ROWS = 2000
 MOST_PEOPLE = 300
 MOST_KEYS = 100  # of a footprint
 MOST_EVENTS = 50  # of a transaction
+MOST_CHANGES = 100  # of a transaction, and of the end of a stage
 
 
 def render(closed: ClosedLedger, theme: str = "", names: Optional[Dict[str, str]] = None) -> str:
@@ -55,7 +57,7 @@ def whole(closed: ClosedLedger, theme: str) -> str:
         *stages(closed),
         changes(closed),
         people(closed),
-        footer(),
+        footer(closed),
     ]
     script = resource("page.js")
     head = (
@@ -164,12 +166,18 @@ def stages(closed: ClosedLedger) -> Iterator[str]:
         said = f"{len(clusters):,} {plural(len(clusters), 'cluster')}" + (" side by side" if len(clusters) > 1 else "")
         title = tag("h3", f"Stage {number}", tag("small", said))
         content = tag("div", *boxes, class_="clusters") if boxes else tag("p", "no cluster", class_="empty")
-        yield tag("section", title, content, left_out(len(clusters) - len(boxes)), class_="stage")
+        end = end_box(closed.ends[number]) if closed.ends else ""
+        yield tag("section", title, content, left_out(len(clusters) - len(boxes)), end, class_="stage")
 
 
 def cluster_box(index: int, cluster: List[Transaction], most: int) -> str:
     title = tag("h4", f"cluster {index} · {len(cluster):,} {plural(len(cluster), 'transaction')}")
     return tag("div", title, *map(card, cluster[:most]), left_out(len(cluster) - most), class_="cluster")
+
+
+def end_box(found: Difference) -> str:
+    """Returns what the end of a stage changed: the lives of entries whose extensions were pending."""
+    return tag("div", tag("h4", f"end of the stage · {change_count(found)}"), own_changes(found), class_="end")
 
 
 def card(transaction: Transaction) -> str:
@@ -181,7 +189,8 @@ def card(transaction: Transaction) -> str:
         )
     source = tag("span", "from ", who(transaction.inner["source_account"]))
     top = tag("div", source, tag("span", " ".join(pills)), class_="top")
-    more = tag("div", "footprint, limits, hash", class_="more")
+    counted = "" if transaction.changes is None else f"{change_count(transaction.changes)}, "
+    more = tag("div", f"{counted}footprint, limits, hash", class_="more")
     summary = tag("summary", top, tag("div", doing(transaction), class_="call"), *happened(transaction), more)
     inside = tag("div", *parts_of(transaction), class_="inside")
     return tag("details", summary, inside, class_="tx" + bad, id=transaction.anchor)
@@ -222,6 +231,8 @@ def event_html(event: results.Event) -> str:
 
 def parts_of(transaction: Transaction) -> Iterator[str]:
     """Yields what a card shows only when it is open."""
+    if transaction.changes is not None:
+        yield tag("h5", "Changes") + own_changes(transaction.changes)
     if transaction.resources:
         yield tag("h5", "Footprint") + footprint(transaction)
         yield tag("h5", "Limits") + limits(transaction.resources)
@@ -292,19 +303,45 @@ def conditions(transaction: Json) -> Iterator[Tuple[str, str]]:
 
 
 def changes(closed: ClosedLedger) -> str:
-    found = closed.difference
-    rows = [row("made", "", ledgers.key_of(record["entry"]), made(record)) for record in found.made]
-    rows += [row("changed", " note", change.key, changed_fields(change)) for change in found.changed]
-    rows += [row("gone", " bad", ledgers.key_of(record["entry"]), made(record, "from")) for record in found.gone]
+    count = row_count(closed.difference)
+    if not count:
+        return tag("h2", "What changed") + tag("p", "No entry changed.", class_="empty")
+    head = tag("tr", tag("th", ""), tag("th", "entry"), tag("th", "content"))
+    title = tag("h2", "What changed", tag("small", f"{count:,} {plural(count, 'line')}"))
+    return title + table(closed.difference, MOST_ROWS, head)
+
+
+def own_changes(found: Difference) -> str:
+    """Returns what a transaction or the end of a stage changed."""
+    return table(found, MOST_CHANGES) if row_count(found) else tag("p", "No entry changed.", class_="empty")
+
+
+def change_count(found: Difference) -> str:
+    count = row_count(found)
+    return f"{count:,} {plural(count, 'change')}" if count else "no change"
+
+
+def row_count(found: Difference) -> int:
+    return len(found.made) + len(found.changed) + len(found.gone) + len(found.lives)
+
+
+def table(found: Difference, most: int, head: str = "") -> str:
+    """Returns a table of what changed, with so many rows at most."""
+    return tag("table", head, *itertools.islice(rows(found), most)) + left_out(row_count(found) - most)
+
+
+def rows(found: Difference) -> Iterator[str]:
+    """Yields a row for each entry that was made, that changed, or that is gone, and for each life that changed."""
+    for record in found.made:
+        yield row("made", "", ledgers.key_of(record["entry"]), made(record))
+    for change in found.changed:
+        yield row("changed", " note", change.key, changed_fields(change))
+    for record in found.gone:
+        yield row("gone", " bad", ledgers.key_of(record["entry"]), made(record, "from"))
     moved = {str(change.key) for change in found.changed}
     for life in found.lives:
         kind = "life" if str(life.key) not in moved else "and its life"
-        rows.append(row(kind, " warn", life.key, f"live until {life.before:,}{arrow()}{life.after:,}"))
-    if not rows:
-        return tag("h2", "What changed") + tag("p", "No entry changed.", class_="empty")
-    head = tag("tr", tag("th", ""), tag("th", "entry"), tag("th", "content"))
-    title = tag("h2", "What changed", tag("small", f"{len(rows):,} {plural(len(rows), 'line')}"))
-    return title + tag("table", head, *rows[:MOST_ROWS]) + left_out(len(rows) - MOST_ROWS)
+        yield row(kind, " warn", life.key, f"live until {life.before:,}{arrow()}{life.after:,}")
 
 
 def left_out(count: int) -> str:
@@ -380,7 +417,6 @@ def addresses(content: Json) -> Iterator[str]:
             yield from addresses(part)
 
 
-def footer() -> str:
-    return tag(
-        "footer", "Made by soroban-files explore of the ledger before, the set, the report and the ledger after."
-    )
+def footer(closed: ClosedLedger) -> str:
+    left = "the report and the ledger after" if closed.ends is None else "the report, the ledger after and the change log"
+    return tag("footer", f"Made by soroban-files explore of the ledger before, the set, {left}.")

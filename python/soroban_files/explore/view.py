@@ -3,7 +3,7 @@ from __future__ import annotations
 
 from typing import Dict, List, NamedTuple, Optional, Set, Tuple
 
-from .. import diff, envelopes, hashes, ledgers, results, schema
+from .. import changes, diff, envelopes, hashes, ledgers, results, schema
 from ..results import Event
 from ..xdr import Json
 
@@ -20,6 +20,7 @@ class Transaction(NamedTuple):
     value: Optional[Json]
     events: List[Event]
     made: List[Json]  # ledger keys that it declares read-write, and that changed
+    changes: Optional[diff.Difference] = None  # what it changed, if there is a change log
 
     @property
     def ok(self) -> bool:
@@ -66,14 +67,18 @@ class ClosedLedger(NamedTuple):
     after: Json
     stages: List[List[List[Transaction]]]
     difference: diff.Difference
+    ends: Optional[List[diff.Difference]] = None  # what the end of each stage changed, if there is a change log
 
     @property
     def transactions(self) -> List[Transaction]:
         return [transaction for stage in self.stages for cluster in stage for transaction in cluster]
 
 
-def closed_ledger(before: Json, tx_set: Json, report: Json, after: Json) -> ClosedLedger:
-    """Returns the view of four files. Raises `ValueError` if the report is not that of the set."""
+def closed_ledger(before: Json, tx_set: Json, report: Json, after: Json, log: Optional[Json] = None) -> ClosedLedger:
+    """Returns the view of four files, and of a change log if there is one.
+
+    Raises `ValueError` if the report is not that of the set, and `Unfit` if the log does not fit.
+    """
     network = ledgers.body(before)["network_id"]
     difference = diff.difference(before, after)
     changed = keys_changed(difference)
@@ -90,7 +95,24 @@ def closed_ledger(before: Json, tx_set: Json, report: Json, after: Json) -> Clos
     ]
     if next(left, None) is not None:
         raise ValueError("the report has more results than the set has transactions")
-    return ClosedLedger(before, after, stages, difference)
+    closed = ClosedLedger(before, after, stages, difference)
+    return closed if log is None else with_log(closed, log)
+
+
+def with_log(closed: ClosedLedger, log: Json) -> ClosedLedger:
+    """Returns a closed ledger with what a log says of its transactions and stages. Raises `Unfit` if the log does not fit."""
+    sizes = [sum(map(len, clusters)) for clusters in closed.stages]
+    logged = changes.stages(log, closed.before, closed.after, sizes)
+    stages = []
+    for clusters, said in zip(closed.stages, logged):
+        left = iter(said.transactions)
+        stages.append([[changing(transaction, next(left)) for transaction in cluster] for cluster in clusters])
+    return closed._replace(stages=stages, ends=[said.end for said in logged])
+
+
+def changing(transaction: Transaction, found: diff.Difference) -> Transaction:
+    """Returns a transaction with what it changed itself."""
+    return transaction._replace(changes=found, made=written(transaction.envelope, keys_changed(found)))
 
 
 def transaction(
@@ -100,14 +122,19 @@ def transaction(
     digest = hashes.envelope_hash(network, envelope)
     if pair is None or pair["transaction_hash"] != digest:
         raise ValueError(f"the report is of another set: it has no result for {digest} at its place")
-    ext = envelopes.transaction_of(envelope)["ext"]
-    written = ext["v1"]["resources"]["footprint"]["read_write"] if isinstance(ext, dict) else []
-    made = [key for key in written if schema.write(schema.KEY, key) in changed]
     success = pair["success"]
     value = success["return_value"] if success else None
     word = results.word(pair["result"])
     events = results.events(success)
-    return Transaction(*place, digest, envelope, word, value, events, made if word == "success" else [])
+    made = written(envelope, changed) if word == "success" else []
+    return Transaction(*place, digest, envelope, word, value, events, made)
+
+
+def written(envelope: Json, changed: Set[bytes]) -> List[Json]:
+    """Returns those of the keys that changed which an envelope declares read-write."""
+    ext = envelopes.transaction_of(envelope)["ext"]
+    keys = ext["v1"]["resources"]["footprint"]["read_write"] if isinstance(ext, dict) else []
+    return [key for key in keys if schema.write(schema.KEY, key) in changed]
 
 
 def keys_changed(difference: diff.Difference) -> Set[bytes]:

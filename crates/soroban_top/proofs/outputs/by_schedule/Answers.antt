@@ -1,4 +1,5 @@
-use Rattle.std.proofs.Common.{◌∙◌, arith}
+use Rattle.std.specs.Option.{option_map}
+use Rattle.std.proofs.Common.{◌∙◌, ap, arith}
 use Rattle.apply_spec.specs.Runs.{new_header}
 use Rattle.schedule_runs.specs.Plans.{run_stopped}
 use Rattle.soroban_top.specs.Scheduled.{outputs_stopped}
@@ -18,10 +19,13 @@ unfolding outputs_stopped
 returns-in-Ok-clause-outputs g c =
     let run = c.args.run.now in
     let scheduled = c.args.scheduled.now in
-    c.in_ok-outputs-in-Ok.ensures
+    c.in_ok-outputs-in-Ok.ensures.outputs
     ∙ outputs_applied (new_header c.args.ledger.header run.close_time) c.in-Ok.applied.ledger.header
     (run_stopped c.args.ledger.header run.verdicts.now c.args.ledger.entries c.args.set run.close_time scheduled.schedule.stages scheduled.steps) c.in-Ok.applied.ledger.entries
     c.in-Ok.applied.results.pairs c.in-Ok.applied.successes c.in-Ok.ensures.header c.in-Ok.ensures.entries c.in-Ok.ensures.results c.in-Ok.ensures.successes
+
+pub returns-in-Ok-clause-log : goal.returns-in-Ok-clause-log
+returns-in-Ok-clause-log g c = ap (option_map (λ b. b.items)) c.in_ok-outputs-in-Ok.ensures.log
 
 pub returns-in-Err-Conflict-clause-refused : goal.returns-in-Err-Conflict-clause-refused
 returns-in-Err-Conflict-clause-refused g c =

@@ -7,8 +7,8 @@ use Rattle.tx_results.specs.Report.{report_bytes}
 use Rattle.soroban_top.proofs.Made.{put_together}
 use Rattle.soroban_top.proofs.outputs.written.Goals as goal
 
-pub returns : goal.returns
-returns g c =
+pub returns-clause-outputs : goal.returns-clause-outputs
+returns-clause-outputs g c =
     let report = c.in_ok-report.report.items in
     let ledger = c.in_ok-ledger.ledger.items in
     let ledger_is = rw c.in_ok-ledger.was at c.hashed-made.ensures.bytes in
