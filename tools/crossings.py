@@ -2,8 +2,8 @@
 """Which crates of definitions stand on code, and that no crate cites another crate's proofs but its published lemmas.
 
 A crate named `*_spec` stands only on crates of definitions, on types and on their codecs (UNDER_DEFINITIONS). Not all obey yet:
-tools/crossings.txt has the crates that each still stands on, and it only shrinks. A crate cites no other crate's proofs/ but the
-lemmas that the other one publishes on its page proofs/Lemmas.antt: all other pages there are private.
+tools/crossings.txt has the crates that each still stands on, and no crate of code joins them. A crate cites no other crate's
+proofs/ but the lemmas that the other one publishes on its page proofs/Lemmas.antt: all other pages there are private.
 
 python3 tools/crossings.py            writes tools/crossings.txt anew, unless a crate breaks a rule
 python3 tools/crossings.py --check    says which rules are broken, and whether the file has what is there; the status is 1 if not

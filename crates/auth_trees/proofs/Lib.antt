@@ -1,8 +1,6 @@
-mod Addresses
 mod Authorities
 mod Choosing
 mod Deepest
-mod Finding
 mod Keeping
 mod Later
 pub mod Lemmas

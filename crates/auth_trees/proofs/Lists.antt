@@ -38,11 +38,6 @@ get_map_some f [] i y e = absurd cc
 get_map_some f (z ∷ xs) zero y e = (z, refl, same_Some (f z) y e)
 get_map_some f (z ∷ xs) (suc i) y e = get_map_some f xs i y e
 
-pub get_within : {A : Type 0} (xs : List A) (i : ℕ) → i < length xs → (x : A) × (slice_get xs i ≡ Some x)
-get_within [] i h = absurd (omega arith)
-get_within (x ∷ xs) zero h = (x, refl)
-get_within (x ∷ xs) (suc i) h = get_within xs i (omega arith)
-
 -- ---- all items
 
 pub all_same : {A : Type 0} (P Q : A → Type 0) → ((x : A) → P x → Q x) → (xs : List A) → AllByRecursion P xs → AllByRecursion Q xs

@@ -6,4 +6,3 @@ pub mod Ready
 pub mod Kept
 pub mod Noted
 pub mod Authorities
-pub mod Recording

@@ -124,7 +124,7 @@ pub(crate) fn may_authorise(address: ScAddress) -> bool
 }
 
 /// Whether the address is the caller.
-pub(crate) fn is_caller(address: ScAddress, caller: Option<ScAddress>) -> bool
+pub fn is_caller(address: ScAddress, caller: Option<ScAddress>) -> bool
     ensures { result ≡ is_caller address caller }
 {
     match caller {

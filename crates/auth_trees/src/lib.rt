@@ -7,18 +7,15 @@ mod entries;
 mod laws;
 mod marks;
 mod nodes;
-mod noted;
-mod recorder;
 mod records;
 mod search;
 mod tables;
 
 pub use authority::{Authorising, Authority, Point};
 pub use demand::Demand;
+pub use entries::is_caller;
 pub use laws::{
     authority_goes_back, authority_is_later, later_is_later, matched_entry_is_there,
     matched_is_of_address, restore_goes_back,
 };
 pub use marks::Marks;
-pub use noted::{Noted, is_child};
-pub use recorder::Recorder;

@@ -1,13 +1,13 @@
 -- What a recorder keeps, and how it finds the place of a new node (own).
-use Rattle.std.specs.Prelude.{◌≡◌, ℕ, ◌+◌, ◌&&◌, ◌||◌, List, [], length, map, nat_eq, nat_lt, Bool, Option, Some, None}
+use Rattle.std.specs.Prelude.{◌≡◌, ℕ, ◌+◌, ◌&&◌, ◌||◌, List, [], length, map, nat_eq, nat_lt, Bool, false, Option, Some, None}
 use Rattle.std.specs.Prelude.{if◌then◌else◌}
 use Rattle.std.specs.List.{fold, slice_get, AllByRecursion}
 use Rattle.std.specs.Option.{option_map, option_and_then}
 use Rattle.value_types.specs.declared.account_id.AccountId.{AccountId}
 use Rattle.value_types.specs.declared.address.ScAddress.{ScAddress}
 use Rattle.invoke_types.specs.declared.function.Function.{Function}
-use Rattle.auth_trees.specs.declared.noted.Noted.{Noted}
-use Rattle.auth_trees.specs.declared.noted.Place.{Place}
+use Rattle.auth_notes.specs.declared.noted.Noted.{Noted}
+use Rattle.auth_notes.specs.declared.noted.Place.{Place}
 use Rattle.auth_trees.specs.Pairs.{Pair, is_below}
 use Rattle.auth_trees.specs.Demands.{same_address, is_root, Choice, ByNote, ByCaller, ByNothing, ByNode}
 use Rattle.auth_trees.specs.Noted.{Note, roots_in, last_child, new_place, noted_at}
@@ -54,9 +54,12 @@ abbrev pub stays : Pair → Pair → Bool
 stays best later =
     nat_lt best.entry later.entry || (nat_eq best.entry later.entry && nat_lt (length later.path) (length best.path))
 
+abbrev pub keeps : Option Pair → Pair → Bool
+keeps None later = false
+keeps (Some best) later = stays best later
+
 abbrev pub better : Option Pair → Pair → Option Pair
-better None later = Some later
-better (Some best) later = if stays best later then Some best else Some later
+better o later = if keeps o later then o else Some later
 
 -- a node of the address whose path is a proper prefix of this path
 abbrev pub is_above : List ℕ → ScAddress → Note → Bool

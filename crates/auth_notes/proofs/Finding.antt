@@ -5,18 +5,17 @@ use Rattle.std.specs.Option.{option_or, unwrap_or}
 use Rattle.std.proofs.lemmas.Option.{same_Some}
 use Rattle.std.proofs.lemmas.List.Folds.{fold-map}
 use Rattle.std.proofs.lemmas.List.Elements.{filter-append}
-use Rattle.std.proofs.lemmas.List.{map_push, length-map}
-use Rattle.auth_trees.specs.declared.noted.Noted.{Noted}
+use Rattle.std.proofs.lemmas.List.{length-map}
+use Rattle.auth_notes.specs.declared.noted.Noted.{Noted}
 use Rattle.std.proofs.lemmas.Bool.Decides.{Decides-eqb, Decides-ltb}
 use Rattle.value_types.specs.declared.address.ScAddress.{ScAddress}
 use Rattle.invoke_types.specs.declared.function.Function.{Function}
 use Rattle.auth_trees.specs.Pairs.{Pair, is_below, deeper, deepest}
 use Rattle.auth_trees.specs.Demands.{same_address, first_from, is_root, ByNote, ByNothing}
 use Rattle.auth_trees.specs.Noted.{Note, MOST_LEVELS, pairs_in, roots_in, last_child, below_noted, new_place, noted_at}
-use Rattle.auth_trees.specs.Recording.{note_of, notes_of, HasRoot, AreTrees, stays, better, best_of, best, place_by, note_by, new_note, trees_with}
-use Rattle.auth_trees.proofs.Lists.{get_left, get_right, all_push, all_same}
-use Rattle.auth_trees.proofs.Deepest.{same_or_not}
-use Rattle.auth_trees.proofs.Addresses.{same_is}
+use Rattle.auth_notes.specs.Recording.{note_of, notes_of, HasRoot, AreTrees, stays, better, best_of, best, place_by, note_by, new_note, trees_with}
+use Rattle.auth_trees.proofs.Lemmas.{get_left, get_right, all_push, all_same, same_or_not}
+use Rattle.auth_notes.proofs.Addresses.{same_is}
 
 -- ---- a fold over a filtered list
 
@@ -302,7 +301,7 @@ noted_choice path address function place n e =
     ] in
     go (nat_lt (length place.1) MOST_LEVELS) e
 
-trees_more : (notes : List Note) (trees : ℕ) (path : List ℕ) (address : ScAddress) (function : Function) (n : Note) → AreTrees notes trees → new_note notes path address function ≡ Some n
+pub trees_more : (notes : List Note) (trees : ℕ) (path : List ℕ) (address : ScAddress) (function : Function) (n : Note) → AreTrees notes trees → new_note notes path address function ≡ Some n
     → AreTrees (notes ++ n ∷ []) (trees_with trees n)
 trees_more notes trees path address function n h e =
     let is = (noted_choice path address function (new_place notes path address) n e).1 in
@@ -331,8 +330,5 @@ few_trees ns trees most h long few =
     let same : length (notes_of ns) ≡ length ns = length-map ns note_of in
     omega (arith, h.count, few_roots (notes_of ns), same, long, few)
 
-pub trees_pushed : (old new : List Noted) (note : Noted) (trees : ℕ) (path : List ℕ) (address : ScAddress) (function : Function) → AreTrees (notes_of old) trees → new ≡ old ++ note ∷ []
-    → new_note (notes_of old) path address function ≡ Some (note_of note) → AreTrees (notes_of new) (trees_with trees (note_of note))
-trees_pushed old new note trees path address function h e is =
-    let same : notes_of old ++ note_of note ∷ [] ≡ notes_of new = sym (map_push note_of old note) ∙ ap notes_of (sym e) in
-    subst (λ (notes : List Note). AreTrees notes (trees_with trees (note_of note))) same (trees_more (notes_of old) trees path address function (note_of note) h is)
+pub note_address : (notes : List Note) (path : List ℕ) (address : ScAddress) (function : Function) (n : Note) → new_note notes path address function ≡ Some n → n.address ≡ address
+note_address notes path address function n e = ap (λ (m : Note). m.address) (noted_choice path address function (new_place notes path address) n e).1

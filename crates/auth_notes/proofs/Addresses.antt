@@ -6,3 +6,6 @@ use Rattle.auth_trees.specs.Demands.{coded_address, same_address}
 
 pub same_is : (a b : ScAddress) → same_address a b ≡ true → a ≡ b
 same_is a b e = (is_same_decides coded_address a b).0 e
+
+pub is_same_address : (a b : ScAddress) → a ≡ b → same_address a b ≡ true
+is_same_address a b e = (is_same_decides coded_address a b).1 e

@@ -5,12 +5,11 @@ ghost use Rattle.std.specs.List.{slice_get};
 ghost use Rattle.std.specs.Option.{option_map};
 ghost use Rattle.auth_trees.specs.Noted.{no_notes};
 ghost use Rattle.auth_trees.specs.Authorities.{IsDemanded, point_of, undone_to};
-ghost use Rattle.auth_trees.specs.Recording.{notes_of};
+ghost use Rattle.auth_notes.specs.Recording.{notes_of};
 
-use crate::authority::{Authority, Point};
-use crate::demand::Demand;
-use crate::entries::is_caller;
-use crate::noted::{Noted, is_account, new_note, trees_with};
+use crate::forest::{Forest, grow, new_note, no_trees};
+use crate::noted::{Noted, account_of};
+use auth_trees::{Authority, Demand, Point, is_caller};
 use auth_types::AuthEntry;
 use invoke_types::Function;
 use std::alloc::Global;
@@ -22,8 +21,7 @@ use value_types::{AccountId, ScAddress};
 pub struct Recorder {
     alloc: Global,
     source: AccountId,
-    notes: Vec<Noted>,
-    trees: usize,
+    forest: Forest,
     demands: usize,
     undone: usize,
 }
@@ -34,16 +32,17 @@ impl Model for Recorder {
     ghost use Rattle.invoke_types.specs.contracts.function.Function as function;
     ghost use Rattle.auth_types.specs.contracts.auth_entry.AuthEntry as auth_entry;
     ghost use Rattle.auth_trees.specs.Authorities.{Authorised, authorised_code};
-    ghost use Rattle.auth_trees.specs.Recording.{notes_of, recorded, AreTrees};
+    ghost use Rattle.auth_notes.specs.Recording.{notes_of, recorded};
+    ghost use Rattle.auth_notes.specs.Indices.{IsForest};
 
     ghost Value = { Authorised };
 
     ghost coded = { authorised_code auth_entry.the_row.coded account_id.the_row.coded address.the_row.coded
         function.the_row.coded };
 
-    ghost view = { λ r. recorded r.source (notes_of r.notes.items) r.demands r.undone };
+    ghost view = { λ r. recorded r.source (notes_of r.forest.notes.items) r.demands r.undone };
 
-    ghost invariant = { λ r. AreTrees (notes_of r.notes.items) r.trees };
+    ghost invariant = { λ r. IsForest r.forest };
 }
 
 impl Recorder {
@@ -54,8 +53,7 @@ impl Recorder {
         Recorder {
             alloc,
             source,
-            notes: Vec::new(alloc),
-            trees: 0,
+            forest: no_trees(alloc),
             demands: 0,
             undone: 0,
         }
@@ -64,7 +62,8 @@ impl Recorder {
     /// Notes a demand for an address in the frame of a path. The caller is the contract that calls the frame directly; for a
     /// create it is the frame's own contract. Running out of memory changes nothing.
     ///
-    /// It takes time linear in what was noted.
+    /// If n nodes were noted, it takes O(log n) comparisons of keys for each number of the path. It copies the path and the
+    /// function.
     pub fn demand(
         &mut self,
         path: &[u64],
@@ -82,23 +81,20 @@ impl Recorder {
             self.demands = demands;
             return Demand::ByInvoker;
         }
-        if !is_account(address) {
+        let Some(account) = account_of(address) else {
             self.demands = demands;
             return Demand::Denied;
-        }
-        let notes = self.notes.as_slice();
-        match new_note(self.alloc, notes, self.trees, path, address, function) {
+        };
+        match new_note(self.alloc, &self.forest, account, path, function) {
             Err(_) => Demand::NoMemory,
             Ok(None) => {
                 self.demands = demands;
                 Demand::Denied
             }
             Ok(Some(note)) => {
-                let trees = trees_with(self.trees, &note);
-                if !add(&mut self.notes, note) {
+                if !grow(self.alloc, &mut self.forest, account, note) {
                     return Demand::NoMemory;
                 }
-                self.trees = trees;
                 self.demands = demands;
                 Demand::Noted
             }
@@ -153,19 +149,9 @@ impl Recorder {
     pub fn into_notes(self) -> Vec<Noted>
         ensures { option_map (λ n. n.nodes) self.noted ≡ Some (notes_of result.items) }
     {
-        let Recorder { notes, .. } = self;
+        let Recorder { forest, .. } = self;
+        let Forest { notes, .. } = forest;
         notes
-    }
-}
-
-// Adds a node. Returns whether there was memory for it.
-fn add(notes: &mut Vec<Noted>, note: Noted) -> bool
-    ensures added { result ≡ true → notes.new.items ≡ notes.old.items ++ note ∷ [] }
-    ensures refused { result ≡ false → notes.new.items ≡ notes.old.items }
-{
-    match notes.push(note) {
-        Ok(()) => true,
-        Err(_) => false,
     }
 }
 

@@ -1,0 +1,6 @@
+mod Addresses
+mod Counting
+mod Finding
+mod Joining
+mod Prefixes
+mod Spelling
