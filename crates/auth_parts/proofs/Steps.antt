@@ -70,7 +70,7 @@ contract_refused error x contract ds before after is h =
         subst (λ (out : Out Asked). Says q asked (denied out) (quiet w (λ trace. record w { meter = after }))) (sym (enters_any Asked (Err (errs.Failed e)) ds before after h (gives (by_contract contract ds)) w i)) (refl, refl)
     at errs.Spent h w i =
         let q : Result Asked' HostErr = Err (denied_end errs.Spent) in
-        subst (λ (out : Out Asked). Says q asked (denied out) (quiet w (λ trace. record w { meter = after }))) (sym (enters_any Asked (Err errs.Spent) ds before after h (gives (by_contract contract ds)) w i)) (refl, refl, refl)
+        subst (λ (out : Out Asked). Says q asked (denied out) (quiet w (λ trace. record w { meter = after }))) (sym (enters_any Asked (Err errs.Spent) ds before after h (gives (by_contract contract ds)) w i)) (refl, refl, refl, refl)
     at errs.NoMemory h w i = tt
 
 pub contract_args : (contract : Hash) (q : Result Asked' HostErr) (ds es : List Datum) (before after : Meter) → ds ≡ es → Charges q asked (enters_for contract ds) before after → Charges q asked (enters_for contract es) before after

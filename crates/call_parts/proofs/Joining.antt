@@ -37,10 +37,10 @@ stops view view' (ends.Failed e) (Good b u) next left h = absurd (let k = h.1 in
 stops view view' (ends.Failed e) (Bad f u) next left h = let k = h.1 in (h.0, cc)
 stops view view' (ends.Failed e) (Undeclared a u) next left h = absurd (let k = h.1 in cc)
 stops view view' ends.Spent (Good b u) next left h = absurd (let k = h.1 in cc)
-stops view view' ends.Spent (Bad f u) next left h = let k = h.1 in (h.0, cc, h.2)
+stops view view' ends.Spent (Bad f u) next left h = let k = h.1 in (h.0, cc, h.2, h.3)
 stops view view' ends.Spent (Undeclared a u) next left h = absurd (let k = h.1 in cc)
 stops view view' (ends.Archived key) (Good b u) next left h = absurd (let k = h.1 in cc)
-stops view view' (ends.Archived key) (Bad f u) next left h = let k = h.1 in (h.0, cc, h.2)
+stops view view' (ends.Archived key) (Bad f u) next left h = let k = h.1 in (h.0, cc, h.2, h.3)
 stops view view' (ends.Archived key) (Undeclared a u) next left h = absurd (let k = h.1 in cc)
 stops view view' (ends.Undeclared key) (Good b u) next left h = absurd (let k = h.1 in cc)
 stops view view' (ends.Undeclared key) (Bad f u) next left h = absurd (let k = h.1 in cc)
@@ -123,7 +123,7 @@ lifted_quietly w (values.Spent s) = refl
 says_lifted : {A B : Type 0} (e : ValueErr) (view : A → B) (out : values.Out B) (w : World) (s : values.State) → (let r : Result A ValueErr = Err e in values.Says r view out s)
     → (let q : Result A HostErr = Err (host_end e) in Says q view (lifted w out) (quiet w (λ trace. with_state s w)))
 says_lifted (errs.Failed e) view out w s h = (lifted_quietly w out, ap (lifted w) h)
-says_lifted errs.Spent view out w s h = (lifted_quietly w out, rw h refl, rw h refl)
+says_lifted errs.Spent view out w s h = (lifted_quietly w out, rw h refl, rw h refl, rw h refl)
 says_lifted errs.NoMemory view out w s h = tt
 
 -- a call over values that returned

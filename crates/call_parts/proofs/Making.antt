@@ -185,7 +185,7 @@ module _ (effect : Env → Option Kept → Effect (Unit {0})) (error : ScError) 
           Says q (λ u. u) (at_make error (make_act entry life old).0 (make_act entry life old).1.0 entry w) (leaving old new w.trace (λ trace. record w { entries = new.map; trace = trace; meter = meter })))
       at err.Undeclared h =
           rw h.0 (tells_still old new w.trace (same_declared old new h.1) (made_touched (Err err.Undeclared) entry life old (left new) h.0), rw (← j) refl, j)
-      at err.Archived h = rw h.0 (noted_in (Err err.Archived) h.0 refl h.1, refl, j)
+      at err.Archived h = rw h.0 (noted_in (Err err.Archived) h.0 refl h.1, refl, j, refl)
       at err.Missing h = rw h.0 (noted_in (Err err.Missing) h.0 refl h.1, rw (same_map old new h.1, ← i, ← j) refl)
       at (err.BadExtend e) h = rw h.0 (noted_in (Err (err.BadExtend e)) h.0 refl h.1, rw (same_map old new h.1, ← i, ← j) refl)
       at err.NoMemory h = tt

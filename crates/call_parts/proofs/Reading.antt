@@ -70,7 +70,7 @@ read_refused {A} {B} view effect on opens e x key old new fits is h env serves w
     at : (e : StoErr) → (let none : Result LedgerEntry StoErr = Err e in Reads (get_act key) none old new)
         → (let q : Result A HostErr = Err (end_of key e) in Says q view (at_got on (get_act key old).0 key w) (leaving old new w.trace (λ trace. record w { entries = new.map; trace = trace })))
     at err.Undeclared h = rw h.0 (refused_still key old new w.trace h, refl, refl)
-    at err.Archived h = rw h.0 (noted_still err.Archived key old new w h.0 refl h.1, refl, refl)
+    at err.Archived h = rw h.0 (noted_still err.Archived key old new w h.0 refl h.1, refl, refl, refl)
     at err.Missing h = rw h.0 (noted_still err.Missing key old new w h.0 refl h.1, rw (same_map old new h.1, ← i) refl)
     at (err.BadExtend e) h = rw h.0 (noted_still (err.BadExtend e) key old new w h.0 refl h.1, rw (same_map old new h.1, ← i) refl)
     at err.NoMemory h = tt
@@ -159,7 +159,7 @@ there_refused e x key s t fits is h env serves w i =
     at : (e : StoErr) → (let none : Result Bool StoErr = Err e in Reads (has_act key) none s t)
         → (let q : Result Bool HostErr = Err (end_of key e) in Says q (λ b. b) (at_had (has_act key s).0 key w) (leaving s t w.trace (λ trace. record w { entries = t.map; trace = trace })))
     at err.Undeclared h = rw h.0 (tells_still s t w.trace (same_declared s t h.1) (has_touched (Err err.Undeclared) key s (left t) h.0), refl, refl)
-    at err.Archived h = rw h.0 (has_tells (Err err.Archived) key s t w h.0 refl h.1, refl, refl)
+    at err.Archived h = rw h.0 (has_tells (Err err.Archived) key s t w h.0 refl h.1, refl, refl, refl)
     at err.Missing h = rw h.0 (has_tells (Err err.Missing) key s t w h.0 refl h.1, rw (same_map s t h.1, ← i) refl)
     at (err.BadExtend e) h = rw h.0 (has_tells (Err (err.BadExtend e)) key s t w h.0 refl h.1, rw (same_map s t h.1, ← i) refl)
     at err.NoMemory h = tt

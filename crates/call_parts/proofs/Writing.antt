@@ -113,7 +113,7 @@ put_refused e x key again entry old new meter k same is fits h =
         Says q (λ u. u) (at_put (put_act entry old).0 (put_act entry old).1.0 entry w) (leaving old new w.trace (λ trace. record w { entries = new.map; trace = trace; meter = meter })))
     at w i j err.Undeclared h =
         rw h.0 (tells_still old new w.trace (same_declared old new h.1) (put_touched (Err err.Undeclared) entry old (left new) h.0), rw (← j) refl, j)
-    at w i j err.Archived h = rw h.0 (noted_in (Err err.Archived) w h.0 refl h.1, refl, j)
+    at w i j err.Archived h = rw h.0 (noted_in (Err err.Archived) w h.0 refl h.1, refl, j, refl)
     at w i j err.Missing h = rw h.0 (noted_in (Err err.Missing) w h.0 refl h.1, rw (same_map old new h.1, ← i, ← j) refl)
     at w i j (err.BadExtend e) h = rw h.0 (noted_in (Err (err.BadExtend e)) w h.0 refl h.1, rw (same_map old new h.1, ← i, ← j) refl)
     at w i j err.NoMemory h = tt

@@ -28,9 +28,13 @@ pub record Leaves : Type 1 where
   pub world : List Access → World
   pub told : List Access → Type 0
 
--- An end that no `try_call` catches. Only the budget is compared, and the touched keys if the storage records.
+-- An end that no `try_call` catches. The budget and what was noted are compared, and the touched keys if the storage records.
 abbrev pub EndsSo : {A : Type 0} → Failure → Out A → Leaves → Type 0
-EndsSo e out left = left.told (trace_of out) × (out ≡ Bad e (world_of out)) × ((world_of out).meter ≡ (left.world []).meter)
+EndsSo e out left =
+    left.told (trace_of out)
+    × (out ≡ Bad e (world_of out))
+    × ((world_of out).meter ≡ (left.world []).meter)
+    × ((world_of out).noted ≡ (left.world []).noted)
 
 -- The act makes an access of this key, which the judge rejects.
 abbrev pub StopsSo : {A : Type 0} → LedgerKey → Out A → Leaves → Type 0

@@ -97,18 +97,18 @@ shown_stop e start mid act one env is rest trace =
     let out = act env (world_in rest start trace) in
     let then = then_do out shows in
     as_fails e (λ n. n) then (leaving_by start mid trace (world_in rest mid))
-    (stop (λ w t. world_in w mid t) keep_rest (telling start mid trace) mid.ledger.budget (λ _ _. refl) e rest out shows (fails_as e answer_of out (leaving_by start mid trace (world_in rest mid)) (one env is rest trace)))
+    (stop (λ w t. world_in w mid t) keep_rest (telling start mid trace) mid.ledger.budget mid.marks.noted (λ _ _. (refl, refl)) e rest out shows (fails_as e answer_of out (leaving_by start mid trace (world_in rest mid)) (one env is rest trace)))
 
 -- an act that leaves one world, with the accesses so far
-pub traced : {A B : Type 0} (r : Result A HostErr) (view : A → B) (out : Out B) (left : List Access → World) (w : World) → left w.trace ≡ w → (left []).meter ≡ w.meter
+pub traced : {A B : Type 0} (r : Result A HostErr) (view : A → B) (out : Out B) (left : List Access → World) (w : World) → left w.trace ≡ w → (left []).meter ≡ w.meter → (left []).noted ≡ w.noted
     → Says r view out (quiet w (λ trace. w)) → Says r view out (quiet w left)
-traced (Ok a) view out left w e m p = (p.0, subst (λ o. o ≡ Good (view a) (left (trace_of o))) (sym p.1) (ap (Good (view a)) (sym e)))
-traced (Err (ends.Failed d)) view out left w e m p = (p.0, subst (λ o. o ≡ Bad (Failed d) (left (trace_of o))) (sym p.1) (ap (Bad (Failed d)) (sym e)))
-traced (Err ends.Spent) view out left w e m p = (p.0, p.1, p.2 ∙ sym m)
-traced (Err (ends.Archived key)) view out left w e m p = (p.0, p.1, p.2 ∙ sym m)
-traced {B = B} (Err (ends.Undeclared key)) view out left w e m p =
+traced (Ok a) view out left w e m n p = (p.0, subst (λ o. o ≡ Good (view a) (left (trace_of o))) (sym p.1) (ap (Good (view a)) (sym e)))
+traced (Err (ends.Failed d)) view out left w e m n p = (p.0, subst (λ o. o ≡ Bad (Failed d) (left (trace_of o))) (sym p.1) (ap (Bad (Failed d)) (sym e)))
+traced (Err ends.Spent) view out left w e m n p = (p.0, p.1, p.2 ∙ sym m, p.3 ∙ sym n)
+traced (Err (ends.Archived key)) view out left w e m n p = (p.0, p.1, p.2 ∙ sym m, p.3 ∙ sym n)
+traced {B = B} (Err (ends.Undeclared key)) view out left w e m n p =
     (p.0, subst (λ (z : Meter). out ≡ Undeclared (record { kind = stopped_kind out; key = key; used = z.used }) (world_of out)) (sym m) p.1, p.2 ∙ sym m)
-traced (Err ends.NoMemory) view out left w e m p = tt
+traced (Err ends.NoMemory) view out left w e m n p = tt
 
 -- ---- uploads
 

@@ -59,7 +59,7 @@ pub around_stop : {A B C D G U V : Type 0} (e : HostErr) (view : A → B) (other
 around_stop e view other act next old new one env is rest trace =
     let out = act env (world_around rest old trace) in
     as_fails e other (then_do out (next env)) (leaving_by old new trace (world_around rest new))
-    (stop (λ w t. world_around w new t) keep_rest (telling old new trace) new.ledger.budget (λ _ _. refl) e rest out (next env) (fails_as e view out (leaving_by old new trace (world_around rest new)) (one env is rest trace)))
+    (stop (λ w t. world_around w new t) keep_rest (telling old new trace) new.ledger.budget new.marks.noted (λ _ _. (refl, refl)) e rest out (next env) (fails_as e view out (leaving_by old new trace (world_around rest new)) (one env is rest trace)))
 
 -- an act that gets a path of its own
 pub around_begins : {C D G U V : Type 0} (r : Result C HostErr) (view : C → D) (act : Env → List ℕ → Act D) (path : List ℕ) (old mid new : Host G U V) → path ≡ old.place.path.items ++ old.place.begun ∷ [] → mid ≡ numbered old

@@ -163,10 +163,10 @@ denied_says (Err (ends.Failed d)) view out left tr p =
     let same : trace_of (denied out) ≡ trace_of out = ap trace_of e ∙ tr (trace_of out) in
     (subst left.told (sym same) p.0, e ∙ ap (λ t. Bad (Failed DENIED) (left.world t)) (sym same))
 denied_says (Err ends.Spent) view out left tr p =
-    let e : denied out ≡ Bad Spent (world_of out) = ap denied p.1 in (subst left.told (sym (ap trace_of e)) p.0, e ∙ ap (Bad Spent) (sym (ap world_of e)), ap (λ o. (world_of o).meter) e ∙ p.2)
+    let e : denied out ≡ Bad Spent (world_of out) = ap denied p.1 in (subst left.told (sym (ap trace_of e)) p.0, e ∙ ap (Bad Spent) (sym (ap world_of e)), ap (λ o. (world_of o).meter) e ∙ p.2, ap (λ o. (world_of o).noted) e ∙ p.3)
 denied_says (Err (ends.Archived key)) view out left tr p =
     let e : denied out ≡ Bad (Archived key) (world_of out) = ap denied p.1 in
-    (subst left.told (sym (ap trace_of e)) p.0, e ∙ ap (Bad (Archived key)) (sym (ap world_of e)), ap (λ o. (world_of o).meter) e ∙ p.2)
+    (subst left.told (sym (ap trace_of e)) p.0, e ∙ ap (Bad (Archived key)) (sym (ap world_of e)), ap (λ o. (world_of o).meter) e ∙ p.2, ap (λ o. (world_of o).noted) e ∙ p.3)
 denied_says {B = B} (Err (ends.Undeclared key)) view out left tr p =
     let at : _ → World → Out B = λ kind w. Undeclared (record { kind = kind; key = key; used = (left.world []).meter.used }) w in
     let e : denied out ≡ at (stopped_kind out) (world_of out) = ap denied p.1 in (

@@ -132,14 +132,14 @@ bad_end may m (Failed e) w v rest (Err (ends.Undeclared key)) view old new paid 
 bad_end may m (Failed e) w v rest (Err ends.NoMemory) view old new paid noted back says = tt
 bad_end may m Spent w v rest (Ok x) view old new paid noted back says = absurd (bad_good says.1)
 bad_end may m Spent w v rest (Err (ends.Failed c)) view old new paid noted back says = let p : Spent ≡ Failed c = same_failure says.1 in absurd cc
-bad_end may m Spent w v rest (Err ends.Spent) view old new paid noted back says = sym says.2 ∙ paid
+bad_end may m Spent w v rest (Err ends.Spent) view old new paid noted back says = (sym says.2 ∙ paid, sym says.3 ∙ noted)
 bad_end may m Spent w v rest (Err (ends.Archived key)) view old new paid noted back says = let p : Spent ≡ Archived key = same_failure says.1 in absurd cc
 bad_end may m Spent w v rest (Err (ends.Undeclared key)) view old new paid noted back says = absurd (bad_undeclared says.1)
 bad_end may m Spent w v rest (Err ends.NoMemory) view old new paid noted back says = tt
 bad_end may m (Archived k) w v rest (Ok x) view old new paid noted back says = absurd (bad_good says.1)
 bad_end may m (Archived k) w v rest (Err (ends.Failed c)) view old new paid noted back says = let p : Archived k ≡ Failed c = same_failure says.1 in absurd cc
 bad_end may m (Archived k) w v rest (Err ends.Spent) view old new paid noted back says = let p : Archived k ≡ Spent = same_failure says.1 in absurd cc
-bad_end may m (Archived k) w v rest (Err (ends.Archived key)) view old new paid noted back says = (sym (same_key (same_failure says.1)), sym says.2 ∙ paid)
+bad_end may m (Archived k) w v rest (Err (ends.Archived key)) view old new paid noted back says = (sym (same_key (same_failure says.1)), sym says.2 ∙ paid, sym says.3 ∙ noted)
 bad_end may m (Archived k) w v rest (Err (ends.Undeclared key)) view old new paid noted back says = absurd (bad_undeclared says.1)
 bad_end may m (Archived k) w v rest (Err ends.NoMemory) view old new paid noted back says = tt
 

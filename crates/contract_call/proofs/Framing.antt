@@ -38,7 +38,7 @@ go_on_at mid new keep first told law a r view other rest out next p h =
 pub count_both : {A B G U V : Type 0} (r : Result A HostErr) (view : A → B) (rest : World) (out : Out B) (old new : Host G U V) (trace : List Access) → Says r view out (leaving_by old new trace (world_in rest new))
     → Says r view out (leaving_by old new trace (world_in (ending rest out) new))
 count_both r view rest out old new trace p =
-    shown_as (λ w t. world_in w new t) keep_memory (telling old new trace) new.ledger.budget (λ _ _. refl) r view rest out (λ t. world_in rest new t) (λ t. refl) p
+    shown_as (λ w t. world_in w new t) keep_memory (telling old new trace) new.ledger.budget new.marks.noted (λ _ _. (refl, refl)) r view rest out (λ t. world_in rest new t) (λ t. refl) p
 
 -- ---- the run of a frame's function
 
@@ -65,7 +65,7 @@ module _ {G U V : Type 0} (host : Env → HostCalls) (e : Entered) (first : Copi
       let r : Result ScVal HostErr = Err x in
       same_act (λ v t. world_in v h1 t) keep_memory (telling old h1 trace) r view rest (after (started (host env) e) (finished env) w) (then_do out (ends_so env (host env) e)) (frame_first env (host env) e w)
       (as_fails x view (then_do out (ends_so env (host env) e)) (leaving_by old h1 trace (λ t. world_in (keep_memory rest (world_of (then_do out (ends_so env (host env) e)))) h1 t))
-      (stop (λ v t. world_in v h1 t) keep_memory (telling old h1 trace) h1.ledger.budget (λ _ _. refl) x rest out (ends_so env (host env) e)
+      (stop (λ v t. world_in v h1 t) keep_memory (telling old h1 trace) h1.ledger.budget h1.marks.noted (λ _ _. (refl, refl)) x rest out (ends_so env (host env) e)
       (fails_as x words out (leaving_by old h1 trace (λ t. world_in (keep_memory rest (world_of out)) h1 t)) (let none : Result W HostErr = Err x in count_both none words rest out old h1 trace (begun env is rest trace)))))
 
   module _ {W : Type 0} (given : W) (words : W → List ℕ) (h1 h2 : Host G U V) (begun : (let r : Result W HostErr = Ok given in DoesIn r words (λ env. argument_words e.module_.memories e.args) old h1))
@@ -83,7 +83,7 @@ module _ {G U V : Type 0} (host : Env → HostCalls) (e : Entered) (first : Copi
         let ran_out = runs_from (host env) e (words given) (world_in at h1 t) in
         let none : Result ℕ HostErr = Err x in
         as_fails x view (then_do ran_out (finished env)) (leaving_by old h2 trace (λ z. world_in (keep_memory at (world_of (then_do ran_out (finished env)))) h2 z))
-        (stop (λ v z. world_in v h2 z) keep_memory (telling old h2 trace) h2.ledger.budget (λ _ _. refl) x at ran_out (finished env)
+        (stop (λ v z. world_in v h2 z) keep_memory (telling old h2 trace) h2.ledger.budget h2.marks.noted (λ _ _. (refl, refl)) x at ran_out (finished env)
         (fails_as x (λ (n : ℕ). n) ran_out (leaving_by old h2 trace (λ z. world_in (keep_memory at (world_of ran_out)) h2 z))
         (since none (λ (n : ℕ). n) ran_out old.ledger.storage h1.ledger.storage h2.ledger.storage trace t (λ z. world_in (keep_memory at (world_of ran_out)) h2 z) told (ran env (later env is) at t))))))
 

@@ -1,6 +1,7 @@
 -- Acts one after another, as calls of the program do them.
-use Rattle.std.proofs.Common.{◌≡◌, List, [], Result, Ok, Err, sym, ap, ◌∙◌, subst}
+use Rattle.std.proofs.Common.{◌≡◌, List, [], Option, Result, Ok, Err, sym, ap, ◌∙◌, subst}
 use Rattle.budget_meter.specs.Meter.{Meter}
+use Rattle.auth_trees.specs.Noted.{Notes}
 use Rattle.host_spec.specs.declared.error.HostErr.{HostErr}
 use Rattle.host_spec.specs.declared.error.HostErr.TheVariants as ends
 use Rattle.call_spec.specs.World.{AccessKind, Access, World}
@@ -23,9 +24,9 @@ lefts shows told rest = record { world = shows rest; told = told }
 abbrev pub knowing : Telling → (List Access → World) → Leaves
 knowing told world = record { world = world; told = told }
 
--- its budget
-abbrev pub Pays : Showing → Meter → Type 0
-Pays shows m = (w : World) (t : List Access) → (shows w t).meter ≡ m
+-- its budget, and what it has noted
+abbrev pub Pays : Showing → Meter → Option Notes → Type 0
+Pays shows m n = (w : World) (t : List Access) → ((shows w t).meter ≡ m) × ((shows w t).noted ≡ n)
 
 -- what of a world the state does not hold: the rest at the end of an act, by the rest at its start and the world at its end
 abbrev pub Keeping : Type 0
@@ -66,27 +67,27 @@ ended_then x out next p =
 abbrev pub FailsAs : {D : Type 0} → Showing → Keeping → Telling → HostErr → World → Out D → Type 0
 FailsAs {D} shows keep told e rest out = let r : Result D HostErr = Err e in Says r (λ d. d) out (lefts shows told (keep rest (world_of out)))
 
-pub stop : {B D : Type 0} (shows : Showing) (keep : Keeping) (told : Telling) (m : Meter) → Pays shows m → (e : HostErr) (rest : World) (out : Out B) (next : B → Act D)
+pub stop : {B D : Type 0} (shows : Showing) (keep : Keeping) (told : Telling) (m : Meter) (n : Option Notes) → Pays shows m n → (e : HostErr) (rest : World) (out : Out B) (next : B → Act D)
     → FailsAs shows keep told e rest out → FailsAs shows keep told e rest (then_do out next)
-stop shows keep told m pays (ends.Failed d) rest out next p =
+stop shows keep told m n pays (ends.Failed d) rest out next p =
     (subst told (sym (same_trace shows keep (Failed d) rest out next p.1)) p.0, bad_then shows keep (Failed d) rest out next p.1)
-stop shows keep told m pays ends.Spent rest out next p =
-    let t = ended_then Spent out next p.1 in (subst told (sym (ap (λ (w : World). w.trace) t.1)) p.0, t.0, ap (λ (w : World). w.meter) t.1 ∙ p.2 ∙ pays _ _ ∙ sym (pays _ _))
-stop shows keep told m pays (ends.Archived key) rest out next p =
-    let t = ended_then (Archived key) out next p.1 in (subst told (sym (ap (λ (w : World). w.trace) t.1)) p.0, t.0, ap (λ (w : World). w.meter) t.1 ∙ p.2 ∙ pays _ _ ∙ sym (pays _ _))
-stop {B} {D} shows keep told m pays (ends.Undeclared key) rest out next p =
+stop shows keep told m n pays ends.Spent rest out next p =
+    let t = ended_then Spent out next p.1 in (subst told (sym (ap (λ (w : World). w.trace) t.1)) p.0, t.0, ap (λ (w : World). w.meter) t.1 ∙ p.2 ∙ (pays _ _).0 ∙ sym (pays _ _).0, ap (λ (w : World). w.noted) t.1 ∙ p.3 ∙ (pays _ _).1 ∙ sym (pays _ _).1)
+stop shows keep told m n pays (ends.Archived key) rest out next p =
+    let t = ended_then (Archived key) out next p.1 in (subst told (sym (ap (λ (w : World). w.trace) t.1)) p.0, t.0, ap (λ (w : World). w.meter) t.1 ∙ p.2 ∙ (pays _ _).0 ∙ sym (pays _ _).0, ap (λ (w : World). w.noted) t.1 ∙ p.3 ∙ (pays _ _).1 ∙ sym (pays _ _).1)
+stop {B} {D} shows keep told m n pays (ends.Undeclared key) rest out next p =
     let at : AccessKind → Meter → World → Out D = λ kind meter w. Undeclared (record { kind = kind; key = key; used = meter.used }) w in
     let then : Out D = then_do out next in
     let e : then ≡ at (stopped_kind out) (shows (keep rest (world_of out)) []).meter (world_of out) = ap (λ o. then_do o next) p.1 in
     let same : world_of then ≡ world_of out = ap world_of e in
     let kind : stopped_kind then ≡ stopped_kind out = ap stopped_kind e in
-    let paid : (shows (keep rest (world_of out)) []).meter ≡ (shows (keep rest (world_of then)) []).meter = pays _ _ ∙ sym (pays _ _) in (
+    let paid : (shows (keep rest (world_of out)) []).meter ≡ (shows (keep rest (world_of then)) []).meter = (pays _ _).0 ∙ sym (pays _ _).0 in (
       subst told (sym (ap (λ (w : World). w.trace) same)) p.0,
       e ∙ ap (λ k. at k (shows (keep rest (world_of out)) []).meter (world_of out)) (sym kind) ∙ ap (λ z. at (stopped_kind then) z (world_of out)) paid
           ∙ ap (at (stopped_kind then) (shows (keep rest (world_of then)) []).meter) (sym same),
       ap (λ (w : World). w.meter) same ∙ p.2 ∙ paid,
     )
-stop shows keep told m pays ends.NoMemory rest out next p = tt
+stop shows keep told m n pays ends.NoMemory rest out next p = tt
 
 -- the type of the value that does not come means nothing
 pub fails_as : {A B : Type 0} (e : HostErr) (view : A → B) (out : Out B) (left : Leaves) → (let r : Result A HostErr = Err e in Says r view out left)
@@ -129,9 +130,9 @@ pub says_stopped : {A B C D : Type 0} (view : A → B) (other : C → D) (e : Ho
 says_stopped view other (ends.Failed d) next out then told left is p =
     let e = is ∙ ap (λ o. then_do o next) p.1 in (subst told (ap trace_of p.1 ∙ sym (ap trace_of e)) p.0, e)
 says_stopped view other ends.Spent next out then told left is p =
-    let e = is ∙ ap (λ o. then_do o next) p.1 in (subst told (sym (ap trace_of e)) p.0, e ∙ ap (Bad Spent) (sym (ap world_of e)), ap (λ o. (world_of o).meter) e ∙ p.2)
+    let e = is ∙ ap (λ o. then_do o next) p.1 in (subst told (sym (ap trace_of e)) p.0, e ∙ ap (Bad Spent) (sym (ap world_of e)), ap (λ o. (world_of o).meter) e ∙ p.2, ap (λ o. (world_of o).noted) e ∙ p.3)
 says_stopped view other (ends.Archived key) next out then told left is p =
-    let e = is ∙ ap (λ o. then_do o next) p.1 in (subst told (sym (ap trace_of e)) p.0, e ∙ ap (Bad (Archived key)) (sym (ap world_of e)), ap (λ o. (world_of o).meter) e ∙ p.2)
+    let e = is ∙ ap (λ o. then_do o next) p.1 in (subst told (sym (ap trace_of e)) p.0, e ∙ ap (Bad (Archived key)) (sym (ap world_of e)), ap (λ o. (world_of o).meter) e ∙ p.2, ap (λ o. (world_of o).noted) e ∙ p.3)
 says_stopped {D = D} view other (ends.Undeclared key) next out then told left is p =
     let at : AccessKind → World → Out D = λ kind w. Undeclared (record { kind = kind; key = key; used = left.meter.used }) w in
     let e : then ≡ at (stopped_kind out) (world_of out) = is ∙ ap (λ o. then_do o next) p.1 in

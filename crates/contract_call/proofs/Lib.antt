@@ -16,6 +16,7 @@ mod Joining
 mod Lending
 mod Looping
 mod Opening
+mod Possible
 mod Rowing
 mod Showing
 mod Splitting

@@ -1,5 +1,5 @@
 -- The run of a frame's code, from one call of the host to the next.
-use Rattle.std.proofs.Common.{◌≡◌, ℕ, List, [], ◌++◌, length, take, drop, append_assoc, arith, Some, Result, Ok, Err, refl, sym, ap, ◌∙◌, subst}
+use Rattle.std.proofs.Common.{◌≡◌, ℕ, List, [], ◌++◌, length, take, drop, append_assoc, arith, Option, Some, Result, Ok, Err, refl, sym, ap, ◌∙◌, subst}
 use Rattle.std.proofs.lemmas.Grind.{common_steps}
 use Rattle.std.proofs.Math.Seq.{take-append_seam}
 use Rattle.std.specs.List.{refill}
@@ -16,6 +16,7 @@ use Rattle.wasm_run.specs.declared.instance.Event.{Event}
 use Rattle.wasm_run.specs.declared.instance.Event.TheVariants as event
 use Rattle.host_interface.specs.Rows.{Row}
 use Rattle.module_loader.specs.Loading.{row_at}
+use Rattle.auth_trees.specs.Noted.{Notes}
 use Rattle.host_spec.specs.declared.error.HostErr.{HostErr}
 use Rattle.host_spec.specs.declared.error.HostErr.TheVariants as ends
 use Rattle.call_spec.specs.World.{Access, World, Env}
@@ -106,7 +107,7 @@ spent_is host Stuck b i w h = absurd h
 end_says : {A G U V : Type 0} (r : Result A HostErr) (view : A → ℕ) (rest : World) (memory : List ℕ) (t : List Access) (told : Telling) (h : Host G U V) (out : Out ℕ)
     → Says r view out (knowing told (λ trace. world_in (kept memory rest) h t)) → Says r view out (knowing told (world_in (ending rest out) h))
 end_says r view rest memory t told h out p =
-    shown_as (λ w z. world_in w h z) keep_memory told h.ledger.budget (λ _ _. refl) r view rest out (λ z. world_in (kept memory rest) h z) (λ z. refl) (traced r view out told (world_in (kept memory rest) h t) p)
+    shown_as (λ w z. world_in w h z) keep_memory told h.ledger.budget h.marks.noted (λ _ _. (refl, refl)) r view rest out (λ z. world_in (kept memory rest) h z) (λ z. refl) (traced r view out told (world_in (kept memory rest) h t) p)
 
 abbrev pub paid : {G U V : Type 0} → Host G U V → Meter → Host G U V
 paid h b = record h { ledger = record h.ledger { budget = b } }
@@ -152,7 +153,7 @@ run_spent m room i0 i after h0 h b follows tells go does env is rest trace =
     let r : Result ℕ HostErr = Err ends.Spent in
     let e = at.3 ∙ spent_is host (f.0 h.ledger.budget) b after (world_in (kept at.0 rest) h at.1) (tells f.0 f.1) in
     end_says r (λ word. word) rest at.0 at.1 (telling h0 h trace) (paid h b) _
-    (subst (telling h0 h trace) (sym (ap (λ (o : Out ℕ). trace_of o) e)) at.2, e ∙ ap (Bad Spent) (sym (ap world_of e)), ap (λ o. (world_of o).meter) e)
+    (subst (telling h0 h trace) (sym (ap (λ (o : Out ℕ). trace_of o) e)) at.2, e ∙ ap (Bad Spent) (sym (ap world_of e)), ap (λ o. (world_of o).meter) e, ap (λ o. (world_of o).noted) e)
 
 -- ---- calls of the host
 
@@ -188,17 +189,17 @@ run_answered m room i0 i i1 i2 h0 h h2 b f words row word before after follows t
           ),
     )
 
-fixed_left : {A B : Type 0} (r : Result A HostErr) (view : A → B) (out : Out B) (told : Telling) (left : List Access → World) (m : Meter) → ((t : List Access) → (left t).meter ≡ m) → Says r view out (knowing told left)
+fixed_left : {A B : Type 0} (r : Result A HostErr) (view : A → B) (out : Out B) (told : Telling) (left : List Access → World) (m : Meter) (n : Option Notes) → ((t : List Access) → ((left t).meter ≡ m) × ((left t).noted ≡ n)) → Says r view out (knowing told left)
     → Says r view out (knowing told (λ _. left (trace_of out)))
-fixed_left (Ok a) view out told left m pays p = p
-fixed_left (Err (ends.Failed d)) view out told left m pays p = p
-fixed_left (Err ends.Spent) view out told left m pays p = (p.0, p.1, p.2 ∙ pays [] ∙ sym (pays (trace_of out)))
-fixed_left (Err (ends.Archived key)) view out told left m pays p = (p.0, p.1, p.2 ∙ pays [] ∙ sym (pays (trace_of out)))
-fixed_left {B = B} (Err (ends.Undeclared key)) view out told left m pays p =
-    let e = pays [] ∙ sym (pays (trace_of out)) in
+fixed_left (Ok a) view out told left m n pays p = p
+fixed_left (Err (ends.Failed d)) view out told left m n pays p = p
+fixed_left (Err ends.Spent) view out told left m n pays p = (p.0, p.1, p.2 ∙ (pays []).0 ∙ sym (pays (trace_of out)).0, p.3 ∙ (pays []).1 ∙ sym (pays (trace_of out)).1)
+fixed_left (Err (ends.Archived key)) view out told left m n pays p = (p.0, p.1, p.2 ∙ (pays []).0 ∙ sym (pays (trace_of out)).0, p.3 ∙ (pays []).1 ∙ sym (pays (trace_of out)).1)
+fixed_left {B = B} (Err (ends.Undeclared key)) view out told left m n pays p =
+    let e = (pays []).0 ∙ sym (pays (trace_of out)).0 in
     let at : Meter → Out B = λ z. Undeclared (record { kind = stopped_kind out; key = key; used = z.used }) (world_of out) in
     (p.0, p.1 ∙ ap at e, p.2 ∙ e)
-fixed_left (Err ends.NoMemory) view out told left m pays p = tt
+fixed_left (Err ends.NoMemory) view out told left m n pays p = tt
 
 pub run_refused : {G U V : Type 0} (m : Module) (room : ℕ) (i0 i i1 : Suspended) (h0 h h2 : Host G U V) (b : Meter) (f : ℕ) (words : List ℕ) (row : Row) (e : HostErr) (before after : List ℕ) → Follows m room i0 h0 i h
     → ((go : Meter → Run) → Does i go → Tells (go h.ledger.budget) (event.HostCall f words) b i1) → row_at m f ≡ Some row → i1.store.memory.bytes ≡ before
@@ -221,7 +222,7 @@ run_refused m room i0 i i1 h0 h h2 b f words row e before after follows tells na
     (retold r (λ word. word) whole (λ _. left) first (telling h0 h2 trace) (λ z other told. other (at.2 told))
     (says_stopped (λ (word : ℕ). word) (λ (word : ℕ). word) e next out whole first left
     (at.3 ∙ ap (λ r. runs host r w) q.1 ∙ ap (λ o. then_do o next) (row_act env room m f row words (world_in waiting (paid h b) at.1) named))
-    (fixed_left r (λ word. word) out first (λ t. world_in (kept after rest) h2 t) h2.ledger.budget (λ _. refl) says)))
+    (fixed_left r (λ word. word) out first (λ t. world_in (kept after rest) h2 t) h2.ledger.budget h2.marks.noted (λ _. (refl, refl)) says)))
 
 -- ---- the state
 

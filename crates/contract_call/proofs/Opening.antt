@@ -46,10 +46,10 @@ started_does i new e slice words starts same count does =
 -- ---- the end
 
 closed_bad : {B : Type 0} (f : Frame) (cs : List Hash) (x : Failure) (out : Out B) → out ≡ Bad x (world_of out)
-    → (closed f cs out ≡ Bad x (world_of (closed f cs out))) × ((world_of (closed f cs out)).meter ≡ (world_of out).meter)
+    → (closed f cs out ≡ Bad x (world_of (closed f cs out))) × ((world_of (closed f cs out)).meter ≡ (world_of out).meter) × ((world_of (closed f cs out)).noted ≡ (world_of out).noted)
 closed_bad f cs x out p =
     let e : closed f cs out ≡ Bad x (with_frames f cs (world_of out)) = ap (closed f cs) p in
-    (e ∙ ap (Bad x) (sym (ap world_of e)), ap (λ o. (world_of o).meter) e)
+    (e ∙ ap (Bad x) (sym (ap world_of e)), ap (λ o. (world_of o).meter) e, ap (λ o. (world_of o).noted) e)
 
 closed_trace : {B : Type 0} (f : Frame) (cs : List Hash) (x : Failure) (out : Out B) → out ≡ Bad x (world_of out) → trace_of (closed f cs out) ≡ trace_of out
 closed_trace {B} f cs x out p =
@@ -66,9 +66,9 @@ closed_says f cs (Err (ends.Failed d)) view out told left new h tr p =
     let same : trace_of (closed f cs out) ≡ trace_of out = ap trace_of e ∙ tr (trace_of out) in
     (subst told (sym same) p.0, e ∙ ap (Bad (Failed d)) (h (trace_of out) ∙ ap new (sym same)))
 closed_says {B = B} f cs (Err ends.Spent) view out told left new h tr p =
-    let c = closed_bad f cs Spent out p.1 in (subst told (sym (closed_trace f cs Spent out p.1)) p.0, c.0, c.1 ∙ p.2 ∙ ap (λ (w : World). w.meter) (h []))
+    let c = closed_bad f cs Spent out p.1 in (subst told (sym (closed_trace f cs Spent out p.1)) p.0, c.0, c.1 ∙ p.2 ∙ ap (λ (w : World). w.meter) (h []), c.2 ∙ p.3 ∙ ap (λ (w : World). w.noted) (h []))
 closed_says {B = B} f cs (Err (ends.Archived key)) view out told left new h tr p =
-    let c = closed_bad f cs (Archived key) out p.1 in (subst told (sym (closed_trace f cs (Archived key) out p.1)) p.0, c.0, c.1 ∙ p.2 ∙ ap (λ (w : World). w.meter) (h []))
+    let c = closed_bad f cs (Archived key) out p.1 in (subst told (sym (closed_trace f cs (Archived key) out p.1)) p.0, c.0, c.1 ∙ p.2 ∙ ap (λ (w : World). w.meter) (h []), c.2 ∙ p.3 ∙ ap (λ (w : World). w.noted) (h []))
 closed_says {B = B} f cs (Err (ends.Undeclared key)) view out told left new h tr p =
     let at : AccessKind → Meter → World → Out B = λ kind meter w. Undeclared (record { kind = kind; key = key; used = meter.used }) w in
     let m : (left []).meter ≡ (new []).meter = ap (λ (w : World). w.meter) (h []) in

@@ -51,7 +51,7 @@ in_around r view act old new stays around env is rest trace =
       trace = t;
       meter = new.ledger.budget;
     } in
-    shown_as (λ v t. world_in v new t) keep_rest (telling old new trace) new.ledger.budget (λ _ _. refl) r view rest (act env (world_in rest old trace)) (λ t. world_around outer new t)
+    shown_as (λ v t. world_in v new t) keep_rest (telling old new trace) new.ledger.budget new.marks.noted (λ _ _. (refl, refl)) r view rest (act env (world_in rest old trace)) (λ t. world_around outer new t)
     (λ t. ap (λ f. at f new.ledger.objects t) stays.frame ∙ ap (λ o. at old.ledger.frame o t) stays.objects) (around env is outer trace)
 
 -- a value of an act as a host function's answer
@@ -69,7 +69,7 @@ valued_does (Err e) pick view r act old new valued does env is rest trace =
     let next : _ → Act Answer = λ b. gives (value (view b)) in
     subst (λ (x : Result Answer' HostErr). Says x answer_of (returning (act env) view w) (leaving_by old new trace (world_in rest new))) (sym valued)
     (as_fails e answer_of (returning (act env) view w) (leaving_by old new trace (world_in rest new))
-    (stop (λ v t. world_in v new t) keep_rest (telling old new trace) new.ledger.budget (λ _ _. refl) e rest out next (fails_as e pick out (leaving_by old new trace (world_in rest new)) (does env is rest trace))))
+    (stop (λ v t. world_in v new t) keep_rest (telling old new trace) new.ledger.budget new.marks.noted (λ _ _. (refl, refl)) e rest out next (fails_as e pick out (leaving_by old new trace (world_in rest new)) (does env is rest trace))))
 
 -- the arguments first
 pub taken_does : {A G U V : Type 0} (a : A) (r : Result Answer' HostErr) (act : Env → Act Answer) (next : Env → A → Act Answer) (old mid new : Host G U V) → StaysIn old mid

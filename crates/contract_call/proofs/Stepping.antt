@@ -23,7 +23,7 @@ pub steps_stop : {A B C D : Type 0} (e : HostErr) (view : A → B) (other : C �
     → (let none : Result A HostErr = Err e in Steps none view act old new before last) → (let none : Result C HostErr = Err e in Steps none other (λ env. after (act env) (next env)) old new before last)
 steps_stop e view other act next old new before last one env serves w i j =
     as_fails e other (after (act env) (next env) w) (leaving old new w.trace (λ t. record w { entries = new.map; trace = t; meter = last }))
-    (stop (λ _ t. record w { entries = new.map; trace = t; meter = last }) (λ rest _. rest) (Tells old new w.trace) last (λ _ _. refl) e w (act env w) (next env)
+    (stop (λ _ t. record w { entries = new.map; trace = t; meter = last }) (λ rest _. rest) (Tells old new w.trace) last w.noted (λ _ _. (refl, refl)) e w (act env w) (next env)
     (fails_as e view (act env w) (leaving old new w.trace (λ t. record w { entries = new.map; trace = t; meter = last })) (one env serves w i j)))
 
 -- a step whose value is only viewed in another way

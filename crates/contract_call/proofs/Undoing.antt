@@ -108,7 +108,7 @@ left_is : {A B G U V : Type 0} (r : Result A HostErr) (view : A → B) (rest : W
     → Says r view out (knowing told (world_around rest new))
 left_is r view rest t told new out p =
     let left = world_around rest new t in
-    shown_as (λ v u. world_around v new u) keep_rest told new.ledger.budget (λ _ _. refl) r view rest out (λ u. record left { trace = u }) (λ u. refl) (traced r view out told left p)
+    shown_as (λ v u. world_around v new u) keep_rest told new.ledger.budget new.marks.noted (λ _ _. (refl, refl)) r view rest out (λ u. record left { trace = u }) (λ u. refl) (traced r view out told left p)
 
 -- what is told of the accesses of an act whose writes were undone
 told_back : {B G U V : Type 0} (n : ℕ) (start old new : Host G U V) (trace : List Access) (out other : Out B) (rest : World) → IsRestored n old.ledger.storage new.ledger.storage

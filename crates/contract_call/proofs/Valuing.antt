@@ -40,7 +40,7 @@ lifted_says {A} (Ok a) out w u h =
 lifted_says {A} (Err (ends.Failed d)) out w u h =
     let e = ap (lifted w) h in (ap (λ (o : Out A). trace_of o) e, e)
 lifted_says {A} (Err ends.Spent) out w u h =
-    let e = ap (lifted w) h in (ap (λ (o : Out A). trace_of o) e, e ∙ ap (Bad Spent) (sym (ap world_of e)), ap (λ o. (world_of o).meter) e)
+    let e = ap (lifted w) h in (ap (λ (o : Out A). trace_of o) e, e ∙ ap (Bad Spent) (sym (ap world_of e)), ap (λ o. (world_of o).meter) e, ap (λ o. (world_of o).noted) e)
 lifted_says (Err ends.NoMemory) out w u h = tt
 
 either_says : (ks : List ArgKind) (o : Option (Rule ks)) (v : Option (List ℕ → values.Act ℕ)) (words : List ℕ) (r : Result ℕ ValueErr) (w : World) (u : values.State) → is_some o ≡ false → Calls r v words (state_of w) u
@@ -63,7 +63,7 @@ values_in i words r before after old new kept e h env opener rest trace m =
     let u = values.state (shown_of new.objects new.frame.shown) after new.budget in
     let calls = subst (λ (x : List ℕ). Calls r (value_function i) words (values.state (shown_of old.objects old.frame.shown) x old.budget) u) (sym m) h in
     afterwards (ended r) (λ n. n) (host_function env opener i words w) old.storage new.storage trace w (world_at (with_memory after rest) new) (tells_equal old.storage new.storage trace (ap (λ l. l.storage) kept))
-    (traced (ended r) (λ n. n) (host_function env opener i words w) (world_at (with_memory after rest) new) (with_state u w) (ap (λ l. world_at (with_memory after rest) l trace) kept) refl (value_says i words r env opener w u e calls))
+    (traced (ended r) (λ n. n) (host_function env opener i words w) (world_at (with_memory after rest) new) (with_state u w) (ap (λ l. world_at (with_memory after rest) l trace) kept) refl refl (value_says i words r env opener w u e calls))
 
 pub values_stop : {G V : Type 0} (error : ValueErr) (e : HostErr) (i : HostImport) (words before after : List ℕ) (old new : HostLedger G V)
     → new ≡ record old { objects = new.objects; budget = new.budget; frame = record old.frame { shown = new.frame.shown } } → is_some (value_rule i) ≡ true

@@ -45,7 +45,7 @@ pub steps_around : {A B G U V : Type 0} (r : Result A HostErr) (view : A → B) 
 steps_around {G = G} {V = V} r view act old ledger stays steps env is rest trace =
     let w = world_around rest old trace in
     let left : List Access → World = λ t. record w { entries = ledger.storage.map; trace = t; meter = ledger.budget } in
-    shown_as (λ v t. world_around v (record old { ledger = ledger }) t) keep_rest (Tells old.ledger.storage ledger.storage trace) ledger.budget (λ _ _. refl) r view rest (act env w) left
+    shown_as (λ v t. world_around v (record old { ledger = ledger }) t) keep_rest (Tells old.ledger.storage ledger.storage trace) ledger.budget old.marks.noted (λ _ _. (refl, refl)) r view rest (act env w) left
     (λ t. subst (λ (l : HostLedger G V). world_around rest (record old { ledger = l }) t ≡ left t) (sym stays) refl) (steps env is.ledger.serves w refl refl)
 
 pub steps_stay : {G U V : Type 0} (old : Host G U V) (ledger : HostLedger G V) → ledger ≡ record old.ledger { storage = ledger.storage; budget = ledger.budget } → IsLater old.ledger.storage ledger.storage

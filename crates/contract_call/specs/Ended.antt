@@ -22,7 +22,7 @@ UnlessMemory r p = p
 
 -- Compares the result of the Rust function with the end of the whole run over the map m. The storage agrees with m on the keys
 -- that may be read. After a failure, entries, events and authorisations that were used are as before the call; what was noted is
--- kept. After Spent and Archived only the budget is compared.
+-- kept. After Spent and Archived the budget and what was noted are compared.
 abbrev pub IsEnd : {A B G U V : Type 0} → Judge → LedgerMap → Out B → Result A HostErr → (A → B)
     → Host G U V → Host G U V → Type 0
 IsEnd may m (Good b w) (Ok a) view old new =
@@ -31,8 +31,9 @@ IsEnd may m (Good b w) (Ok a) view old new =
 IsEnd may m (Bad (Failed e) w) (Err (ends.Failed d)) view old new =
     (d ≡ e) × (new.ledger.budget ≡ w.meter) × (new.ledger.events ≡ old.ledger.events) × (new.marks.pairs ≡ old.marks.pairs)
     × (new.marks.noted ≡ w.noted) × (new.ledger.storage.map ≡ old.ledger.storage.map)
-IsEnd may m (Bad Spent w) (Err ends.Spent) view old new = new.ledger.budget ≡ w.meter
-IsEnd may m (Bad (Archived key) w) (Err (ends.Archived k)) view old new = (k ≡ key) × (new.ledger.budget ≡ w.meter)
+IsEnd may m (Bad Spent w) (Err ends.Spent) view old new = (new.ledger.budget ≡ w.meter) × (new.marks.noted ≡ w.noted)
+IsEnd may m (Bad (Archived key) w) (Err (ends.Archived k)) view old new =
+    (k ≡ key) × (new.ledger.budget ≡ w.meter) × (new.marks.noted ≡ w.noted)
 IsEnd may m out (Err ends.NoMemory) view old new = Unit {0}
 IsEnd may m _ _ view old new = ⊥
 

@@ -5,6 +5,7 @@ pub mod Framed
 pub mod Made
 pub mod Parts
 pub mod Placed
+pub mod Possible
 pub mod Running
 pub mod Taken
 pub mod Targets

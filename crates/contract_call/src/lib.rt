@@ -27,6 +27,7 @@ mod demands;
 mod errors;
 mod frames;
 mod host;
+mod laws;
 mod parts;
 mod place;
 mod rows;
@@ -38,5 +39,6 @@ mod words;
 mod works;
 
 pub use host::Host;
+pub use laws::runs_are_possible;
 pub use place::Place;
 pub use works::{NewContract, create, invoke, upload};

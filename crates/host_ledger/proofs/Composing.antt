@@ -19,8 +19,8 @@ ends_then f g (Good a w) next left (ends.Archived key) h = absurd (let k = h.1 i
 ends_then f g (Good a w) next left (ends.Undeclared key) h = absurd (let k = h.1 in cc)
 ends_then f g (Good a w) next left ends.NoMemory h = tt
 ends_then f g (Bad d w) next left (ends.Failed x) h = (h.0, let k = h.1 in cc)
-ends_then f g (Bad d w) next left ends.Spent h = (h.0, (let k = h.1 in cc), h.2)
-ends_then f g (Bad d w) next left (ends.Archived key) h = (h.0, (let k = h.1 in cc), h.2)
+ends_then f g (Bad d w) next left ends.Spent h = (h.0, (let k = h.1 in cc), h.2, h.3)
+ends_then f g (Bad d w) next left (ends.Archived key) h = (h.0, (let k = h.1 in cc), h.2, h.3)
 ends_then f g (Bad d w) next left (ends.Undeclared key) h = absurd (let k = h.1 in cc)
 ends_then f g (Bad d w) next left ends.NoMemory h = tt
 ends_then f g (Undeclared a w) next left (ends.Failed x) h = absurd (let k = h.1 in cc)

@@ -176,7 +176,7 @@ has_decided : (a : Bool) (o : Seen) (key : LedgerKey) (s : Stored) (w : World) �
     → Says (named key (has_done a o key s).0) (λ b. value (boolean b)) (decided a o Read key has w) (left_by s (has_done a o key s).1 w)
 has_decided true (live kept) key s w e = (tells_access s (state s (after_access s Read key)) Read key w.meter.used w.trace refl refl, rw (← e) refl)
 has_decided true absent key s w e = (tells_access s (state s (after_access s Read key)) Read key w.meter.used w.trace refl refl, rw (← e) refl)
-has_decided true archived key s w e = (tells_access s (state s (after_access s Read key)) Read key w.meter.used w.trace refl refl, refl, refl)
+has_decided true archived key s w e = (tells_access s (state s (after_access s Read key)) Read key w.meter.used w.trace refl refl, refl, refl, refl)
 has_decided false o key s w e = ((λ told. told), refl, refl)
 
 pub has_says : (r : Result Bool StoErr) (key : LedgerKey) (old new : Stored) → key_format.fits key → Reads (has_act key) r old new
@@ -196,7 +196,7 @@ deletes_decided : (a : Bool) (o : Seen) (key : LedgerKey) (s : Stored) (w : Worl
     → Says (named key (deleted a o key s).0) (λ _. nothing) (decided a o Write key deletes w) (left_by s (deleted a o key s).1 w)
 deletes_decided true (live kept) key s w e = (tells_access s (state s (deleted true (live kept) key s).1) Write key w.meter.used w.trace refl refl, rw e refl)
 deletes_decided true absent key s w e = (tells_access s (state s (deleted true absent key s).1) Write key w.meter.used w.trace refl refl, rw (← e) refl)
-deletes_decided true archived key s w e = (tells_access s (state s (deleted true archived key s).1) Write key w.meter.used w.trace refl refl, refl, refl)
+deletes_decided true archived key s w e = (tells_access s (state s (deleted true archived key s).1) Write key w.meter.used w.trace refl refl, refl, refl, refl)
 deletes_decided false o key s w e = ((λ told. told), refl, refl)
 
 pub del_says : (r : Result (Unit {0}) StoErr) (key : LedgerKey) (old new : Stored) → key_format.fits key → Does (del_act key) r old new
@@ -232,7 +232,7 @@ extends_decided : (env : Env) (b a : Bool) (o : Seen) (key : LedgerKey) (thresho
 extends_decided env true a o key threshold extend_to s w serves e = ((λ told. told), rw (← e) refl)
 extends_decided env false false o key threshold extend_to s w serves e = ((λ told. told), refl, refl)
 extends_decided env false true absent key threshold extend_to s w serves e = (tells_access s (state s (after_access s Extend key)) Extend key w.meter.used w.trace refl refl, rw (← e) refl)
-extends_decided env false true archived key threshold extend_to s w serves e = (tells_access s (state s (after_access s Extend key)) Extend key w.meter.used w.trace refl refl, refl, refl)
+extends_decided env false true archived key threshold extend_to s w serves e = (tells_access s (state s (after_access s Extend key)) Extend key w.meter.used w.trace refl refl, refl, refl, refl)
 extends_decided env false true (live kept) key threshold extend_to s w serves e =
     rw (← serves.number, ← serves.lives) (by_life s.n (asked_life s.lives s.n kept.entry extend_to))
   where
@@ -338,7 +338,7 @@ get_refused e key old new meter fits h env serves w i j =
         → (let none : Result Answer' HostErr = Err (end_of key e) in
         Says none answer_of (at_got (get_act key old).0 key w) (leaving old new w.trace (λ trace. record w { entries = new.map; trace = trace; meter = meter })))
     at err.Undeclared h = rw h.0 (refused_still key old new w.trace h, rw (← j) refl, j)
-    at err.Archived h = rw h.0 (noted_still err.Archived key old new w h.0 refl h.1, refl, j)
+    at err.Archived h = rw h.0 (noted_still err.Archived key old new w h.0 refl h.1, refl, j, refl)
     at err.Missing h = rw h.0 (noted_still err.Missing key old new w h.0 refl h.1, rw (same_map old new h.1, ← i, ← j) refl)
     at (err.BadExtend e) h = rw h.0 (noted_still (err.BadExtend e) key old new w h.0 refl h.1, rw (same_map old new h.1, ← i, ← j) refl)
     at err.NoMemory h = tt

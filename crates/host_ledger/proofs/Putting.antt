@@ -109,7 +109,7 @@ put_refused e entry old new meter fits h env serves w i j =
         Says none answer_of (at_put (put_act entry old).0 (put_act entry old).1.0 entry w) (leaving old new w.trace (λ trace. record w { entries = new.map; trace = trace; meter = meter })))
     at err.Undeclared h =
         rw h.0 (tells_still old new w.trace (same_declared old new h.1) (put_touched (Err err.Undeclared) entry old (left new) h.0), rw (← j) refl, j)
-    at err.Archived h = rw h.0 (noted_in (Err err.Archived) h.0 refl h.1, refl, j)
+    at err.Archived h = rw h.0 (noted_in (Err err.Archived) h.0 refl h.1, refl, j, refl)
     at err.Missing h = rw h.0 (noted_in (Err err.Missing) h.0 refl h.1, rw (same_map old new h.1, ← i, ← j) refl)
     at (err.BadExtend e) h = rw h.0 (noted_in (Err (err.BadExtend e)) h.0 refl h.1, rw (same_map old new h.1, ← i, ← j) refl)
     at err.NoMemory h = tt
@@ -140,7 +140,7 @@ pub paid_spent : (q : Result Answer' HostErr) (size : ℕ) (before after : Meter
     → Says q answer_of (paying ValSer size (sets (with_entries map) nothing) w) (quiet w (λ trace. record w { entries = map; trace = trace; meter = after }))
 paid_spent q size before after h e is w map j =
     subst (λ (x : Result Answer' HostErr). Says x answer_of (paying ValSer size (sets (with_entries map) nothing) w) (quiet w (λ trace. record w { entries = map; trace = trace; meter = after }))) (sym is)
-    (rw (j, charged_spent ValSer size w.frame.shown w.frame.memory before after h e) (refl, refl, refl))
+    (rw (j, charged_spent ValSer size w.frame.shown w.frame.memory before after h e) (refl, refl, refl, refl))
 
 -- ---- the calls of the program
 

@@ -91,7 +91,7 @@ pub lift_err : (e : ValueErr) (out : values.Out ℕ) (s : values.State) (w : Wor
 lift_err (errs.Failed x) out s w h =
     subst (λ (o : values.Out ℕ). let q : Result ℕ HostErr = Err (host_end (errs.Failed x)) in Says q (λ n. n) (lifted w o) (quiet w (λ trace. record (with_state s w) { trace = trace }))) (sym h) (refl, refl)
 lift_err errs.Spent out s w h =
-    subst (λ (o : values.Out ℕ). let q : Result ℕ HostErr = Err (host_end errs.Spent) in Says q (λ n. n) (lifted w o) (quiet w (λ trace. record (with_state s w) { trace = trace }))) (sym h) (refl, refl, refl)
+    subst (λ (o : values.Out ℕ). let q : Result ℕ HostErr = Err (host_end errs.Spent) in Says q (λ n. n) (lifted w o) (quiet w (λ trace. record (with_state s w) { trace = trace }))) (sym h) (refl, refl, refl, refl)
 lift_err errs.NoMemory out s w h = tt
 
 -- ---- calls

@@ -40,8 +40,8 @@ pub retold : {A B : Type 0} (r : Result A HostErr) (view : A → B) (out : Out B
     → (let left : Leaves = record { world = world; told = T } in Says r view out left) → (let left : Leaves = record { world = world; told = U } in Says r view out left)
 retold (Ok a) view out world T U k h = (k _ h.0, h.1)
 retold (Err (ends.Failed e)) view out world T U k h = (k _ h.0, h.1)
-retold (Err ends.Spent) view out world T U k h = (k _ h.0, h.1, h.2)
-retold (Err (ends.Archived key)) view out world T U k h = (k _ h.0, h.1, h.2)
+retold (Err ends.Spent) view out world T U k h = (k _ h.0, h.1, h.2, h.3)
+retold (Err (ends.Archived key)) view out world T U k h = (k _ h.0, h.1, h.2, h.3)
 retold (Err (ends.Undeclared key)) view out world T U k h = (k _ h.0, h.1, h.2)
 retold (Err ends.NoMemory) view out world T U k h = tt
 

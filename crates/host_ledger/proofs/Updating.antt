@@ -75,7 +75,7 @@ code_refused_at {A} view e hash key old new is fits h env serves w i =
     at : (e : StoErr) → (let none : Result LedgerEntry StoErr = Err e in Reads (get_act key) none old new)
         → (let none : Result A HostErr = Err (end_of key e) in Says none view (at_code (get_act key old).0 key w) (leaving old new w.trace (λ trace. record w { entries = new.map; trace = trace })))
     at err.Undeclared h = rw h.0 (refused_still key old new w.trace h, refl, refl)
-    at err.Archived h = rw h.0 (noted_still err.Archived key old new w h.0 refl h.1, refl, refl)
+    at err.Archived h = rw h.0 (noted_still err.Archived key old new w h.0 refl h.1, refl, refl, refl)
     at err.Missing h = rw h.0 (noted_still err.Missing key old new w h.0 refl h.1, rw (same_map old new h.1, ← i) refl)
     at (err.BadExtend e) h = rw h.0 (noted_still (err.BadExtend e) key old new w h.0 refl h.1, rw (same_map old new h.1, ← i) refl)
     at err.NoMemory h = tt

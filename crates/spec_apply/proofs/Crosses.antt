@@ -21,7 +21,7 @@ use Rattle.spec_apply.specs.contracts.job.Job as Job
 use Rattle.spec_apply.specs.contracts.job.ListWork as ListWork
 
 pub change_send : IsSend (Change.the_field).row
-change_send = search (key_send, kept_send, option.the_send, option.the_field_send, sendable) depth 20 fits 5000
+change_send = search (key_send, kept_send, option.the_field_send, sendable) depth 20 fits 5000
 
 pub done_send : IsSend (TxDone.the_field).row
 done_send = search (change_send, extension_send, success_send, pair.the_field_send, used.the_field_send, option.the_field_send, items.the_send, sendable) depth 20 fits 5000

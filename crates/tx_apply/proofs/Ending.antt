@@ -148,7 +148,7 @@ module _ {G U V : Type 0} (work : Work) (old mid : Host G U V) where
         subst (λ (x : Out Datum). let given : Result ScVal HostErr = Ok v in IsEnd may m x given datum old (paid after)) (sym is) (sym (ap datum c.0), refl, h.2, h.3, h.4, h.5)
     charged_by after value None (Good b w) (Err ends.Spent) h c =
         let is : charging b w ≡ Bad Spent (with_meter after w) = ap (λ (d : Datum). charging d w) h.0 ∙ c (gives (datum value)) w (sym h.1) in
-        subst (λ (x : Out Datum). let none : Result ScVal HostErr = Err ends.Spent in IsEnd may m x none datum old (paid after)) (sym is) refl
+        subst (λ (x : Out Datum). let none : Result ScVal HostErr = Err ends.Spent in IsEnd may m x none datum old (paid after)) (sym is) (refl, h.4)
     charged_by after value None (Good b w) (Err (ends.Failed e)) h c =
         let is : charging b w ≡ Bad (Failed e) (with_meter after w) = ap (λ (d : Datum). charging d w) h.0 ∙ c (gives (datum value)) w (sym h.1) in
         absurd (never_fails b w e (with_meter after w) is)

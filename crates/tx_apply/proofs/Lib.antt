@@ -7,6 +7,7 @@ mod Ending
 mod Extending
 mod Fitting
 mod Keys
+pub mod Lemmas
 mod Making
 mod Mapped
 mod Needing

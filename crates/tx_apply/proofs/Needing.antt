@@ -40,7 +40,7 @@ ended_used : {G U V : Type 0} (may : Judge) (m : LedgerMap) (old new : Host G U 
     → new.ledger.budget.used ≡ (world_of out).meter.used
 ended_used may m old new (Good b w) (Ok v) h n = ap (λ (x : Meter). x.used) h.1
 ended_used may m old new (Bad (Failed f) w) (Err (ends.Failed d)) h n = ap (λ (x : Meter). x.used) h.1
-ended_used may m old new (Bad Spent w) (Err ends.Spent) h n = ap (λ (x : Meter). x.used) h
+ended_used may m old new (Bad Spent w) (Err ends.Spent) h n = ap (λ (x : Meter). x.used) h.0
 ended_used may m old new (Bad (Archived key) w) (Err (ends.Archived k)) h n = ap (λ (x : Meter). x.used) h.1
 ended_used may m old new _ (Err ends.NoMemory) h n = cc
 ended_used may m old new _ _ h n = absurd h

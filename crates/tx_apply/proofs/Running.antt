@@ -160,7 +160,7 @@ module _ {G U V : Type 0} (n : ℕ) (resources : SorobanData) (old new : Host G 
   end_comes : (may : Judge) (out : Out Datum) (r : Result ScVal HostErr) → IsEnd may before out r datum old new → Comes before r (by_end n resources before out)
   end_comes may (Good b w) (Ok v) h = returned may b w v h
   end_comes may (Bad (Failed e) w) (Err (ends.Failed d)) h = ap (λ (x : Meter). unsuccessful Trapped before x.used) h.1
-  end_comes may (Bad Spent w) (Err ends.Spent) h = ap (λ (x : Meter). unsuccessful ResourceLimitExceeded before x.used) h
+  end_comes may (Bad Spent w) (Err ends.Spent) h = ap (λ (x : Meter). unsuccessful ResourceLimitExceeded before x.used) h.0
   end_comes may (Bad (Archived key) w) (Err (ends.Archived k)) h = ap (λ (x : Meter). unsuccessful Trapped before x.used) h.1
   end_comes may _ (Err ends.NoMemory) h = tt
   end_comes may _ _ h = absurd h

@@ -32,7 +32,7 @@ fn account_of(account: MuxedAccount) -> AccountId
 }
 
 /// Returns the account that is an operation's source. Without one it is the transaction's.
-fn source_of(tx: &Transaction, source: Option<MuxedAccount>) -> AccountId
+pub fn source_of(tx: &Transaction, source: Option<MuxedAccount>) -> AccountId
     ensures { result ≡ enforced.source_of tx.now source }
 {
     match source {

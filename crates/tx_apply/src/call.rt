@@ -46,7 +46,7 @@ use value_types::{Items, ScVal};
 use xdr_core::NoMemory;
 
 /// A budget with the declared limit of instructions.
-pub(crate) fn budget_of(settings: &Settings, instructions: u32) -> Budget
+pub fn budget_of(settings: &Settings, instructions: u32) -> Budget
     requires { IsTrue (are_settings settings.now) }
     ensures limits { result.limits ≡ record { instructions = instructions; memory = settings.now.memory_limit } }
     ensures terms { result.terms ≡ settings.now.terms }

@@ -12,7 +12,7 @@ use value_types::{Executable, Hash, ScAddress, ScVal};
 
 /// What a host function does.
 #[derive(Drop)]
-pub(crate) enum Job<'f> {
+pub enum Job<'f> {
     /// Calls a function of a contract.
     Call {
         contract: ScAddress,
@@ -57,7 +57,7 @@ fn creation<'f>(
 }
 
 /// Returns what a host function does, or `None` if it is malformed.
-pub(crate) fn job_of(function: &HostFunction) -> Option<Job<'_>>
+pub fn job_of(function: &HostFunction) -> Option<Job<'_>>
     requires { host_function_format.fits function.now }
     ensures work { option_map work_in result ≡ work_of function.now }
     ensures spelled { IfSome result IsSpelled }
@@ -79,7 +79,7 @@ pub(crate) fn job_of(function: &HostFunction) -> Option<Job<'_>>
 }
 
 /// Returns the arguments of a call or of a constructor.
-pub(crate) fn values<'f>(job: &Job<'f>) -> &'f [ScVal]
+pub fn values<'f>(job: &Job<'f>) -> &'f [ScVal]
     ensures { result.now ≡ values_in job.now }
 {
     match job {

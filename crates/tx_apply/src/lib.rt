@@ -20,6 +20,11 @@ mod success;
 mod transaction;
 mod writing;
 
+pub use authority::source_of;
+pub use call::budget_of;
+pub use checks::refusal_of;
 pub use envelope::{TxDone, enforce};
 pub use footprint::{read_only_of, read_write_of};
+pub use job::{Job, job_of, values};
+pub use run::run_job;
 pub use simulating::{Simulated, simulate, simulate_with};

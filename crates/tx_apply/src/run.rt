@@ -186,7 +186,7 @@ fn charged(budget: &mut Budget, value: ScVal) -> Result<ScVal, HostErr>
 }
 
 /// Runs a host function whose arguments have entered the host. Returns its value after the charge for it.
-pub(crate) fn run_job<G: Ground, A: Authority, W: Watch>(
+pub fn run_job<G: Ground, A: Authority, W: Watch>(
     alloc: Global,
     host: &mut Host<'_, G, A, W>,
     job: &Job<'_>,
