@@ -1,0 +1,4 @@
+mod Bounding
+mod Enough
+mod Growing
+mod Recording
