@@ -11,8 +11,8 @@ use Rattle.clap.proofs.OnLiterals.{clap_on_literals}
 use Rattle.command_words.specs.Answers.{IsRefusal, ReadsWords}
 use Rattle.command_words.specs.declared.error.WordsErr.{WordsErr}
 use Rattle.command_words.specs.declared.error.WordsErr.TheVariants.{Usage, NoMemory}
-use Rattle.command_words.specs.Commands.{apply_app, apply_list_app, build_app, gen_app, migrate_app, play_app, show_app, simulate_app}
-use Rattle.command_words.specs.Commands.{soroban_app, vet_app}
+use Rattle.command_words.specs.Commands.{apply_app, apply_list_app, build_app, gen_app, migrate_app, play_app, record_app, show_app}
+use Rattle.command_words.specs.Commands.{simulate_app, soroban_app, vet_app}
 use Rattle.command_words.specs.Words.{are_right, asked_of, asked_from}
 use Rattle.clap.specs.Matches.{first_value}
 use Rattle.clap.specs.Walk.{Text, first_of, rows_of}
@@ -30,7 +30,7 @@ first_of_rows f id = sym (first_value-rows f id)
 
 -- what clap's definitions need of the program
 simple_and_free : is_simple_and_free soroban_app ≡ true
-unfolding soroban_app apply_app simulate_app show_app vet_app migrate_app gen_app build_app play_app apply_list_app clap_on_literals
+unfolding soroban_app apply_app simulate_app show_app vet_app migrate_app gen_app build_app play_app apply_list_app record_app clap_on_literals
 simple_and_free = refl
 
 first_of_both : (a b : Bool) → (a && b) ≡ true → a ≡ true

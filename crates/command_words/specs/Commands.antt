@@ -85,6 +85,14 @@ apply_list_app =
     (with_option (codes "close-time")
     (with_option (codes "verdicts") (with_option (codes "ledger") (with_option (codes "list") (new_app (codes "apply-list"))))))))
 
+-- record --tx FILE --ledger FILE --close-time SECONDS --nonce NUMBER --expiration LEDGER --out FILE
+unfoldable pub record_app : App
+record_app =
+    with_option (codes "out")
+    (with_option (codes "expiration")
+    (with_option (codes "nonce")
+    (with_option (codes "close-time") (with_option (codes "ledger") (with_option (codes "tx") (new_app (codes "record")))))))
+
 -- the program before it has commands: without help, and without its own name among the words
 abbrev pub bare_app : App
 bare_app =
@@ -104,5 +112,6 @@ soroban_app =
     (with_subcommand
     (with_subcommand
     (with_subcommand
+    (with_subcommand
     (with_subcommand (with_subcommand (with_subcommand bare_app apply_app.top) simulate_app.top) show_app.top) vet_app.top)
-    migrate_app.top) gen_app.top) build_app.top) play_app.top) apply_list_app.top
+    migrate_app.top) gen_app.top) build_app.top) play_app.top) apply_list_app.top) record_app.top

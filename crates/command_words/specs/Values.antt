@@ -42,6 +42,14 @@ count_in = number_in 1 100000
 abbrev pub clusters_in : Text → Option ℕ
 clusters_in = number_in 1 1024
 
+-- the first nonce of a recording
+abbrev pub nonce_in : Text → Option ℕ
+nonce_in = number_in 0 (2 ^ 62)
+
+-- the number of a ledger
+abbrev pub number32_in : Text → Option ℕ
+number32_in = number_in 0 (2 ^ 32 - 1)
+
 -- 1 says that a log is played backwards, 0 that it is not
 abbrev pub back_in : Text → Option Bool
 back_in text = option_map (λ n. n == 1) (number_in 0 1 text)

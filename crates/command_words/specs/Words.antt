@@ -1,5 +1,6 @@
 -- The words of a command line, as clap reads them (own).
-use Rattle.std.specs.Prelude.{◌≤◌, ⊤, Bool, true, false, List, [], ◌∷◌, Option, Some, None, if◌then◌else◌, codes, option_and_then}
+use Rattle.std.specs.Prelude.{◌≤◌, ◌<◌, ◌^◌, ⊤, Bool, true, false, List, [], ◌∷◌, Option, Some, None, if◌then◌else◌, codes}
+use Rattle.std.specs.Prelude.{option_and_then}
 use Rattle.std.specs.Str.{bytes_eq}
 use Rattle.clap.specs.Faults.{fault_of}
 use Rattle.clap.specs.Kinds.{Kinds}
@@ -7,12 +8,11 @@ use Rattle.clap.specs.Simple.{subcommand_of}
 use Rattle.clap.specs.Walk.{Row, Text, first_of}
 use Rattle.command_words.specs.Commands.{soroban_app}
 use Rattle.command_words.specs.Values.{all_steps, are_names, back_in, clusters_in, count_in, is_set, kind_in, number64_in}
-use Rattle.command_words.specs.Values.{with_name}
-use Rattle.command_words.specs.Values.{workers_in}
+use Rattle.command_words.specs.Values.{nonce_in, number32_in, with_name, workers_in}
 use Rattle.command_words.specs.declared.request.Request.{Request}
 use Rattle.command_words.specs.declared.request.ScheduleOptions.{ScheduleOptions}
-use Rattle.command_words.specs.declared.request.Request.TheVariants.{Apply, ApplyList, Build, Gen, Migrate, Play, Show}
-use Rattle.command_words.specs.declared.request.Request.TheVariants.{Simulate, Vet}
+use Rattle.command_words.specs.declared.request.Request.TheVariants.{Apply, ApplyList, Build, Gen, Migrate, Play, Record}
+use Rattle.command_words.specs.declared.request.Request.TheVariants.{Show, Simulate, Vet}
 
 infixl 10 ◌>>=◌
 abbrev ◌>>=◌ : {A B : Type 0} → Option A → (A → Option B) → Option B
@@ -166,12 +166,25 @@ apply_list_from rows = do
     ledger_out = ledger_out;
   }))
 
+-- record, with the values of its options
+abbrev pub record_from : List Row → Option Request
+record_from rows = do
+  tx ← first_of (codes "tx") rows
+  ledger ← first_of (codes "ledger") rows
+  close_time ← option_and_then number64_in (first_of (codes "close-time") rows)
+  nonce ← option_and_then nonce_in (first_of (codes "nonce") rows)
+  expiration ← option_and_then number32_in (first_of (codes "expiration") rows)
+  out ← first_of (codes "out") rows
+  _ ← guard (are_names (tx ∷ ledger ∷ out ∷ []))
+  Some (Record (record { tx = tx; ledger = ledger; close_time = close_time; nonce = nonce; expiration = expiration; out = out }))
+
 -- the numbers of a request are in their ranges
 abbrev pub IsInRange : Request → Type 0
 IsInRange (Apply a) = (1 ≤ a.workers) × (a.workers ≤ 64)
 IsInRange (Gen g) = (1 ≤ g.count) × (g.count ≤ 100000)
 IsInRange (Build b) = (1 ≤ b.clusters) × (b.clusters ≤ 1024)
 IsInRange (ApplyList a) = (1 ≤ a.workers) × (a.workers ≤ 64)
+IsInRange (Record r) = (r.nonce ≤ 2 ^ 62) × (r.expiration < 2 ^ 32)
 IsInRange _ = ⊤
 
 -- the command of a subcommand's matches
@@ -185,7 +198,8 @@ asked_from (Some found) = if bytes_eq found.0 (codes "apply") then apply_from fo
     else (if bytes_eq found.0 (codes "gen") then gen_from found.1
     else (if bytes_eq found.0 (codes "build") then build_from found.1
     else (if bytes_eq found.0 (codes "play") then play_from found.1
-    else (if bytes_eq found.0 (codes "apply-list") then apply_list_from found.1 else None))))))))
+    else (if bytes_eq found.0 (codes "apply-list") then apply_list_from found.1
+    else (if bytes_eq found.0 (codes "record") then record_from found.1 else None)))))))))
 
 -- clap finds no fault
 abbrev pub are_right : Kinds → Bool

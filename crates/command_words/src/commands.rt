@@ -5,9 +5,8 @@ ghost use Rattle.clap.specs.Simple.{app_of, new_app, with_rule, with_subcommand}
 ghost use Rattle.clap.specs.Walk.{rule_of};
 ghost use Rattle.clap.specs.declared.builder.command.Command.TheViews.{out-Command as fields_of};
 ghost use Rattle.command_words.specs.Commands.{apply_app, apply_list_app, bare_app, build_app, flag_rule, gen_app, migrate_app};
-ghost use Rattle.command_words.specs.Commands.{option_rule, play_app};
-ghost use Rattle.command_words.specs.Commands.{optional_rule, show_app, simulate_app, soroban_app, vet_app, with_flag};
-ghost use Rattle.command_words.specs.Commands.{with_option, with_optional};
+ghost use Rattle.command_words.specs.Commands.{option_rule, optional_rule, play_app, record_app, show_app, simulate_app};
+ghost use Rattle.command_words.specs.Commands.{soroban_app, vet_app, with_flag, with_option, with_optional};
 
 use clap::{Arg, ArgAction, Command};
 use std::alloc::{AllocError, Global};
@@ -25,6 +24,7 @@ pub fn soroban_command<'a>(alloc: Global) -> Result<Command<'a>, AllocError>
     let command = with_command(command, build_command(alloc)?)?;
     let command = with_command(command, play_command(alloc)?)?;
     let command = with_command(command, apply_list_command(alloc)?)?;
+    let command = with_command(command, record_command(alloc)?)?;
     Ok(command)
 }
 
@@ -138,6 +138,16 @@ fn apply_list_command<'a>(alloc: Global) -> Result<Command<'a>, AllocError>
     let command = with_options(command, alloc, "list", "ledger", "verdicts")?;
     let command = with_options(command, alloc, "close-time", "workers", "report")?;
     with_option(command, alloc, "ledger-out")
+}
+
+#[tactic(auto, unfolding(crate::specs::Commands::record_app))]
+fn record_command<'a>(alloc: Global) -> Result<Command<'a>, AllocError>
+    ensures app { IfOk result (λ c. app_of c ≡ record_app) }
+    ensures local { IfOk result (λ c. (fields_of c).has_globals ≡ false) }
+{
+    let command = Command::new(alloc, "record");
+    let command = with_options(command, alloc, "tx", "ledger", "close-time")?;
+    with_options(command, alloc, "nonce", "expiration", "out")
 }
 
 fn with_command<'a>(

@@ -10,7 +10,7 @@ mod words;
 
 pub use error::WordsErr;
 pub use request::{
-    ApplyListRequest, ApplyRequest, BuildRequest, GenRequest, MigrateRequest, PlayRequest, Request,
-    ScheduleOptions, ShowKind, ShowRequest, SimulateRequest, VetRequest,
+    ApplyListRequest, ApplyRequest, BuildRequest, GenRequest, MigrateRequest, PlayRequest,
+    RecordRequest, Request, ScheduleOptions, ShowKind, ShowRequest, SimulateRequest, VetRequest,
 };
 pub use words::request_of;

@@ -8,12 +8,13 @@ ghost use Rattle.command_words.specs.Answers.{ReadsWords};
 ghost use Rattle.command_words.specs.Values.{back_in, is_set, kind_in, number_in};
 ghost use Rattle.command_words.specs.Words.{IsInRange, apply_from, apply_list_from, asked_from, build_from, gen_from, log_from};
 ghost use Rattle.command_words.specs.Words.{migrate_from, more_of as more_of_in, schedule_from};
-ghost use Rattle.command_words.specs.Words.{play_from, show_from, simulate_from, vet_from};
+ghost use Rattle.command_words.specs.Words.{play_from, record_from, show_from, simulate_from, vet_from};
 
 use crate::values::{are_names, are_names_with, kind_in, number_in};
 use crate::{
-    ApplyListRequest, ApplyRequest, BuildRequest, GenRequest, MigrateRequest, PlayRequest, Request,
-    ScheduleOptions, ShowKind, ShowRequest, SimulateRequest, VetRequest, WordsErr,
+    ApplyListRequest, ApplyRequest, BuildRequest, GenRequest, MigrateRequest, PlayRequest,
+    RecordRequest, Request, ScheduleOptions, ShowKind, ShowRequest, SimulateRequest, VetRequest,
+    WordsErr,
 };
 use clap::ArgMatches;
 use edge_io::Word;
@@ -23,6 +24,9 @@ const MAX_WORKERS: u64 = 64;
 
 /// The largest number of transactions that `gen` makes.
 const MAX_COUNT: u64 = 100_000;
+
+/// The largest nonce that `record` begins with: 2^62.
+const MAX_NONCE: u64 = 4_611_686_018_427_387_904;
 
 /// The largest number of clusters of a stage of a built set.
 const MAX_CLUSTERS: u64 = 1024;
@@ -45,6 +49,7 @@ pub fn request_from(alloc: Global, matches: &ArgMatches<'_>) -> Result<Request, 
         "build" => build_request(alloc, found),
         "play" => play_request(alloc, found),
         "apply-list" => apply_list_request(alloc, found),
+        "record" => record_request(alloc, found),
         _ => Err(WordsErr::Usage),
     }
 }
@@ -284,6 +289,29 @@ fn apply_list_request(alloc: Global, found: &ArgMatches<'_>) -> Result<Request, 
         workers,
         report,
         ledger_out,
+    }))
+}
+
+fn record_request(alloc: Global, found: &ArgMatches<'_>) -> Result<Request, WordsErr>
+    ensures request { ReadsWords result (record_from (rows_of (found_of found.now))) }
+    ensures range { IfOk result IsInRange }
+{
+    let tx = value_of(alloc, found, "tx")?;
+    let ledger = value_of(alloc, found, "ledger")?;
+    let close_time = number_of(found, "close-time", 0, u64::MAX)?;
+    let nonce = number_of(found, "nonce", 0, MAX_NONCE)?;
+    let expiration = number_of(found, "expiration", 0, 4_294_967_295)?;
+    let out = value_of(alloc, found, "out")?;
+    if !are_names(&[&tx, &ledger, &out]) {
+        return Err(WordsErr::Usage);
+    }
+    Ok(Request::Record(RecordRequest {
+        tx,
+        ledger,
+        close_time,
+        nonce,
+        expiration,
+        out,
     }))
 }
 

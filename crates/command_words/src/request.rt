@@ -142,6 +142,23 @@ pub struct ApplyListRequest {
     pub ledger_out: Word,
 }
 
+/// The options of `record`.
+#[derive(Debug, Drop)]
+pub struct RecordRequest {
+    /// The file of the transaction's envelope.
+    pub tx: Word,
+    /// The file of the ledger before the transaction.
+    pub ledger: Word,
+    /// The close time of the ledger that is made, in seconds since 1970.
+    pub close_time: u64,
+    /// The nonce of the first entry that is not the source account's, from 0 to 2^62.
+    pub nonce: u64,
+    /// The last ledger in which signatures of the entries are valid.
+    pub expiration: u64,
+    /// The file that gets the entries.
+    pub out: Word,
+}
+
 /// A command, with its options.
 #[derive(Debug, Drop)]
 pub enum Request {
@@ -154,4 +171,5 @@ pub enum Request {
     Build(BuildRequest),
     Play(PlayRequest),
     ApplyList(ApplyListRequest),
+    Record(RecordRequest),
 }

@@ -28,8 +28,10 @@ use Rattle.xdr_spec.specs.Format.{IsBytes}
 use Rattle.xdr_spec.specs.Refusal.{Refuses}
 use Rattle.xdr_spec.specs.declared.Why.{Why}
 use Rattle.xdr_spec.proofs.Lemmas.{spells_decoded}
+use Rattle.soroban_top.specs.EntriesRecorded.{entries_stored, recorded_for}
 use Rattle.soroban_top.specs.FirstConflict.{free_of_conflict, stages_in}
 use Rattle.soroban_top.specs.Judged.{as_ledger, envelope_in, ledger_at, ledger_in, set_at, set_in, verdicts_at, verdicts_in}
+use Rattle.soroban_top.specs.Laws.{RecordLedgerLaw, RecordNoLedgerLaw}
 use Rattle.soroban_top.specs.Laws.{AppliedLaw, CanRun, found, IsFree, IsScheduled, IsSpelledIn, LedgerDoneLaw, LedgerLaw, LedgerShownLaw, MigrateDoneLaw, MigrateLaw, MigrateRefusedLaw, NoLedgerLaw, SimulateEnforcedLaw, SimulateLaw, SimulateLedgerLaw, SimulateNoLedgerLaw, StoppedLaw, WholeLaw}
 use Rattle.soroban_top.specs.LogStored.{log_bytes}
 use Rattle.soroban_top.specs.Migrated.{migrated}
@@ -75,6 +77,12 @@ simulate_ledger s m bytes given at =
     rw given.has_ledger (ledger_due true bytes _ at given.are_bytes (λ l. verdicts_file _ later (λ place h. cc) (get m s.verdicts) s.verdicts _
     (λ v. envelope_file _ later (get m s.tx) s.base64 s.tx (λ e. simulated (file 3 s.out) (simulation_of l v e s.close_time)))))
 
+pub record_ledger : RecordLedgerLaw
+unfolding ledger_in
+record_ledger r m bytes given at =
+    rw given.has_ledger (ledger_due true bytes _ at given.are_bytes
+    (λ l. envelope_file _ (never_ledger ledger_why.Xdr at) (get m r.tx) false r.tx (λ e. entries_stored (file 2 r.out) (recorded_for r l e))))
+
 is_ledger_status : {B : Type 0} (r : Result (Header × LedgerMap) LedgerRefusal) (rest : Header × LedgerMap → Result B Status) → ((l : Header × LedgerMap) → r ≡ Ok l → ⊥) → (why : LedgerWhy) × (at : ℕ) × (status_of (as_ledger r >>= rest) ≡ status.Ledger why at)
 is_ledger_status (Ok l) rest none = absurd (none l refl)
 is_ledger_status (Err e) rest none = (e.why, e.at, refl)
@@ -102,6 +110,12 @@ unfolding ledger_in
 simulate_no_ledger s m bytes given =
     rw given.has_ledger (no_ledger bytes _ given.are_bytes (λ reason at l. verdicts_file _ (never_ledger reason at) (λ place h. cc) (get m s.verdicts) s.verdicts _
     (λ v. envelope_file _ (never_ledger reason at) (get m s.tx) s.base64 s.tx (λ e. simulated (file 3 s.out) (simulation_of l v e s.close_time)))))
+
+pub record_no_ledger : RecordNoLedgerLaw
+unfolding ledger_in
+record_no_ledger r m bytes given =
+    rw given.has_ledger (no_ledger bytes _ given.are_bytes
+    (λ reason at l. envelope_file _ (never_ledger reason at) (get m r.tx) false r.tx (λ e. entries_stored (file 2 r.out) (recorded_for r l e))))
 
 pub applied_law : AppliedLaw
 unfolding ledger_in verdicts_in set_in free_of_conflict outputs_of log_bytes

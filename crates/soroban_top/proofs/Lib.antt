@@ -2,6 +2,7 @@ mod BySchedule
 mod Causes
 mod Decoding
 mod Due
+mod EntriesFound
 mod FirstConflicts
 mod Generated
 mod Later

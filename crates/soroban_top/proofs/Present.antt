@@ -5,7 +5,8 @@ use Rattle.std.specs.FinMap.{get}
 use Rattle.base64_text.specs.Text.{bytes_in}
 use Rattle.command_words.specs.declared.request.Request.{Request}
 use Rattle.command_words.specs.declared.request.ScheduleOptions.{ScheduleOptions}
-use Rattle.command_words.specs.declared.request.Request.TheVariants.{Apply, Simulate, Show, Vet, Migrate, Gen, Build, Play, ApplyList}
+use Rattle.command_words.specs.declared.request.Request.TheVariants.{Apply, ApplyList, Build, Gen, Migrate, Play, Record, Show}
+use Rattle.command_words.specs.declared.request.Request.TheVariants.{Simulate, Vet}
 use Rattle.command_words.specs.declared.request.ShowKind.{ShowKind}
 use Rattle.command_words.specs.declared.request.ShowKind.TheVariants as kinds
 use Rattle.edge_io.specs.Contents.{Contents, FileMap}
@@ -210,6 +211,9 @@ no_fault (Some (Play p)) m there =
     both (played_ledger_at m p.back p.ledger) _ (played_ledger_judged m p.back p.ledger there.0)
     (λ ledger. both (log_at m p.log) _ (judged m p.log log_in there.1.0 log_judged)
     (λ log. replayed_judged (file 2 p.ledger_out) p.back log ledger))
+no_fault (Some (Record r)) m there =
+    both (ledger_at m r.ledger) _ (judged m r.ledger ledger_in there.0 ledger_judged)
+    (λ ledger. both (envelope_at m false r.tx) _ (judged m r.tx (envelope_opened false r.tx) there.1.0 (envelope_opened_judged false r.tx)) (λ envelope. tt))
 no_fault (Some (Build b)) m there = both (list_at m b.list) _ (judged m b.list list_in there.0 list_judged) (λ list. tt)
 no_fault (Some (ApplyList a)) m there =
     both (ledger_at m a.ledger) _ (judged m a.ledger ledger_in there.0 ledger_judged)

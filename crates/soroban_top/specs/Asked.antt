@@ -3,7 +3,7 @@ use Rattle.std.specs.Prelude.{ℕ, List, [], ◌∷◌, ◌++◌, Option, Some, 
 use Rattle.soroban_top.specs.Product.{File, file}
 use Rattle.command_words.specs.declared.request.Request.{Request}
 use Rattle.command_words.specs.declared.request.ScheduleOptions.{ScheduleOptions}
-use Rattle.command_words.specs.declared.request.Request.TheVariants.{Apply, ApplyList, Build, Gen, Migrate, Play, Show}
+use Rattle.command_words.specs.declared.request.Request.TheVariants.{Apply, ApplyList, Build, Gen, Migrate, Play, Record, Show}
 use Rattle.command_words.specs.declared.request.Request.TheVariants.{Simulate, Vet}
 
 -- the file of a schedule, if one is given
@@ -22,6 +22,7 @@ reads_of (Gen g) = []
 reads_of (Build b) = file 0 b.list ∷ []
 reads_of (Play p) = file 1 p.ledger ∷ file 0 p.log ∷ []
 reads_of (ApplyList a) = file 1 a.ledger ∷ file 2 a.verdicts ∷ file 0 a.list ∷ []
+reads_of (Record r) = file 1 r.ledger ∷ file 0 r.tx ∷ []
 
 -- A run in the order of a schedule keeps no change log. The words of a command do not ask for both.
 abbrev pub log_asked : {A : Type 0} → Option A → Option (List ℕ) → Option (List ℕ)
@@ -44,6 +45,7 @@ writes_of (Gen g) = file 0 g.set ∷ file 1 g.ledger ∷ file 2 g.verdicts ∷ [
 writes_of (Build b) = file 1 b.set ∷ []
 writes_of (Play p) = file 2 p.ledger_out ∷ []
 writes_of (ApplyList a) = file 3 a.report ∷ file 4 a.ledger_out ∷ []
+writes_of (Record r) = file 2 r.out ∷ []
 
 -- the files that the words name and the command reads
 abbrev pub reads_named : Option Request → List File

@@ -7,6 +7,7 @@ use Rattle.apply_spec.specs.Outputs.{outputs, outputs_after}
 use Rattle.apply_spec.specs.Runs.{new_header, running_header}
 use Rattle.apply_spec.specs.Simulated.{Simulated, simulated}
 use Rattle.apply_spec.specs.SimulationFile.{simulation_bytes, simulation_lines}
+use Rattle.record_spec.specs.Recorded.{recorded}
 use Rattle.command_words.specs.declared.request.ApplyRequest.{ApplyRequest}
 use Rattle.change_log.specs.Log.{log_format}
 use Rattle.change_log.specs.Play.{played}
@@ -17,6 +18,8 @@ use Rattle.command_words.specs.declared.request.GenRequest.{GenRequest}
 use Rattle.command_words.specs.declared.request.MigrateRequest.{MigrateRequest}
 use Rattle.command_words.specs.declared.request.PlayRequest.{PlayRequest}
 use Rattle.command_words.specs.declared.request.Request.TheVariants.{Apply, Simulate, Show, Vet, Migrate, Gen, Build, Play}
+use Rattle.command_words.specs.declared.request.RecordRequest.{RecordRequest}
+use Rattle.command_words.specs.declared.request.Request.TheVariants.{Record}
 use Rattle.command_words.specs.Values.{all_steps}
 use Rattle.command_words.specs.declared.request.ScheduleOptions.{ScheduleOptions}
 use Rattle.command_words.specs.declared.request.ShowKind.{ShowKind}
@@ -49,7 +52,7 @@ use Rattle.stage_runs.specs.Maps.{AgreeOn}
 use Rattle.stage_runs.specs.Runs.{HasNoConflict}
 use Rattle.stage_runs.specs.Transactions.{declares}
 use Rattle.tx_xdr.specs.Set.{set_format}
-use Rattle.tx_xdr.specs.Envelope.{envelope_format}
+use Rattle.tx_xdr.specs.Envelope.{envelope_format, transaction_in}
 use Rattle.tx_xdr.specs.Stages.{stages_of}
 use Rattle.tx_xdr.specs.declared.envelope.Envelope.{Envelope}
 use Rattle.tx_xdr.specs.declared.set.TxSet.{TxSet}
@@ -57,6 +60,7 @@ use Rattle.value_types.specs.Formats.{scval_format}
 use Rattle.xdr_spec.specs.Format.{Format, IsBytes}
 use Rattle.xdr_spec.specs.Refusal.{Spells, Refuses}
 use Rattle.xdr_spec.specs.declared.Why.{Why}
+use Rattle.soroban_top.specs.EntriesRecorded.{entries_stored, terms_of}
 use Rattle.soroban_top.specs.FirstConflict.{stages_in}
 use Rattle.soroban_top.specs.Generating.{job, made_line}
 use Rattle.soroban_top.specs.Judged.{content_of, ledger_at, opened}
@@ -471,3 +475,41 @@ PlayBackLaw =
     → IsFileOf true bytes header entries → content_of m p.ledger ≡ Ok (ledger_bytes new.0 new.1)
     → outcome_of (Play p) m
     ≡ Ok (stored_and_said (file 2 p.ledger_out) (ledger_bytes header entries) (played_line (length log.stages)))
+
+-- ---- record
+
+-- the ledger's file has this ledger, and the transaction's file has these bytes
+pub record HasRecorded (r : RecordRequest) (m : FileMap) (ledger : Header × LedgerMap) (bytes : List ℕ) : Type 0 where
+  pub has_ledger : ledger_at m r.ledger ≡ Ok ledger
+  pub has_tx : content_of m r.tx ≡ Ok bytes
+  pub are_bytes : IsBytes bytes
+
+-- Ledger with reason Xdr is due exactly if the bytes are refused, at that offset, whatever else is wrong.
+abbrev pub RecordLedgerLaw : Type 0
+RecordLedgerLaw = (r : RecordRequest) (m : FileMap) (bytes : List ℕ) → HasLedgerFile r.ledger m bytes → (at : ℕ)
+    → (due (Some (Record r)) m ≡ status.Ledger ledger_why.Xdr at) ↔ ((why : Why) × Refuses file_format bytes at why)
+
+-- Ledger is due, with any reason, exactly if the bytes are not the file of a ledger that another ledger may follow.
+abbrev pub RecordNoLedgerLaw : Type 0
+RecordNoLedgerLaw = (r : RecordRequest) (m : FileMap) (bytes : List ℕ) → HasLedgerFile r.ledger m bytes
+    → ((why : LedgerWhy) × (at : ℕ) × (due (Some (Record r)) m ≡ status.Ledger why at))
+    ↔ (¬ ((header : Header) × (entries : LedgerMap) × IsFileOf true bytes header entries))
+
+-- Malformed is due exactly if the bytes are refused, at that offset.
+abbrev pub RecordMalformedLaw : Type 0
+RecordMalformedLaw = (r : RecordRequest) (m : FileMap) (ledger : Header × LedgerMap) (bytes : List ℕ)
+    → HasRecorded r m ledger bytes → (at : ℕ) (why : Why)
+    → (due (Some (Record r)) m ≡ status.Malformed at why) ↔ Refuses envelope_format bytes at why
+
+-- Done is due exactly if they spell an envelope, whatever its transaction does.
+abbrev pub RecordDoneLaw : Type 0
+RecordDoneLaw = (r : RecordRequest) (m : FileMap) (ledger : Header × LedgerMap) (bytes : List ℕ) → HasRecorded r m ledger bytes
+    → (due (Some (Record r)) m ≡ status.Done) ↔ ((envelope : Envelope) × Spells envelope_format envelope bytes)
+
+-- The entries that are recorded of its transaction are stored, and their number, and whether a demand was caught, are printed.
+abbrev pub RecordLaw : Type 0
+RecordLaw = (r : RecordRequest) (m : FileMap) (ledger : Header × LedgerMap) (bytes : List ℕ) (envelope : Envelope)
+    → HasRecorded r m ledger bytes → Spells envelope_format envelope bytes
+    → outcome_of (Record r) m
+    ≡ Ok (entries_stored (file 2 r.out)
+    (recorded (running_header ledger.0 r.close_time) (terms_of r) ledger.1 (transaction_in envelope)))

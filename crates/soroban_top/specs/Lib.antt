@@ -2,6 +2,7 @@ pub mod Asked
 pub mod ConflictLaws
 pub mod Counts
 pub mod Ends
+pub mod EntriesRecorded
 pub mod FirstConflict
 pub mod Generating
 pub mod Judged

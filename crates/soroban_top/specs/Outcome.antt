@@ -1,11 +1,11 @@
 -- The outcome of a command, if the content of its files is known (own).
-use Rattle.std.specs.Prelude.{◌≡◌, ℕ, List, [], ◌∷◌, Option, Some, None, Result, Ok, Err, ⊤}
+use Rattle.std.specs.Prelude.{◌≡◌, ℕ, false, List, [], ◌∷◌, Option, Some, None, Result, Ok, Err, ⊤}
 use Rattle.apply_spec.specs.Outputs.{Outputs}
 use Rattle.apply_spec.specs.Runs.{running_header}
 use Rattle.apply_spec.specs.SimulationFile.{SimulationOutputs, simulation_outputs}
 use Rattle.command_words.specs.declared.request.ApplyRequest.{ApplyRequest}
 use Rattle.command_words.specs.declared.request.Request.{Request}
-use Rattle.command_words.specs.declared.request.Request.TheVariants.{Apply, ApplyList, Build, Gen, Migrate, Play, Show}
+use Rattle.command_words.specs.declared.request.Request.TheVariants.{Apply, ApplyList, Build, Gen, Migrate, Play, Record, Show}
 use Rattle.command_words.specs.declared.request.Request.TheVariants.{Simulate, Vet}
 use Rattle.edge_io.specs.Contents.{FileMap}
 use Rattle.ledger_spec.specs.LedgerMap.{LedgerMap}
@@ -14,6 +14,7 @@ use Rattle.ledger_types.specs.declared.verdicts.Verdicts.{Verdicts}
 use Rattle.tx_xdr.specs.declared.envelope.Envelope.{Envelope}
 use Rattle.tx_xdr.specs.declared.set.TxSet.{TxSet}
 use Rattle.soroban_top.specs.Asked.{log_asked}
+use Rattle.soroban_top.specs.EntriesRecorded.{entries_stored, recorded_for}
 use Rattle.soroban_top.specs.Generating.{generated}
 use Rattle.soroban_top.specs.Judged.{ledger_at, verdicts_at, set_at, envelope_at}
 use Rattle.soroban_top.specs.ListApplied.{outputs_of_list}
@@ -94,6 +95,10 @@ outcome_of (ApplyList a) m = do
   verdicts ← verdicts_at m a.verdicts
   list ← list_at m a.list
   Ok (applied (file 3 a.report) (file 4 a.ledger_out) (outputs_of_list ledger verdicts list a.close_time))
+outcome_of (Record r) m = do
+  ledger ← ledger_at m r.ledger
+  envelope ← envelope_at m false r.tx
+  Ok (entries_stored (file 2 r.out) (recorded_for r ledger envelope))
 
 -- the outcome of the words
 abbrev pub outcome_if : Option Request → FileMap → Result Made Status

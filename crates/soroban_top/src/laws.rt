@@ -8,6 +8,7 @@ ghost use Rattle.soroban_top.specs.Laws.{BuildDoneLaw, BuildLaw, BuildMalformedL
 ghost use Rattle.soroban_top.specs.Laws.{GenLaw, IncompleteLaw, LedgerDoneLaw, LedgerLaw, LedgerShownLaw, MalformedLaw};
 ghost use Rattle.soroban_top.specs.Laws.{MigrateDoneLaw, MigrateLaw, MigrateRefusedLaw, NoLedgerLaw, ScheduleLaw, SetDoneLaw};
 ghost use Rattle.soroban_top.specs.Laws.{PlayBackLaw, PlayDoneLaw, PlayLaw, PlayMalformedLaw, PlayThereLaw, PlayUnfitLaw};
+ghost use Rattle.soroban_top.specs.Laws.{RecordDoneLaw, RecordLaw, RecordLedgerLaw, RecordMalformedLaw, RecordNoLedgerLaw};
 ghost use Rattle.soroban_top.specs.Laws.{SetMalformedLaw, SimulateDoneLaw, SimulateEnforcedLaw, SimulateLaw, SimulateLedgerLaw};
 ghost use Rattle.soroban_top.specs.Laws.{SimulateMalformedLaw, SimulateNoLedgerLaw, SimulateVerdictsLaw, StoppedLaw};
 ghost use Rattle.soroban_top.specs.Laws.{ValueDoneLaw, ValueMalformedLaw, VerdictsLaw, VetLaw, WholeLaw};
@@ -127,4 +128,15 @@ pub fn apply_list_laws()
     ensures malformed { ListMalformedLaw }
     ensures done { ListDoneLaw }
     ensures stored { ListAppliedLaw }
+{}
+
+/// `record`: Ledger is due as for `apply`. If the ledger's file is accepted, Malformed is due exactly if the envelope's bytes are
+/// refused, and Done exactly if they spell an envelope. Then the entries that are recorded of its transaction are stored, and the
+/// lines have their number and whether a demand was caught.
+pub fn record_laws()
+    ensures ledger { RecordLedgerLaw }
+    ensures no_ledger { RecordNoLedgerLaw }
+    ensures malformed { RecordMalformedLaw }
+    ensures done { RecordDoneLaw }
+    ensures stored { RecordLaw }
 {}

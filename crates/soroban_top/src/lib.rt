@@ -28,6 +28,7 @@ mod migrate;
 mod opened;
 mod outputs;
 mod product;
+mod recording;
 mod replaying;
 mod request;
 mod scheduled;

@@ -14,6 +14,7 @@ use crate::building::build;
 use crate::generating::generate;
 use crate::listing::apply_list;
 use crate::migrate::migrate;
+use crate::recording::record;
 use crate::replaying::play;
 use crate::show::show;
 use crate::simulate::simulate;
@@ -66,5 +67,6 @@ pub fn produce<'a, R: Threads + Sync, F: Files, G: Gate + Sync>(
         Request::Build(options) => build(alloc, files, options),
         Request::Play(options) => play(alloc, files, options),
         Request::ApplyList(options) => apply_list(rt, alloc, files, options, gate),
+        Request::Record(options) => record(alloc, files, options),
     }
 }

@@ -37,7 +37,7 @@ pub struct Simulation {
 }
 
 /// The header that transactions run on: that of the ledger before, with the close time of the one that is made.
-fn running_header(header: &Header, close_time: u64) -> Header
+pub fn running_header(header: &Header, close_time: u64) -> Header
     ensures { result ≡ running_header_in header.now close_time }
 {
     Header {

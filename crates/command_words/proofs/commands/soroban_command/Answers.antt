@@ -18,4 +18,5 @@ returns c =
     let gens = c.in_ok-command-6.ensures ∙ ap₂ with migrates c.in_ok-gen_command.ensures.app in
     let builds = c.in_ok-command-7.ensures ∙ ap₂ with gens c.in_ok-build_command.ensures.app in
     let plays = c.in_ok-command-8.ensures ∙ ap₂ with builds c.in_ok-play_command.ensures.app in
-    c.in_ok-command-9.ensures ∙ ap₂ with plays c.in_ok-apply_list_command.ensures.app
+    let lists = c.in_ok-command-9.ensures ∙ ap₂ with plays c.in_ok-apply_list_command.ensures.app in
+    c.in_ok-command-10.ensures ∙ ap₂ with lists c.in_ok-record_command.ensures.app

@@ -35,3 +35,7 @@ returns-in-Play-clause-plays g c =
 pub returns-in-ApplyList-clause-plays : goal.returns-in-ApplyList-clause-plays
 returns-in-ApplyList-clause-plays g c =
     no_log c.args.request.now c.apply_list.result _ (λ m. subst (λ (r : Request). LogPlaysIf (Some r) m) (sym c.in-ApplyList.is) tt)
+
+pub returns-in-Record-clause-plays : goal.returns-in-Record-clause-plays
+returns-in-Record-clause-plays g c =
+    no_log c.args.request.now c.record.result _ (λ m. subst (λ (r : Request). LogPlaysIf (Some r) m) (sym c.in-Record.is) tt)
