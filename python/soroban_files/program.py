@@ -1,4 +1,4 @@
-"""Runs the built program: simulate, apply and vet over files in a folder of their own."""
+"""Runs the built program over files in a folder of their own."""
 from __future__ import annotations
 
 import os
@@ -51,6 +51,13 @@ class Simulated(NamedTuple):
     memory: int
 
 
+class Recorded(NamedTuple):
+    """What `record` found: the authorisation entries, and whether a demand came in a call whose failure was caught."""
+
+    entries: List[Json]
+    caught: bool
+
+
 class Applied(NamedTuple):
     """What `apply` made: the report as JSON, its file, the file of the next ledger, and the change log if it was asked for."""
 
@@ -58,6 +65,15 @@ class Applied(NamedTuple):
     report_file: bytes
     ledger_file: bytes
     log_file: Optional[bytes] = None
+
+
+class Listed(NamedTuple):
+    """What `apply-list` made: the report as JSON, its file, the file of the next ledger, and how many runs were kept."""
+
+    report: Json
+    report_file: bytes
+    ledger_file: bytes
+    kept: int
 
 
 def path_of(path: Optional[str] = None) -> str:
@@ -93,17 +109,27 @@ class Program:
                     left[name] = file.read()
         return Ran(done.returncode, done.stdout.decode("utf-8", "replace"), left)
 
-    def simulate(self, envelope: bytes, ledger: bytes, verdicts: bytes, close_time: int) -> Simulated:
-        """Simulates an envelope on a ledger. Raises `Refused` if the program refuses a file."""
-        words = ["simulate", "--tx", "tx", "--ledger", "ledger", "--verdicts", "verdicts"]
-        words += ["--close-time", str(close_time), "--out", "out"]
-        ran = self.run(words, {"tx": envelope, "ledger": ledger, "verdicts": verdicts})
+    def done(self, words: List[str], files: Dict[str, bytes]) -> Ran:
+        """Runs the program, which finds its files by the names of their options. Raises `Refused` unless the command is done."""
+        ran = self.run([*words, *(word for name in files for word in (f"--{name}", name))], files)
         if ran.code:
             raise Refused(ran.code, ran.said)
+        return ran
+
+    def simulate(self, envelope: bytes, ledger: bytes, verdicts: bytes, close_time: int) -> Simulated:
+        """Simulates an envelope on a ledger. Raises `Refused` if the program refuses a file."""
+        words = ["simulate", "--close-time", str(close_time), "--out", "out"]
+        ran = self.done(words, {"tx": envelope, "ledger": ledger, "verdicts": verdicts})
         found = schema.read(schema.SIMULATION, ran.files["out"])
         used = re.search(r"used (\d+) instructions, (\d+) memory", ran.said)
         instructions, memory = (int(number) for number in used.groups()) if used else (0, 0)
         return Simulated(found["soroban_data"], found["result"], found["success"], instructions, memory)
+
+    def record(self, envelope: bytes, ledger: bytes, close_time: int, nonce: int, until: int) -> Recorded:
+        """Finds the authorisation entries that a transaction needs. Raises `Refused` if the program refuses a file."""
+        words = ["record", "--close-time", str(close_time), "--nonce", str(nonce), "--expiration", str(until), "--out", "out"]
+        ran = self.done(words, {"tx": envelope, "ledger": ledger})
+        return Recorded(schema.read(schema.ENTRIES, ran.files["out"]), "caught 1" in ran.said)
 
     def apply(
         self,
@@ -118,24 +144,28 @@ class Program:
 
         Raises `Refused` if the program refuses a file, or finds a conflict.
         """
-        words = [
-            "apply",
-            "--set",
-            "set",
-            "--ledger",
-            "ledger",
-            "--verdicts",
-            "verdicts",
-            "--close-time",
-            str(close_time),
-        ]
-        words += ["--workers", str(workers), "--report", "report", "--ledger-out", "next"]
-        words += ["--log", "log"] * is_logged
-        ran = self.run(words, {"set": tx_set, "ledger": ledger, "verdicts": verdicts})
-        if ran.code:
-            raise Refused(ran.code, ran.said)
+        words = ["apply", "--close-time", str(close_time), "--workers", str(workers), "--report", "report", "--ledger-out", "next"]
+        ran = self.done(words + ["--log", "log"] * is_logged, {"set": tx_set, "ledger": ledger, "verdicts": verdicts})
         report, next_ledger = ran.files["report"], ran.files["next"]
         return Applied(schema.read(schema.REPORT, report), report, next_ledger, ran.files.get("log"))
+
+    def apply_list(self, listed: bytes, ledger: bytes, verdicts: bytes, close_time: int, workers: int = 1) -> Listed:
+        """Applies a list of envelopes, each with the footprint that its run needs. Raises `Refused` if a file is refused."""
+        words = ["apply-list", "--close-time", str(close_time), "--workers", str(workers)]
+        words += ["--report", "report", "--ledger-out", "next"]
+        ran = self.done(words, {"list": listed, "ledger": ledger, "verdicts": verdicts})
+        kept = re.search(r"^kept (\d+) of", ran.said, re.M)
+        report = ran.files["report"]
+        return Listed(schema.read(schema.REPORT, report), report, ran.files["next"], int(kept[1]) if kept else 0)
+
+    def build(self, listed: bytes, clusters: int = 64) -> bytes:
+        """Returns the file of the set that is built of a list of envelopes, with at most so many clusters a stage."""
+        return self.done(["build", "--clusters", str(clusters), "--set", "set"], {"list": listed}).files["set"]
+
+    def play(self, log: bytes, ledger: bytes, back: bool = False) -> bytes:
+        """Returns the file of the ledger to which a change log leads. Raises `Refused` if the log does not fit."""
+        words = ["play", "--back", "1" if back else "0", "--ledger-out", "next"]
+        return self.done(words, {"log": log, "ledger": ledger}).files["next"]
 
     def vet(self, module: bytes) -> str:
         """Returns the line that `vet` says of a module."""

@@ -460,6 +460,7 @@ class Report(Type):
 
 REPORT = Report()
 SIMULATION = Struct("simulation", soroban_data=SOROBAN_DATA, result=RESULT, success=Optional_(SUCCESS))
+ENTRIES = Listed("recorded entries", AUTH)
 
 # ---- What a file or a part of one can be
 
@@ -470,6 +471,7 @@ FILES: Dict[str, Type] = {
     "verdicts": VERDICTS,
     "report": REPORT,
     "simulation": SIMULATION,
+    "entries": ENTRIES,
     "schedule": SCHEDULE,
     "list": LIST,
     "log": LOG,

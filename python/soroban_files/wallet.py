@@ -146,7 +146,10 @@ def sign_entries(envelope: Json, network: str, *keys: Key) -> Json:
 
 
 def with_entries(envelope: Json, entries: Sequence[Json]) -> Json:
-    """Returns an envelope with other authorisation entries, in the order of `envelopes.auth_entries`."""
+    """Returns an envelope with these entries in place of its own, each operation with as many as it has.
+
+    Those that are left go to the last operation that takes entries. If one changes, the signatures of the envelope go.
+    """
     if list(entries) == envelopes.auth_entries(envelope):
         return envelope
     if "tx_fee_bump" in envelope:
@@ -154,14 +157,14 @@ def with_entries(envelope: Json, entries: Sequence[Json]) -> Json:
         return {
             "tx_fee_bump": {"tx": {**outer, "inner_tx": with_entries(outer["inner_tx"], entries)}, "signatures": []}
         }
-    left, operations = list(entries), []
-    for operation in envelope["tx"]["tx"]["operations"]:
-        body = operation["body"].get("invoke_host_function")
-        if body:
-            count = len(body["auth"])
-            operation = {**operation, "body": {"invoke_host_function": {**body, "auth": left[:count]}}}
-            left = left[count:]
-        operations.append(operation)
+    operations = list(envelope["tx"]["tx"]["operations"])
+    taking = [place for place, operation in enumerate(operations) if "invoke_host_function" in operation["body"]]
+    left = list(entries)
+    for place in taking:
+        body = operations[place]["body"]["invoke_host_function"]
+        count = len(left) if place == taking[-1] else len(body["auth"])
+        auth, left = left[:count], left[count:]
+        operations[place] = {**operations[place], "body": {"invoke_host_function": {**body, "auth": auth}}}
     return {"tx": {"tx": {**envelope["tx"]["tx"], "operations": operations}, "signatures": []}}
 
 

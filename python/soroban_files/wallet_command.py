@@ -5,6 +5,7 @@ import argparse
 import os
 import re
 import secrets
+import sys
 from typing import Any, List, Optional
 
 from . import envelopes, hashes, ledgers, results, schema, strkey, values, wallet
@@ -61,6 +62,11 @@ def ledger_key_of(word: str) -> Json:
         return envelopes.code_key(word)
     strkey.decode(word, "C")
     return envelopes.instance_key(word)
+
+
+def close_time_of(words: argparse.Namespace, ledger: Json) -> int:
+    """Returns the close time of the ledger that a transaction is for: that of the words, or 5 seconds after the last one's."""
+    return int(ledgers.body(ledger)["close_time"]) + 5 if words.close_time is None else int(words.close_time)
 
 
 def entries_of(words: argparse.Namespace, root: Json) -> List[Json]:
@@ -155,12 +161,31 @@ def do_fill(words: argparse.Namespace) -> int:
     command = command_module()
     ledger, envelope = command.decoded("ledger", words.ledger), envelope_in(words)
     verdicts = command.decoded("verdicts", words.verdicts) if words.verdicts else []
-    time = int(ledgers.body(ledger)["close_time"]) + 5 if words.close_time is None else words.close_time
+    time = close_time_of(words, ledger)
     filled, simulated = wallet.filled(Program(words.program), envelope, ledger, verdicts, time, words.margin)
     outcome = results.word(simulated.result)
     if outcome != "success":
         raise ValueError(f"the simulation ends with {outcome}; nothing is written")
     command.write_envelope(words.out, filled)
+    return 0
+
+
+def do_record(words: argparse.Namespace) -> int:
+    command = command_module()
+    ledger, envelope = command.decoded("ledger", words.ledger), envelope_in(words)
+    nonce = secrets.randbits(62) if words.nonce is None else words.nonce
+    files = (envelopes.xdr(envelope), schema.write(schema.LEDGER, ledger))
+    recorded = Program(words.program).record(*files, close_time_of(words, ledger), nonce, words.until)
+    if recorded.caught:
+        print("a demand came in a call whose failure was caught: it may fail in another way with entries", file=sys.stderr)
+    command.write_envelope(words.out, wallet.with_entries(envelope, recorded.entries))
+    return 0
+
+
+def do_list(words: argparse.Namespace) -> int:
+    command = command_module()
+    listed = [command.decoded("envelope", name, words.base64) for name in words.envelopes]
+    command.write_file(words.out, schema.write(schema.LIST, listed))
     return 0
 
 
@@ -243,15 +268,14 @@ def add(parser: argparse.ArgumentParser) -> None:
     add_envelope(bump)
     bump.add_argument("--source", required=True, metavar="ADDRESS", help="who pays")
     bump.add_argument("--fee", type=int, default=200, help="by default 200")
+    record = command("record", do_record, "find the authorisation entries that an envelope needs, and put them in")
+    add_run(record)
+    record.add_argument("--until", type=int, required=True, metavar="LEDGER", help="the last ledger of the signatures")
+    record.add_argument("--nonce", type=int, metavar="NUMBER", help="of the first entry of an address; by default random")
     fill = command("fill", do_fill, "simulate an envelope, and put in its footprint and limits")
-    add_envelope(fill)
-    fill.add_argument("--ledger", required=True, metavar="FILE", help="the ledger before the transaction")
+    add_run(fill)
     fill.add_argument("--verdicts", metavar="FILE", help="by default no verdicts")
-    fill.add_argument("--close-time", type=int, metavar="SECONDS", help="by default 5 after the ledger's")
     fill.add_argument("--margin", type=int, default=20, metavar="PERCENT", help="added to each limit; by default 20")
-    fill.add_argument(
-        "--program", metavar="FILE", help="the built program; by default SOROBAN_CMD, or that of the repository"
-    )
     for name, do, help_ in (
         ("sign", do_sign, "sign an envelope; of a fee bump the outer one"),
         ("sign-entries", do_sign_entries, "sign the authorisation entries of the keys' accounts"),
@@ -261,6 +285,10 @@ def add(parser: argparse.ArgumentParser) -> None:
         sign.add_argument("--key", action="append", required=True, metavar="KEY", help=KEY_HELP)
         add_network(sign)
     add_set(command("set", do_set, "put envelopes into a set", out=False))
+    listed = command("list", do_list, "put envelopes into a list, for build and apply-list", out=False)
+    listed.add_argument("envelopes", nargs="+", metavar="ENVELOPE", help="files of envelopes, in their order")
+    listed.add_argument("--out", required=True, metavar="FILE", help="the list's file that is written")
+    listed.add_argument("--base64", action="store_true", help="the envelopes are base64 text")
     verify = command(
         "verify", do_verify, "verify the signatures in authorisation entries, and write the verdicts", out=False
     )
@@ -287,6 +315,16 @@ def add_set(parser: argparse.ArgumentParser) -> None:
 def add_envelope(parser: argparse.ArgumentParser) -> None:
     parser.add_argument("envelope", metavar="ENVELOPE", help="- is the standard input")
     parser.add_argument("--base64", action="store_true", help="the envelope is base64 text")
+
+
+def add_run(parser: argparse.ArgumentParser) -> None:
+    """Adds the options of a command that runs an envelope by the program."""
+    add_envelope(parser)
+    parser.add_argument("--ledger", required=True, metavar="FILE", help="the ledger before the transaction")
+    parser.add_argument("--close-time", type=int, metavar="SECONDS", help="by default 5 after the ledger's")
+    parser.add_argument(
+        "--program", metavar="FILE", help="the built program; by default SOROBAN_CMD, or that of the repository"
+    )
 
 
 def add_builders(command: Any) -> None:

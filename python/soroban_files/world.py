@@ -17,7 +17,8 @@
 Arguments are values (`soroban_files.values`), or what `values.value` takes: accounts and contracts for their addresses, None,
 booleans, bytes, lists. `by` is the source account of the transaction, and authorises the call. `signers` sign entries of their
 own for it. `below` has the nodes that the authorisation needs below the call: `token.node("transfer", alice, exchange, u64(5))`.
-`auth` gives all entries by hand: see `World.authorize`, which also lets a contract sign in its own way.
+With `is_recorded=True` the program finds who has to sign what, and each account of the world does. `auth` gives all entries by
+hand: see `World.authorize`, which also lets a contract sign in its own way.
 
 Each call is simulated, gets the footprint that was found, and is applied alone in the next ledger. `World.prepare` and
 `World.close` make sets of several transactions, stages and clusters. Signatures of accounts are real: they are verified into
@@ -51,6 +52,7 @@ TERMS = {
 }
 NETWORK = "A network for tests of contracts"
 SECONDS_A_LEDGER = 5
+LIFE = 100  # for how many ledgers signatures hold
 
 
 class Failed(AssertionError):
@@ -209,6 +211,7 @@ class Closed(NamedTuple):
     verdicts: bytes
     report: bytes
     after: bytes
+    log: Optional[bytes] = None
 
 
 class World:
@@ -334,7 +337,7 @@ class World:
         who: Any,
         root: Json,
         sign: Optional[Callable[[bytes], Json]] = None,
-        life: int = 100,
+        life: int = LIFE,
         nonce: Optional[int] = None,
     ) -> Json:
         """Returns the entry by which an address authorises a tree, signed.
@@ -370,15 +373,41 @@ class World:
         signers: Sequence[Any] = (),
         below: Sequence[Json] = (),
         auth: Optional[Sequence[Json]] = None,
+        is_recorded: bool = False,
         **options: Any,
     ) -> Json:
-        """Returns an envelope without a footprint, unsigned. `options` are those of `envelopes.envelope`, such as `cond`."""
+        """Returns an envelope without a footprint, unsigned. `options` are those of `envelopes.envelope`, such as `cond`.
+
+        With `is_recorded`, its entries are those that the run needs, each signed by its account.
+        """
         source = by or self.somebody
         self.sequences[source.address] = self.sequences.get(source.address, 0) + 1
+        if is_recorded:
+            auth = self.recorded(host_function, source)
         entries = self.entries(host_function, by, signers, below) if auth is None else auth
         return envelopes.envelope(
             source, envelopes.invoke(host_function, entries), self.sequences[source.address], **options
         )
+
+    def recorded(self, host_function: Json, source: Account) -> List[Json]:
+        """Returns the entries that a call or a create from a source needs, each signed by its account (`record`)."""
+        envelope = envelopes.xdr(envelopes.envelope(source, envelopes.invoke(host_function)))
+        nonce, until = 7919 * (self.nonces + 1), self.seq + LIFE
+        found = self.program.record(envelope, self.file, self.now + SECONDS_A_LEDGER, nonce, until)
+        self.nonces += 1
+        return [self.signed_entry(entry) for entry in found.entries]
+
+    def signed_entry(self, entry: Json) -> Json:
+        """Returns an authorisation entry signed by its account, which has to be one of this world; that of a source as it is."""
+        if entry["credentials"] == "source_account":
+            return entry
+        address = entry["credentials"]["address"]["address"]
+        if address not in self.names:
+            raise KeyError(f"{address} is demanded, and is no account of this world")
+        key = Account(self.names[address]).key
+        if key is None:
+            raise wallet.NoCryptography(f"{self.names[address]} has no key to sign with")
+        return wallet.sign_entry(entry, self.network, key)
 
     def simulated(self, envelope: Json) -> Simulated:
         """Returns what `simulate` finds of an envelope."""
@@ -441,11 +470,25 @@ class World:
         tx_set = schema.write(schema.SET, envelopes.parallel_set(stages))
         sent = [envelope for stage in stages for cluster in stage for envelope in cluster]
         verdicts = self.verdicts(sent)
-        applied = self.program.apply(tx_set, self.file, verdicts, self.now + seconds, workers)
-        self.closed = Closed(self.file, tx_set, verdicts, applied.report_file, applied.ledger_file)
+        applied = self.program.apply(tx_set, self.file, verdicts, self.now + seconds, workers, is_logged=True)
+        self.closed = Closed(self.file, tx_set, verdicts, applied.report_file, applied.ledger_file, applied.log_file)
+        return self.closed_with(sent, applied.report, applied.ledger_file)
+
+    def close_list(self, sent: Sequence[Json], seconds: int = SECONDS_A_LEDGER, workers: int = 1) -> List[Outcome]:
+        """Applies envelopes in their order, each with the footprint that its run needs, and makes the next ledger (`apply-list`).
+
+        Returns the outcomes. They may come from `envelope`, without footprints. `page` has no set to draw after this.
+        """
+        listed = schema.write(schema.LIST, list(sent))
+        applied = self.program.apply_list(listed, self.file, self.verdicts(sent), self.now + seconds, workers)
+        self.closed = None
+        return self.closed_with(sent, applied.report, applied.ledger_file)
+
+    def closed_with(self, sent: Sequence[Json], report: Json, after: bytes) -> List[Outcome]:
+        """Goes on to the ledger after, and returns the outcomes of what was sent."""
         asks = [self.asker(envelope) for envelope in sent]
-        self.file = applied.ledger_file
-        return [Outcome(pair["result"], pair["success"], None, ask) for pair, ask in zip(applied.report, asks)]
+        self.file = after
+        return [Outcome(pair["result"], pair["success"], None, ask) for pair, ask in zip(report, asks)]
 
     def verdicts(self, sent: Sequence[Json]) -> bytes:
         """Returns the verdicts' file on the entries of some envelopes."""
@@ -458,7 +501,7 @@ class World:
         if self.closed is None:
             raise RuntimeError("no ledger is closed yet")
         closed = self.closed
-        return page(closed.before, closed.tx_set, closed.report, closed.after, theme, self.names)
+        return page(closed.before, closed.tx_set, closed.report, closed.after, theme, self.names, closed.log)
 
     def asker(self, envelope: Json) -> Callable[[], Optional[Json]]:
         """Returns what finds the error by which the call of an envelope traps on the ledger as it is now."""

@@ -16,7 +16,7 @@ from tests import BROWSER
 from tests.tables import REPOSITORY
 from tests.test_explore import screenshot, trading_day
 
-SIZE = "1360,2105"  # down to the last entry that changed
+SIZE = "1360,2205"  # down to the last entry that changed
 
 
 def main() -> None:

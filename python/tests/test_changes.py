@@ -303,6 +303,42 @@ class HandMadeTest(unittest.TestCase):
         self.assertIn("and 900 more, which this page leaves out", text)
         self.assertIn("no change, footprint, limits, hash", text)
 
+    def test_many_cards(self) -> None:
+        """The more transactions there are, the fewer changes of each one stand on the page."""
+        entry = next(entry for entry in samples(schema.ENTRY) if "contract_data" in entry["data"])
+        states = []
+        for turn in range(501):
+            made = [copy.deepcopy(entry) for _ in range(20)]
+            for number_, each in enumerate(made):
+                each["data"]["contract_data"].update({"key": {"u32": number_}, "val": {"u32": turn}})
+            states.append(made)
+        lists = []
+        for old, new in zip(states, states[1:]):
+            lists.append([it for pair in zip(old, new) for it in self.change(*pair)])
+        log = log_of([{"transactions": lists, "end": []}])
+        (envelope, *_), (pair, *_) = self.set["v1"]["phases"][1]["v1"]["execution_stages"][0][0], self.report
+        tx_set, report = envelopes.parallel_set([[[envelope] * 500]]), [pair] * 500
+        html = page_of(ledger(states[0]), tx_set, report, ledger(states[-1], 101), log=log)
+        rows = read(html).rows
+        self.assertEqual({len(rows[place]) for place in rows if place.startswith("t")}, {19})
+
+    def change(self, old: Json, new: Json) -> List[Json]:
+        """Returns the changes of an entry whose life stays."""
+        return logged(ledger([old]), ledger([new]))
+
+    def test_remarks(self) -> None:
+        """A failure with changes of lives alone, and an extension that changes nothing yet, have a sentence."""
+        (old, *_), last = self.states, self.states[-1]
+        longer = copy.deepcopy(old)
+        for record in longer["v2"]["records"]:
+            record["ttl"]["live_until_ledger_seq"] = 6000
+        longer["v2"].update(seq=101, close_time=last["v2"]["close_time"])
+        for transactions, said in (([logged(old, longer), []], True), ([[], []], False)):
+            after = longer if said else {"v2": {**old["v2"], "seq": 101, "close_time": last["v2"]["close_time"]}}
+            log = log_of([{"transactions": transactions, "end": []}])
+            text = "".join(read(page_of(old, self.set, self.report, after, log=log)).text)
+            self.assertEqual("put in before this one ran" in text, said)
+
     def unfit(self, log: Json) -> str:
         """Returns where a log does not fit, and why."""
         with self.assertRaises(Unfit) as caught:

@@ -12,7 +12,7 @@ import unittest
 import unittest.mock
 from typing import List, Tuple
 
-from soroban_files import decode, encode, envelopes, hashes, ledgers, wallet
+from soroban_files import decode, encode, envelopes, hashes, ledgers, strkey, wallet
 from soroban_files.command import main
 from soroban_files.program import Program, is_there
 from soroban_files.values import symbol
@@ -23,6 +23,7 @@ from tests.test_where import ENTRY
 PACKAGE = os.path.dirname(os.path.dirname(os.path.abspath(__file__)))
 TOKEN = os.path.join(REPOSITORY, "examples", "token", "token.hex")
 ALICE = "name:alice"
+ACCOUNT = strkey.encode("G", bytes(32))
 ENTRY_CONTRACT = "CAAQCAIBAEAQCAIBAEAQCAIBAEAQCAIBAEAQCAIBAEAQCAIBAEAQC526"
 NETWORK = hashes.network_id("Test")
 
@@ -227,7 +228,7 @@ class CommandTest(unittest.TestCase):
 
     @unittest.skipUnless(wallet.has_cryptography() and is_there(), "the package cryptography or the program is missing")
     def test_from_key_to_ledger(self) -> None:
-        """A token is uploaded, created, minted, and transferred by who signs an entry, by commands alone."""
+        """A token is uploaded, created, minted, and transferred by who signs the recorded entry, by commands alone."""
         self.put("ledger-100", encode("ledger", new_ledger(NETWORK, 100, 1000)))
         module, sent = self.put("token.wasm", module_bytes(TOKEN)), self.path("sent")
         admin, alice, bob = (wallet.Key.named(name).address for name in ("admin", "alice", "bob"))
@@ -240,12 +241,23 @@ class CommandTest(unittest.TestCase):
         token = self.good("wallet", "contract", admin, "first", "--ledger", self.path("ledger-102")).strip()
         self.good("wallet", "call", token, "mint", alice, "u64:100", *by, *out)
         self.assertIn("= 100_u64, live until", self.close(sent, 102))
-        self.good("wallet", "call", token, "transfer", alice, bob, "u64:25", "--source", admin, "--authorize", alice,
-                  "--until", "200", *out)  # fmt: skip
+        transfer = ["wallet", "call", token, "transfer", alice, bob, "u64:25", "--source", admin]
+        by_hand = ["--authorize", alice, "--until", "200", "--nonce", "7"]
+        self.good(*transfer, *by_hand, "--out", self.path("by-hand"))
+        self.good(*transfer, *out)
+        self.good("wallet", "record", sent, "--ledger", self.path("ledger-103"), "--until", "200", "--nonce", "7", *out)
+        self.assertEqual(self.get("sent"), self.get("by-hand"))
         self.good("wallet", "sign-entries", sent, "--key", ALICE, "--ledger", self.path("ledger-103"), *out)
         found = self.close(sent, 103)
         self.assertIn("= 25_u64, live until", found)
         self.assertIn("val: 100_u64 -> 75_u64", found)
+
+    def test_list(self) -> None:
+        """A list has the envelopes in their order."""
+        sent = [envelopes.envelope(ACCOUNT, envelopes.restore(), seq=number) for number in (1, 2)]
+        names = [self.put(f"sent{number}", encode("envelope", it)) for number, it in enumerate(sent)]
+        self.good("wallet", "list", *names, "--out", self.path("list"))
+        self.assertEqual(decode("list", self.get("list")), sent)
 
     def test_json(self) -> None:
         """What is no JSON of a file is refused, also by its depth and its names."""
@@ -367,7 +379,7 @@ class CommandTest(unittest.TestCase):
             ["wallet"],
             *([name] for name in ("decode", "encode", "diff", "where", "lint", "explore")),
             *(["wallet", name] for name in ("key", "contract", "call", "upload", "create", "extend")),
-            *(["wallet", name] for name in ("bump", "fill", "sign", "sign-entries", "set", "verify")),
+            *(["wallet", name] for name in ("bump", "fill", "record", "sign", "sign-entries", "set", "list", "verify")),
         ]
         for words in commands:
             said = self.good(*words, "--help")

@@ -20,7 +20,7 @@ from tests.tables import REPOSITORY
 
 TOKEN = os.path.join(REPOSITORY, "examples", "token", "token.hex")
 MARKET = os.path.join(os.path.dirname(os.path.abspath(__file__)), "market.hex")
-VOID_ELEMENTS = ("meta", "br")
+VOID_ELEMENTS = ("meta", "br", "wbr")
 
 
 def trading_day(world: World) -> None:

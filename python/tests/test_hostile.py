@@ -22,7 +22,7 @@ NETWORK = "07" * 32
 ELEMENTS = (
     "a b body br button code details div footer h1 h2 h3 h4 h5 head header html li main meta p script section small"
 )
-ELEMENTS += " span style summary table td th title tr ul"
+ELEMENTS += " span style summary table td th title tr ul wbr"
 
 
 def ledger(entries: List[Json], seq: int = 100) -> Json:
@@ -111,9 +111,10 @@ class PageTest(unittest.TestCase):
             ({"bytes": "3c" * 100_000}, "100,000 bytes"),
             ({"vec": ["void"] * 100_000}, "and 99,960 more"),
             ({"map": [{"key": {"u32": number}, "val": "void"} for number in range(1000)]}, "and 960 more"),
+            ({"vec": [{"vec": [{"vec": ["void"] * 100}] * 100}] * 100}, "and 99 more"),
         ):
             shown = value(large)
-            self.assertLess(len(shown), 10_000)
+            self.assertLess(len(shown), 20_000)
             self.assertIn(said, shown)
 
     def test_many(self) -> None:

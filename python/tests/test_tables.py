@@ -191,6 +191,9 @@ class Command:
         elif self.name == "apply-list":
             for kind in ("ledger", "verdicts", "list"):
                 yield kind, self.options[kind], False
+        elif self.name == "record":
+            yield "ledger", self.options["ledger"], False
+            yield "envelope", self.options["tx"], False
         elif self.name == "show":
             yield self.options["kind"], self.options["file"], text
         elif self.name in ("migrate", "play"):
@@ -202,7 +205,8 @@ class Command:
 
     def follows(self) -> bool:
         """Returns whether another ledger has to be able to follow the one that is read."""
-        return self.name in ("apply", "apply-list", "simulate") or (self.name == "play" and self.options["back"] == "0")
+        forwards = self.name == "play" and self.options["back"] == "0"
+        return forwards or self.name in ("apply", "apply-list", "record", "simulate")
 
     def judged(self) -> Optional[str]:
         """Returns the line of the first refusal, after it has taken all inputs there and back."""
@@ -228,7 +232,7 @@ class Command:
             name, _, digits = rest.partition(" ")
             kinds = [kind for option, kind in self.STORED.items() if self.options.get(option) == name]
             if word == "stores" and kinds and " " not in digits:
-                yield kinds[0], name, bytes.fromhex(digits)
+                yield "entries" if self.name == "record" else kinds[0], name, bytes.fromhex(digits)
 
 
 class Commands(unittest.TestCase):

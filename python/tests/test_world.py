@@ -3,13 +3,14 @@ from __future__ import annotations
 
 import os
 
-from soroban_files import envelopes, wallet
+from soroban_files import envelopes, schema, strkey, values, wallet
 from soroban_files.program import Refused
 from soroban_files.values import error, symbol, u64, vec
 from soroban_files.world import Contract, Failed, WorldTest
 from tests.tables import REPOSITORY
 
 TOKEN = os.path.join(REPOSITORY, "examples", "token", "token.hex")
+MARKET = os.path.join(os.path.dirname(os.path.abspath(__file__)), "market.hex")
 NOT_ENOUGH = 1
 
 
@@ -65,6 +66,48 @@ class TokenTest(WorldTest):
         forged = self.world.authorize(self.alice, root, sign=lambda payload: other.account_signature(payload.hex()))
         self.token.attempt("transfer", self.alice, self.bob, u64(7), auth=[forged]).expect_failure()
         self.assertEqual(self.token.read("balance", self.bob), 14)
+
+    def test_recorded(self) -> None:
+        """The program finds who has to sign a trade, also where another account is the source."""
+        self.needs_keys()
+        (carol,) = self.world.accounts("carol")
+        silver, market = self.world.deploy(TOKEN, self.admin), self.world.deploy(MARKET)
+        silver.call("mint", self.bob, u64(50), by=self.admin, is_recorded=True)
+        trade = [self.bob, self.alice, self.token, u64(5), silver, u64(7)]
+        market.attempt("buy", *trade, by=carol).expect_failure()
+        done = market.call("buy", *trade, by=carol, is_recorded=True)
+        self.assertTrue(done.ok)
+        with self.assertRaises(KeyError):
+            stranger = values.value({"address": strkey.encode("G", bytes(32))})
+            self.token.call("transfer", stranger, self.bob, u64(0), is_recorded=True)
+
+    def test_list(self) -> None:
+        """Envelopes without footprints, in their order: the second one needs what the first one did."""
+        calls = [
+            envelopes.call(self.token, "transfer", args)
+            for args in ([self.alice, self.bob, u64(60)], [self.bob, self.alice, u64(1)], [self.alice, self.bob, u64(60)])
+        ]
+        by = (self.alice, self.bob, self.alice)
+        sent = [self.world.envelope(call, by=who) for call, who in zip(calls, by)]
+        outcomes = self.world.close_list(sent, workers=2)
+        self.assertEqual([outcome.code for outcome in outcomes], ["success", "success", "trapped"])
+        self.assertEqual(self.token.read("balance", self.alice), 41)
+
+    def test_build_and_play(self) -> None:
+        """A set that is built of a list has each envelope, and its log leads to the next ledger and back."""
+        calls = [envelopes.call(self.token, "transfer", [self.alice, it, u64(1)]) for it in (self.bob, self.admin)]
+        sent = [self.world.prepare(call, by=self.alice) for call in calls]
+        built = schema.read(schema.SET, self.world.program.build(schema.write(schema.LIST, sent), 8))
+        self.assertEqual(envelopes.stages_of(built), [[sent]])
+        self.world.close([[sent]])
+        closed = self.world.closed
+        assert closed and closed.log
+        program = self.world.program
+        self.assertEqual(program.play(closed.log, closed.before), closed.after)
+        self.assertEqual(program.play(closed.log, closed.after, back=True), closed.before)
+        with self.assertRaises(Refused) as caught:
+            program.play(closed.log, closed.after)
+        self.assertEqual(caught.exception.code, 8)
 
     def test_time(self) -> None:
         key = envelopes.contract_key(self.token, self.balance_key(self.alice))

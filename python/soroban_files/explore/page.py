@@ -27,6 +27,7 @@ from .shown import (
     value,
     who,
 )
+from .shown import whole as as_value
 from .view import ClosedLedger, Transaction, outcomes
 
 FOLDER = os.path.dirname(os.path.abspath(__file__))
@@ -39,6 +40,9 @@ MOST_PEOPLE = 300
 MOST_KEYS = 100  # of a footprint
 MOST_EVENTS = 50  # of a transaction
 MOST_CHANGES = 100  # of a transaction, and of the end of a stage
+MOST_OWN_ROWS = 10_000  # of all transactions and ends of stages; each one shows at least FEW_CHANGES
+FEW_CHANGES = 10
+LONG_CONTENT = 6000  # characters of HTML; longer contents of entries have a box that scrolls
 
 
 def render(closed: ClosedLedger, theme: str = "", names: Optional[Dict[str, str]] = None) -> str:
@@ -114,7 +118,7 @@ def facts(closed: ClosedLedger) -> str:
         (f"{good} of {len(sent)}", "transactions succeeded"),
         (str(len(closed.stages)), plural(len(closed.stages), "stage")),
         (str(sum(len(transaction.events) for transaction in sent)), "events"),
-        (f"+{len(found.made)} ~{len(found.changed)} −{len(found.gone)}", "entries made, changed, gone"),
+        (f"+{len(found.made):,} ~{len(found.changed):,} −{len(found.gone):,}", "entries made, changed, gone"),
         (f"{len(after['records']):,}", "entries in the ledger"),
         (f"{elapsed:+,} s", "since the ledger before"),
     ]
@@ -157,30 +161,38 @@ def stages(closed: ClosedLedger) -> Iterator[str]:
     counts = sorted(outcomes(closed).items(), key=lambda item: -item[1])
     said = ", ".join(f"{count} {words(outcome)}" for outcome, count in counts) or "none"
     yield tag("h2", "Transactions", tag("small", text(said)))
-    left = MOST_CARDS
+    left, most = MOST_CARDS, most_changes(closed)
     for number, clusters in enumerate(closed.stages):
         boxes = []
         for index, cluster in enumerate(clusters[:MOST_SQUARES]):
-            boxes.append(cluster_box(index, cluster, max(left, 0)))
+            boxes.append(cluster_box(index, cluster, max(left, 0), most))
             left -= len(cluster)
         said = f"{len(clusters):,} {plural(len(clusters), 'cluster')}" + (" side by side" if len(clusters) > 1 else "")
         title = tag("h3", f"Stage {number}", tag("small", said))
         content = tag("div", *boxes, class_="clusters") if boxes else tag("p", "no cluster", class_="empty")
-        end = end_box(closed.ends[number]) if closed.ends else ""
+        end = end_box(closed.ends[number], most) if closed.ends else ""
         yield tag("section", title, content, left_out(len(clusters) - len(boxes)), end, class_="stage")
 
 
-def cluster_box(index: int, cluster: List[Transaction], most: int) -> str:
+def most_changes(closed: ClosedLedger) -> int:
+    """Returns how many changes each transaction and each end of a stage shows: the fewer, the more of them there are."""
+    cards = min(len(closed.transactions), MOST_CARDS) + len(closed.stages)
+    return max(FEW_CHANGES, min(MOST_CHANGES, MOST_OWN_ROWS // max(cards, 1)))
+
+
+def cluster_box(index: int, cluster: List[Transaction], most: int, most_rows: int) -> str:
     title = tag("h4", f"cluster {index} · {len(cluster):,} {plural(len(cluster), 'transaction')}")
-    return tag("div", title, *map(card, cluster[:most]), left_out(len(cluster) - most), class_="cluster")
+    cards = (card(transaction, most_rows) for transaction in cluster[:most])
+    return tag("div", title, *cards, left_out(len(cluster) - most), class_="cluster")
 
 
-def end_box(found: Difference) -> str:
+def end_box(found: Difference, most: int) -> str:
     """Returns what the end of a stage changed: the lives of entries whose extensions were pending."""
-    return tag("div", tag("h4", f"end of the stage · {change_count(found)}"), own_changes(found), class_="end")
+    title = tag("h4", f"end of the stage · {change_count(found)}", title=END)
+    return tag("div", title, own_changes(found, most) if row_count(found) else "", class_="end")
 
 
-def card(transaction: Transaction) -> str:
+def card(transaction: Transaction, most_rows: int) -> str:
     bad = "" if transaction.ok else " bad"
     pills = [tag("span", text(words(transaction.outcome)), class_="pill" + bad)]
     if transaction.payer:
@@ -192,7 +204,7 @@ def card(transaction: Transaction) -> str:
     counted = "" if transaction.changes is None else f"{change_count(transaction.changes)}, "
     more = tag("div", f"{counted}footprint, limits, hash", class_="more")
     summary = tag("summary", top, tag("div", doing(transaction), class_="call"), *happened(transaction), more)
-    inside = tag("div", *parts_of(transaction), class_="inside")
+    inside = tag("div", *parts_of(transaction, most_rows), class_="inside")
     return tag("details", summary, inside, class_="tx" + bad, id=transaction.anchor)
 
 
@@ -223,16 +235,18 @@ def happened(transaction: Transaction) -> Iterator[str]:
 
 
 def event_html(event: results.Event) -> str:
-    topics = " ".join(parts(event.topics, inner_value))
-    data = "" if event.data == values.VOID else " " + together(span("punct", "→ "), inner_value(event.data))
-    contract = who(event.contract) + " " if event.contract else ""
-    return tag("span", contract, topics, data, class_="value")
+    def shown() -> str:
+        topics = " ".join(parts(event.topics, inner_value))
+        data = "" if event.data == values.VOID else " " + together(span("punct", "→ "), inner_value(event.data))
+        return (who(event.contract) + " " if event.contract else "") + topics + data
+
+    return as_value(shown)
 
 
-def parts_of(transaction: Transaction) -> Iterator[str]:
+def parts_of(transaction: Transaction, most_rows: int) -> Iterator[str]:
     """Yields what a card shows only when it is open."""
     if transaction.changes is not None:
-        yield tag("h5", "Changes") + own_changes(transaction.changes)
+        yield tag("h5", "Changes") + remark(transaction, transaction.changes) + own_changes(transaction.changes, most_rows)
     if transaction.resources:
         yield tag("h5", "Footprint") + footprint(transaction)
         yield tag("h5", "Limits") + limits(transaction.resources)
@@ -307,13 +321,28 @@ def changes(closed: ClosedLedger) -> str:
     if not count:
         return tag("h2", "What changed") + tag("p", "No entry changed.", class_="empty")
     head = tag("tr", tag("th", ""), tag("th", "entry"), tag("th", "content"))
-    title = tag("h2", "What changed", tag("small", f"{count:,} {plural(count, 'line')}"))
+    title = tag("h2", "What changed", tag("small", f"from the ledger before to this one, {count:,} {plural(count, 'line')}"))
     return title + table(closed.difference, MOST_ROWS, head)
 
 
-def own_changes(found: Difference) -> str:
+def own_changes(found: Difference, most: int) -> str:
     """Returns what a transaction or the end of a stage changed."""
-    return table(found, MOST_CHANGES) if row_count(found) else tag("p", "No entry changed.", class_="empty")
+    return table(found, most) if row_count(found) else tag("p", "No entry changed.", class_="empty")
+
+
+# When extensions take effect, for readers of a log.
+END = "Extensions that are still pending are put in at the end of the stage."
+PENDING = "An extension is pending until the end of the stage, or until a later transaction of the cluster writes the entry."
+PUT_IN = "Extensions of earlier transactions were put in before this one ran. It changed nothing itself."
+
+
+def remark(transaction: Transaction, found: Difference) -> str:
+    """Returns a sentence where changes may surprise: of an extension that changes nothing yet, and of a failure with lives."""
+    if found.lives and row_count(found) == len(found.lives) and not transaction.ok:
+        return tag("p", PUT_IN, class_="remark")
+    if not row_count(found) and transaction.ok and "extend_footprint_ttl" in transaction.body:
+        return tag("p", PENDING, class_="remark")
+    return ""
 
 
 def change_count(found: Difference) -> str:
@@ -351,7 +380,8 @@ def left_out(count: int) -> str:
 
 def row(said: str, kind: str, entry_key: Json, content: str) -> str:
     pill = tag("span", said, class_="pill" + kind)
-    return tag("tr", tag("td", pill, class_="sign"), tag("td", key(entry_key), class_="key"), tag("td", content))
+    boxed = tag("div", content, class_="box") if len(content) > LONG_CONTENT else content
+    return tag("tr", tag("td", pill, class_="sign"), tag("td", key(entry_key), class_="key"), tag("td", boxed))
 
 
 def made(record: Json, kind: str = "") -> str:

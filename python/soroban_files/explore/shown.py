@@ -2,6 +2,7 @@
 from __future__ import annotations
 
 import html
+import itertools
 import json
 import zlib
 from contextlib import contextmanager
@@ -12,8 +13,22 @@ from ..xdr import Json
 
 LONG_BYTES = 40
 LONG_TEXT = 200
-MOST_MEMBERS = 40
+LONG_NUMBER = 20  # digits; a longer one may be cut into lines
+MOST_MEMBERS = 40  # of a vec or a map
+MOST_PARTS = 300  # of a value, with all that is nested in it
 NAMES: Dict[str, str] = {}  # what to call addresses, while a page is made
+
+
+class Room:
+    """How many more members of the value that is being shown have room."""
+
+    left = MOST_PARTS
+
+    @classmethod
+    def taken(cls) -> bool:
+        """Takes room for a member, if there is any."""
+        cls.left -= 1
+        return cls.left >= 0
 
 
 @contextmanager
@@ -55,7 +70,13 @@ def who(address: str) -> str:
 
 def value(item: Json) -> str:
     """Returns a value of a contract, in the colours of its types."""
-    return tag("span", inner_value(item), class_="value")
+    return whole(lambda: inner_value(item))
+
+
+def whole(shown: Callable[[], str]) -> str:
+    """Returns what `shown` makes of a value, or of several that stand together, with room for its members."""
+    Room.left = MOST_PARTS
+    return tag("span", shown(), class_="value")
 
 
 def inner_value(item: Json) -> str:
@@ -70,7 +91,7 @@ def inner_value(item: Json) -> str:
         return span("none", "null map") if content is None else members(content)
     if kind in values.NUMBERS + values.TEXT_NUMBERS:
         type_ = "" if kind == "u32" else span("type", f" {kind}")
-        return tag("span", span("number", f"{int(content):,}"), type_, class_="numeral")
+        return tag("span", number(int(content)), type_, class_=None if is_long(content) else "numeral")
     if kind == "contract_instance":
         return tag("span", "instance of ", executable(content["executable"]), " ", members(content["storage"] or []))
     if kind == "bytes":
@@ -80,6 +101,16 @@ def inner_value(item: Json) -> str:
     if kind == "bool":
         return span("number", "true" if content else "false")
     return span("error" if kind == "error" else "symbol", values.line(item))
+
+
+def is_long(content: Any) -> bool:
+    return len(str(content)) > LONG_NUMBER
+
+
+def number(content: int) -> str:
+    """Returns a number with commas. A long one may be cut into lines behind a comma."""
+    digits = f"{content:,}"
+    return tag("span", digits.replace(",", ",<wbr>") if is_long(content) else digits, class_="number")
 
 
 def hex_digits(content: str) -> str:
@@ -104,9 +135,10 @@ def string(content: str) -> str:
 
 
 def parts(content: List[Json], shown: Callable[[Json], str]) -> List[str]:
-    """Returns what `shown` makes of the first members, and how many more there are."""
-    left = len(content) - MOST_MEMBERS
-    return [shown(member) for member in content[:MOST_MEMBERS]] + [span("type", f"and {left:,} more")] * (left > 0)
+    """Returns what `shown` makes of the first members, as long as there is room, and how many more there are."""
+    found = [shown(member) for member in itertools.takewhile(lambda _: Room.taken(), content[:MOST_MEMBERS])]
+    left = len(content) - len(found)
+    return found + [span("type", f"and {left:,} more")] * (left > 0)
 
 
 def listed(start: str, items: List[str], end: str) -> str:
@@ -176,7 +208,7 @@ def function(content: Json) -> str:
 
 
 def arguments(args: List[Json]) -> str:
-    return tag("span", listed("(", parts(args, inner_value), ")"), class_="value")
+    return whole(lambda: listed("(", parts(args, inner_value), ")"))
 
 
 def preimage(content: Json) -> str:
