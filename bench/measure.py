@@ -38,10 +38,10 @@ def measure(command):
     return seconds, int(done.stderr.split()[-1]) / 1024
 
 
-def instructions(command):
-    """The processor's instructions of a command, counted by callgrind."""
+def instructions(command, folder=None):
+    """The processor's instructions of a command in a folder, counted by callgrind."""
     how = ["valgrind", "--tool=callgrind", "--callgrind-out-file=/dev/null"]
-    done = subprocess.run([*how, *command], stdout=subprocess.DEVNULL, stderr=subprocess.PIPE, text=True)
+    done = subprocess.run([*how, *command], cwd=folder, stdout=subprocess.DEVNULL, stderr=subprocess.PIPE, text=True)
     if done.returncode != 0:
         sys.exit(f"{command[0]} ended with {done.returncode}: {done.stderr}")
     return int(re.search(r"Collected : (\d+)", done.stderr)[1])

@@ -119,11 +119,20 @@ def generated_samples():
     for count, seed in GENERATED:
         ledger, verdicts = program_files.generated_ledger(), program_files.u32(0)
         files = {"set": program_files.generated_set(count, seed), "ledger": ledger, "verdicts": verdicts}
-        yield Sample("apply", {"close-time": "1001", "workers": "3"}, files)
-        yield Sample("build", {"clusters": "8"}, {"list": program_files.generated_list(count, seed)})
+        applied = {"close-time": "1001", "workers": "3"}
+        yield Sample("apply", applied, files)
+        yield Sample("apply", {**applied, "log": "log"}, files)
+        listed = program_files.generated_list(count, seed)
+        yield Sample("build", {"clusters": "8"}, {"list": listed})
+        for calls in (listed, program_files.bare_list(count, seed)):
+            yield Sample("apply-list", applied, {"list": calls, "ledger": ledger, "verdicts": verdicts})
+        log, after = (make(count, seed, 1001) for make in (program_files.generated_log, program_files.generated_next))
+        yield Sample("play", {"back": "0"}, {"log": log, "ledger": ledger})
+        yield Sample("play", {"back": "1"}, {"log": log, "ledger": after})
         yield Sample("migrate", {}, {"ledger": program_files.ledger_file(program_files.many_records(count), 1)})
         drawn = program_files.envelope(program_files.bump_transaction(count, program_files.drawn(count, seed)[0]))
         yield Sample("simulate", {"close-time": "1001"}, {"tx": drawn, "ledger": ledger, "verdicts": verdicts})
+        yield Sample("record", {"close-time": "1001", "nonce": "5", "expiration": "150"}, {"tx": drawn, "ledger": ledger})
 
 
 # ---- changes of bytes
@@ -217,6 +226,23 @@ def replace_code(contents, old, new):
         contents[name] = content.replace(old, new).replace(before, after).replace(*keys)
 
 
+def change_all(chance, contents):
+    """Changes a word that stands behind the same word in two files, in all files, so that they still fit each other: a value in a
+    ledger and in its log, a limit in a set. Returns whether it could."""
+    names = [name for name, content in contents.items() if len(content) >= 8]
+    for _ in range(30 if len(names) > 1 else 0):
+        one, other = chance.sample(names, 2)
+        at = 4 * chance.randrange(len(contents[one]) // 4 - 1)
+        old = contents[one][at : at + 8]
+        if old in contents[other] and any(old):
+            change = changed_bits if chance.random() < 0.7 else changed_word
+            new = old[:4] + change(chance, old[4:], 0)
+            for name, content in contents.items():
+                contents[name] = content.replace(old, new)
+            return True
+    return False
+
+
 # ---- inputs
 
 
@@ -300,8 +326,9 @@ class Inputs:
 
     def change_files(self, chance, made):
         """Changes files that are read, and puts something at names that are stored."""
-        has_changed_code = chance.random() < 0.3 and change_code(chance, made.contents)
-        if made.contents and chance.random() < (0.2 if has_changed_code else 0.95):
+        has_changed = chance.random() < 0.3 and change_code(chance, made.contents)
+        has_changed = has_changed or (chance.random() < 0.15 and change_all(chance, made.contents))
+        if made.contents and chance.random() < (0.2 if has_changed else 0.95):
             for _ in range(chance.choice((1, 1, 1, 2, 3))):
                 # Most changes of these files are refused, and then nothing runs.
                 weights = [1 if kind in ("ledger", "verdicts") else 3 for kind in made.reads.values()]

@@ -6,7 +6,8 @@ python3 tools/refused.py PROGRAM [--most N] [--only WORD] (needs a C compiler; t
 A case is a command that ends well. Its calls of one kind are counted, and it runs once for each, which is refused: memory, a
 thread, an open, a read, a seek, a write, a close. Then a refusal of memory or of a thread may be answered by `no memory`, or by
 what the case answers without one; that of a file by `fault on` its name. Nothing but the names that the command stores changes,
-in their order, each whole, but for the one at fault: it holds its old bytes or a prefix of the new ones.
+in their order, each whole, but for the one at fault: it holds its old bytes or a prefix of the new ones, which may be all of them,
+as when the folder of a new file cannot be synced.
 
 --most N refuses at most so many calls of a kind and a case, evenly chosen; --only WORD takes the cases whose name has the word.
 Prints a line for each case and kind with the counts of answers. The status is 1 if an answer was wrong.
@@ -33,6 +34,9 @@ CASES = [
     ("a simulation", "simulate.txt", "## functions and footprints"),
     ("two clusters by a schedule", "schedules.txt", "file order 00000001 00000004 00000000 00000000 00000001"),
     ("a set of one envelope", "build.txt", "## one envelope"),
+    ("a set with its log", "log.txt", "## an entry is altered twice by each of two clusters"),
+    ("a list of two calls", "list.txt", "# two calls of one contract: the second one runs again"),
+    ("three demands are recorded", "record.txt", "# each frame's demand stands below that of its caller"),
     ("an entry is made by a log", "play.txt", "# an entry is made"),
     ("a migration", "migrate.txt", "## version 1 is a ledger"),
     ("a module", "vet.txt", "## `bump`: it reads a number"),
@@ -119,9 +123,16 @@ def judged(case, kind, good, came):
         return None
     if name in case.reads:
         return "fault on a file that is read" if not whole and not torn else None
-    is_next = name in case.stores and case.stores.index(name) == whole
-    is_prefix = is_next and torn in ([], [name]) and (not torn or made[name].startswith(files.get(name, b"")))
-    return "fault on a file that is stored" if is_prefix else None
+    return "fault on a file that is stored" if name in case.stores and is_stored_up_to(case, name, made, files) else None
+
+
+def is_stored_up_to(case, name, made, files):
+    """Whether the files that are stored before a name are whole, the name has its old bytes or a beginning of the new ones, which
+    may be all of them, and nothing else has changed."""
+    before = case.stores[: case.stores.index(name)]
+    others = {*files, *case.contents}.difference(before, [name])
+    is_right = files.get(name) == case.contents.get(name) or made[name].startswith(files.get(name, b""))
+    return is_right and all(files.get(it) == made[it] for it in before) and all(files.get(it) == case.contents.get(it) for it in others)
 
 
 def try_case(runner, case, most):
