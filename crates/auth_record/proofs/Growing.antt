@@ -16,35 +16,11 @@ use Rattle.auth_notes.specs.Recording.{note_of, notes_of}
 use Rattle.record_spec.specs.Trees.{Terms, tree_of, tree_below, children_of, trees_below, credentials_by, next_terms, entry_of, entries_from, terms_after}
 
 -- the notes up to the next one
-notes_more : (ns : List Noted) (k : ℕ) (n : Noted) → k < length ns → n ≡ get_or ns k n → notes_of (take (k + 1) ns) ≡ notes_of (take k ns) ++ note_of n ∷ []
+pub notes_more : (ns : List Noted) (k : ℕ) (n : Noted) → k < length ns → n ≡ get_or ns k n → notes_of (take (k + 1) ns) ≡ notes_of (take k ns) ++ note_of n ∷ []
 notes_more ns k n lt is =
     ap notes_of (take_more ns k n lt ∙ ap (λ (x : Noted). take k ns ++ x ∷ []) (sym is)) ∙ map_push note_of (take k ns) n
 
--- ---- children
-
-trees_push : (levels : ℕ) (notes : List Note) (n : Note) (some : List Note) (c : Note)
-    → trees_below levels notes n (some ++ c ∷ []) ≡ trees_below levels notes n some ++ cond (is_child n.pair c.pair) (tree_below levels notes c ∷ []) []
-trees_push levels notes n some c =
-    ap (map (tree_below levels notes)) (filter-append (λ (child : Note). is_child n.pair child.pair) some (c ∷ []))
-    ∙ elim (is_child n.pair c.pair) as (λ b. map (tree_below levels notes) (children_of some n ++ cond b (c ∷ []) []) ≡ trees_below levels notes n some ++ cond b (tree_below levels notes c ∷ []) []) [
-      | true ↦ map_push (tree_below levels notes) (children_of some n) c
-      | false ↦ ap (map (tree_below levels notes)) (append-nil (children_of some n)) ∙ sym (append-nil (trees_below levels notes n some))
-    ]
-
-module _ (levels : ℕ) (ns : List Noted) (parent : Note) (k : ℕ) (n : Noted) (within : k < length ns) (is : n ≡ get_or ns k n) (old : List Tree)
-    (so_far : old ≡ trees_below levels (notes_of ns) parent (notes_of (take k ns))) where
-  pub one_child : (made : Tree) → is_child parent.pair (note_of n).pair ≡ true → made ≡ tree_below levels (notes_of ns) (note_of n)
-      → old ++ made ∷ [] ≡ trees_below levels (notes_of ns) parent (notes_of (take (k + 1) ns))
-  one_child made child e =
-      ap₂ (λ (ts : List Tree) (t : Tree). ts ++ t ∷ []) so_far e
-      ∙ ap (λ b. trees_below levels (notes_of ns) parent (notes_of (take k ns)) ++ cond b (tree_below levels (notes_of ns) (note_of n) ∷ []) []) (sym child)
-      ∙ sym (ap (trees_below levels (notes_of ns) parent) (notes_more ns k n within is) ∙ trees_push levels (notes_of ns) parent (notes_of (take k ns)) (note_of n))
-
-  pub no_child : is_child parent.pair (note_of n).pair ≡ false → old ≡ trees_below levels (notes_of ns) parent (notes_of (take (k + 1) ns))
-  no_child other =
-      so_far ∙ sym (append-nil (trees_below levels (notes_of ns) parent (notes_of (take k ns))))
-      ∙ ap (λ b. trees_below levels (notes_of ns) parent (notes_of (take k ns)) ++ cond b (tree_below levels (notes_of ns) (note_of n) ∷ []) []) (sym other)
-      ∙ sym (ap (trees_below levels (notes_of ns) parent) (notes_more ns k n within is) ∙ trees_push levels (notes_of ns) parent (notes_of (take k ns)) (note_of n))
+-- ---- trees
 
 pub forest_push : (old : List Invocation) (made : Invocation) → forest_of (old ++ made ∷ []) ≡ forest_of old ++ tree_in made ∷ []
 forest_push old made = map_push tree_in old made
@@ -95,20 +71,12 @@ module _ (terms : Terms) (source : AccountId) (ns : List Noted) (k : ℕ) (entri
 
 -- ---- the end
 
-whole : (ns : List Noted) (k : ℕ) → length ns ≤ k → take k ns ≡ ns
+-- as many elements as there are, or more, are all
+pub whole : {A : Type 0} (xs : List A) (k : ℕ) → length xs ≤ k → take k xs ≡ xs
 whole [] zero le = refl
 whole [] (suc k) le = refl
-whole (n ∷ ns) zero le = absurd (omega arith)
-whole (n ∷ ns) (suc k) le = ap (λ (x : List Noted). n ∷ x) (whole ns k (omega arith))
-
--- the tree of a node, from its children among all notes
-pub tree_is : (levels : ℕ) (ns : List Noted) (n : Note) (k : ℕ) (old : List Tree) → levels ≢ 0 → length ns ≤ k → old ≡ trees_below (levels - 1) (notes_of ns) n (notes_of (take k ns))
-    → node n.function (trees_of old) ≡ tree_below levels (notes_of ns) n
-tree_is zero ns n k old more le so_far = absurd (more refl)
-tree_is (suc m) ns n k old more le so_far =
-    let below : suc m - 1 ≡ m = omega arith in
-    ap (λ (ts : List Tree). node n.function (trees_of ts))
-    (so_far ∙ ap (λ (l : ℕ). trees_below l (notes_of ns) n (notes_of (take k ns))) below ∙ ap (λ (x : List Noted). trees_below m (notes_of ns) n (notes_of x)) (whole ns k le))
+whole (x ∷ xs) zero le = absurd (omega arith)
+whole {A} (x ∷ xs) (suc k) le = ap (λ (rest : List A). x ∷ rest) (whole xs k (omega arith))
 
 -- the entries of all trees
 pub entries_whole : (terms : Terms) (source : AccountId) (ns : List Noted) (k : ℕ) (entries : List AuthEntry) (now : Terms) → AreMade terms source ns k entries now → length ns ≤ k

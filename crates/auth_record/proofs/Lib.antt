@@ -1,4 +1,5 @@
 mod Bounding
+mod Children
 mod Enough
 mod Growing
 mod Recording
