@@ -18,6 +18,7 @@ ghost use Rattle.call_spec.specs.Asking.{is_good, check_args as check_args_of};
 ghost use Rattle.call_spec.specs.Outcomes.{Says};
 ghost use Rattle.host_ledger.specs.Traced.{leaving};
 ghost use Rattle.host_ledger.specs.Worlds.{Serves};
+ghost use Rattle.host_ledger.specs.Spelled.{IsKeySpelled};
 ghost use Rattle.call_parts.specs.Steps.{Charges, Returns};
 ghost use Rattle.auth_parts.specs.Asked.{proved, asks_address, asks_payload, asks_signer, asks_first};
 ghost use Rattle.auth_parts.specs.Entering.{IsEncodable};
@@ -92,6 +93,7 @@ fn ask_contract(
     ensures does { (env : Env) → Charges result asked (asks_address env payload signer.now root.now
         (addresses.Contract contract)) budget.old budget.new }
     ensures hosted { IfOk result IsAskedHosted }
+    ensures key { IfErr result IsKeySpelled }
 {
     let args = made_args(alloc, payload, signer, root)?;
     match enter_all(budget, args.as_slice()) {
@@ -104,6 +106,7 @@ fn ask_contract(
 fn ask_account(verdicts: &Verdicts, account: Hash, payload: Hash) -> Result<Asked, HostErr>
     ensures does { Returns result asked (only_where (is_good verdicts.now account payload) DENIED_ERROR (gives proved)) }
     ensures hosted { IfOk result IsAskedHosted }
+    ensures key { IfErr result IsKeySpelled }
 {
     if verdicts.holds(&account, &payload) {
         Ok(Asked::Proved)
@@ -127,6 +130,7 @@ fn ask_address(
         → Charges result asked (asks_address env payload signer.now root.now signer.now.address)
         budget.old budget.new }
     ensures hosted { IfOk result IsAskedHosted }
+    ensures key { IfErr result IsKeySpelled }
 {
     match signer.address {
         ScAddress::Account(account) => ask_account(verdicts, account.0, payload),
@@ -154,6 +158,7 @@ fn ask_hashed(
         (hash_of (sha256 (signed_bytes header.now.network_id signer.now entry.now.root_invocation)))
         signer.now entry.now.root_invocation signer.now.address) budget.old budget.new }
     ensures hosted { IfOk result IsAskedHosted }
+    ensures key { IfErr result IsKeySpelled }
 {
     match signed_hash(alloc, &header.network_id, entry, signer) {
         Ok(payload) => ask_address(
@@ -185,6 +190,7 @@ fn ask_payload(
         (signed_bytes env.header.network_id signer.now entry.now.root_invocation)
         signer.now entry.now.root_invocation) budget.old budget.new }
     ensures hosted { IfOk result IsAskedHosted }
+    ensures key { IfErr result IsKeySpelled }
 {
     let len = signed_len(&header.network_id, signer, &entry.root_invocation);
     // Memory holds no payload that is so large.
@@ -219,6 +225,7 @@ fn ask_signer<G: Ground, W: Watch>(
         (λ trace. record w { entries = storage.new.map; trace = trace; meter = budget.new })) }
     ensures hosted { IfOk result IsAskedHosted }
     ensures later { IsLater storage.old storage.new }
+    ensures key { IfErr result IsKeySpelled }
 {
     let n = made_seq(header);
     match use_nonce(storage, budget, n, &header.settings, signer) {
@@ -247,6 +254,7 @@ pub fn ask<G: Ground, W: Watch>(
         (λ trace. record w { entries = storage.new.map; trace = trace; meter = budget.new })) }
     ensures hosted { IfOk result IsAskedHosted }
     ensures later { IsLater storage.old storage.new }
+    ensures key { IfErr result IsKeySpelled }
 {
     match &entry.credentials {
         Credentials::SourceAccount => Ok(Asked::Proved),

@@ -1,6 +1,6 @@
 //! Nonces: an address uses each of them once.
 
-ghost use Rattle.std.specs.Prelude.{◌≡◌};
+ghost use Rattle.std.specs.Prelude.{◌≡◌, IfErr};
 ghost use Rattle.auth_types.specs.Credentials.{address_credentials_format};
 ghost use Rattle.ledger_types.specs.Entry.{entry_format};
 ghost use Rattle.ledger_spec.specs.LedgerMap.{HasCodeHash};
@@ -9,6 +9,7 @@ ghost use Rattle.call_spec.specs.World.{Write, made_seq};
 ghost use Rattle.call_spec.specs.Accesses.{access};
 ghost use Rattle.call_spec.specs.Asking.{nonce_key, nonce_entry, uses, is_valid_until, uses_nonce};
 ghost use Rattle.call_parts.specs.Steps.{Steps};
+ghost use Rattle.host_ledger.specs.Spelled.{IsKeySpelled};
 
 use crate::errors::{EXPIRED, USED_NONCE};
 use auth_types::AddressCredentials;
@@ -71,6 +72,7 @@ fn make_nonce<G: Ground, W: Watch>(
     ensures does { Steps result (λ u. u) (λ env. access env Write (nonce_key signer.now.address signer.now.nonce)
         (uses (made_seq env) signer.now)) storage.old storage.new budget.old budget.new }
     ensures later { IsLater storage.old storage.new }
+    ensures key { IfErr result IsKeySpelled }
 {
     let entry = nonce_entry(n, signer);
     let size = size_of(&entry);
@@ -97,6 +99,7 @@ pub(crate) fn use_nonce<G: Ground, W: Watch>(
     ensures does { Steps result (λ u. u) (λ env. uses_nonce env signer.now)
         storage.old storage.new budget.old budget.new }
     ensures later { IsLater storage.old storage.new }
+    ensures key { IfErr result IsKeySpelled }
 {
     if is_valid_until(
         n,

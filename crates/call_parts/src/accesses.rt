@@ -10,6 +10,7 @@ ghost use Rattle.call_spec.specs.World.{Read, Write};
 ghost use Rattle.call_spec.specs.Accesses.{access, puts};
 ghost use Rattle.call_spec.specs.Creating.{is_there};
 ghost use Rattle.host_ledger.specs.Accessed.{Accesses};
+ghost use Rattle.host_ledger.specs.Spelled.{IsKeySpelled};
 ghost use Rattle.call_parts.specs.Steps.{Steps};
 
 use crate::charges::pay;
@@ -29,6 +30,7 @@ pub(crate) fn is_there<G: Ground, W: Watch>(
     requires { key_format.fits key }
     ensures does { Accesses result (λ there. there) (λ env. access env Read key is_there) storage.old storage.new }
     ensures read { IsRead storage.old storage.new }
+    ensures key { IfErr result IsKeySpelled }
 {
     match storage.has(&key) {
         Ok(there) => Ok(there),
@@ -61,6 +63,7 @@ pub(crate) fn put<G: Ground, W: Watch>(
     ensures does { Steps result (λ u. u)
         (λ env. access env Write key (puts env entry tt)) storage.old storage.new budget.old budget.new }
     ensures later { IsLater storage.old storage.new }
+    ensures key { IfErr result IsKeySpelled }
 {
     let size = size_of(&entry);
     let again = clone_key(&key)?;

@@ -1,7 +1,7 @@
 //! The codes of contracts.
 
 ghost use mir.Syntax.{named};
-ghost use Rattle.std.specs.Prelude.{◌≡◌, ◌<◌, ◌^◌, [], length, is_some, IfOk};
+ghost use Rattle.std.specs.Prelude.{◌≡◌, ◌<◌, ◌^◌, [], length, is_some, IfOk, IfErr};
 ghost use Rattle.std.specs.Borrow.{sem};
 ghost use Rattle.std.specs.Io.BufRead.{Rests};
 ghost use Rattle.sha2.specs.Sha256.{sha256};
@@ -20,6 +20,7 @@ ghost use Rattle.call_spec.specs.Keys.{code_key, code_entry};
 ghost use Rattle.call_spec.specs.Found.{code_at, code_of_data};
 ghost use Rattle.call_spec.specs.Creating.{is_there, puts_code, uploads};
 ghost use Rattle.host_ledger.specs.Accessed.{named as named_by, Accesses};
+ghost use Rattle.host_ledger.specs.Spelled.{IsKeySpelled};
 ghost use Rattle.call_parts.specs.Entered.{judges_module, judges};
 ghost use Rattle.call_parts.specs.Steps.{Steps, Charges, Returns};
 
@@ -72,7 +73,8 @@ pub fn find_code<'s, G: Ground, W: Watch>(
 
 /// Tests that a code encodes a valid, linked module.
 fn only_module(alloc: Global, code: &[u8]) -> Result<(), HostErr>
-    ensures { Returns result (λ u. u) (only_where (is_some (module_of code.now)) NO_MODULE_ERROR (gives tt)) }
+    ensures does { Returns result (λ u. u) (only_where (is_some (module_of code.now)) NO_MODULE_ERROR (gives tt)) }
+    ensures key { IfErr result IsKeySpelled }
 {
     match load_module(alloc, code) {
         Ok(Some(_)) => Ok(()),
@@ -84,7 +86,8 @@ fn only_module(alloc: Global, code: &[u8]) -> Result<(), HostErr>
 /// Charges for the module of a code, and tests that the code encodes one.
 fn judged_module(alloc: Global, budget: &mut Budget, len: u64, code: &[u8]) -> Result<(), HostErr>
     requires { len ≡ length code.now }
-    ensures { Charges result (λ u. u) (judges_module code.now) budget.old budget.new }
+    ensures does { Charges result (λ u. u) (judges_module code.now) budget.old budget.new }
+    ensures key { IfErr result IsKeySpelled }
 {
     match pay(budget, Kind::VmInstantiation, len) {
         Ok(()) => only_module(alloc, code),
@@ -95,7 +98,8 @@ fn judged_module(alloc: Global, budget: &mut Budget, len: u64, code: &[u8]) -> R
 /// Charges for the hash and the module of a code, and tests that the code encodes one.
 fn judged(alloc: Global, budget: &mut Budget, len: u64, code: &[u8]) -> Result<(), HostErr>
     requires { len ≡ length code.now }
-    ensures { Charges result (λ u. u) (judges code.now) budget.old budget.new }
+    ensures does { Charges result (λ u. u) (judges code.now) budget.old budget.new }
+    ensures key { IfErr result IsKeySpelled }
 {
     match pay(budget, Kind::ComputeSha256Hash, len) {
         Ok(()) => judged_module(alloc, budget, len, code),
@@ -118,6 +122,7 @@ fn put_code<G: Ground, W: Watch>(
     ensures does { Steps result (λ h. h) (λ env. access env Write (code_key hash)
         (puts env (code_entry (made_seq env) hash code.now) hash)) storage.old storage.new budget.old budget.new }
     ensures later { IsLater storage.old storage.new }
+    ensures key { IfErr result IsKeySpelled }
 {
     let entry = code_entry(alloc, n, hash, code)?;
     let key = code_key(hash);
@@ -142,6 +147,7 @@ fn store<G: Ground, W: Watch>(
     ensures does { Steps result (λ h. h) (λ env. after (access env Read (code_key hash) is_there)
         (λ there. puts_code there env hash code.now)) storage.old storage.new budget.old budget.new }
     ensures later { IsLater storage.old storage.new }
+    ensures key { IfErr result IsKeySpelled }
 {
     let key = code_key(hash);
     match is_there(storage, key) {
@@ -164,6 +170,7 @@ pub fn upload<G: Ground, W: Watch>(
     requires number { storage.old.n ≡ n }
     ensures does { Steps result (λ hash. hash) (λ env. uploads env code.now) storage.old storage.new budget.old budget.new }
     ensures later { IsLater storage.old storage.new }
+    ensures key { IfErr result IsKeySpelled }
 {
     let hash = code_hash(code);
     let len = code.len() as u64;

@@ -1,6 +1,6 @@
 //! How a frame's run begins and ends.
 
-ghost use Rattle.std.specs.Prelude.{[], ◌∷◌, IfOk, Some};
+ghost use Rattle.std.specs.Prelude.{[], ◌∷◌, IfOk, Some, IfErr};
 ghost use Rattle.budget_meter.specs.declared.kind.Kind.TheVariants as kinds;
 ghost use Rattle.value_types.specs.Views.{datum, datums};
 ghost use Rattle.host_spec.specs.Hosted.{IsHosted};
@@ -11,6 +11,7 @@ ghost use Rattle.host_frame.specs.Made.{AreMade};
 ghost use Rattle.call_spec.specs.Acts.{gives, paying};
 ghost use Rattle.call_spec.specs.Frames.{paying_pages, returned_value as returned_of};
 ghost use Rattle.call_parts.specs.Steps.{Charges, Shows, Returns};
+ghost use Rattle.host_ledger.specs.Spelled.{IsKeySpelled};
 
 use crate::charges::pay;
 use crate::errors::{HIDDEN_ERROR, INVALID_VALUE};
@@ -27,7 +28,8 @@ const PAGE: u64 = 65_536;
 
 /// Charges for the first pages of a memory, if there is one.
 fn charge_pages(budget: &mut Budget, memories: &[ResizableLimits]) -> Result<(), HostErr>
-    ensures { Charges result (λ u. u) (paying_pages memories.now (gives tt)) budget.old budget.new }
+    ensures does { Charges result (λ u. u) (paying_pages memories.now (gives tt)) budget.old budget.new }
+    ensures key { IfErr result IsKeySpelled }
 {
     match memories {
         [] => Ok(()),
@@ -37,8 +39,9 @@ fn charge_pages(budget: &mut Budget, memories: &[ResizableLimits]) -> Result<(),
 
 /// Charges for the first pages of a module's memory, if it has one, and for a run of one of its functions.
 pub fn charge_run(budget: &mut Budget, module: &Module) -> Result<(), HostErr>
-    ensures { Charges result (λ u. u) (paying_pages «module».now.memories
+    ensures does { Charges result (λ u. u) (paying_pages «module».now.memories
         (paying kinds.InvokeVmFunction 1 (gives tt))) budget.old budget.new }
+    ensures key { IfErr result IsKeySpelled }
 {
     match charge_pages(budget, module.memories.as_slice()) {
         Ok(()) => pay(budget, Kind::InvokeVmFunction, 1),
@@ -58,6 +61,7 @@ pub fn show_args(
     ensures does { Shows result (λ words. words.items) (all_given (datums args.items))
         (shown_of objects.old shown.old) (shown_of objects.new shown.new) budget.old budget.new }
     ensures indices { AreIndices objects.new shown.new }
+    ensures key { IfErr result IsKeySpelled }
 {
     match give_each(objects, shown, budget, args) {
         Ok(words) => Ok(words),
@@ -70,6 +74,7 @@ fn judged(value: ScVal) -> Result<ScVal, HostErr>
     requires { IsHosted (datum value) }
     ensures does { Returns result (λ v. datum v) (returned_of (Some (datum value))) }
     ensures hosted { IfOk result (λ v. IsHosted (datum v)) }
+    ensures key { IfErr result IsKeySpelled }
 {
     match value {
         ScVal::Error(ScError::Contract(code)) => Err(HostErr::Failed(ScError::Contract(code))),
@@ -83,6 +88,7 @@ pub fn returned_value(objects: &Objects, shown: &Shown, word: u64) -> Result<ScV
     requires { AreIndices objects.now shown.now }
     ensures does { Returns result (λ v. datum v) (returned_of (meaning (shown_of objects.now shown.now) word)) }
     ensures hosted { IfOk result (λ v. IsHosted (datum v)) }
+    ensures key { IfErr result IsKeySpelled }
 {
     match objects.take(shown, Val(word)) {
         Ok(value) => judged(value),

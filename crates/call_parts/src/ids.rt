@@ -9,6 +9,7 @@ ghost use Rattle.call_spec.specs.World.{Env};
 ghost use Rattle.call_spec.specs.Acts.{gives};
 ghost use Rattle.call_spec.specs.Creating.{paying_id};
 ghost use Rattle.call_parts.specs.Steps.{Charges};
+ghost use Rattle.host_ledger.specs.Spelled.{IsKeySpelled};
 
 use crate::charges::pay;
 use crate::entries::hold_hash;
@@ -73,9 +74,10 @@ pub fn new_id(
     deployer: ScAddress,
     salt: Hash,
 ) -> Result<Hash, HostErr>
-    ensures { (env : Env) → env.header.network_id ≡ network.now
+    ensures does { (env : Env) → env.header.network_id ≡ network.now
         → Charges result (λ id. id) (paying_id env (FromAddress deployer salt)
         (gives (contract_id_of network.now (FromAddress deployer salt)))) budget.old budget.new }
+    ensures key { IfErr result IsKeySpelled }
 {
     let len = payload_len(network, deployer, salt);
     match pay(budget, Kind::ComputeSha256Hash, len) {

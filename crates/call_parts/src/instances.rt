@@ -19,6 +19,7 @@ ghost use Rattle.call_spec.specs.Found.{instance_at, instance_in, instance_of_da
 ghost use Rattle.call_spec.specs.Frames.{is_same as is_same_copy};
 ghost use Rattle.call_spec.specs.Creating.{makes_instance};
 ghost use Rattle.host_ledger.specs.Worlds.{IsHeld, copied};
+ghost use Rattle.host_ledger.specs.Spelled.{IsKeySpelled};
 ghost use Rattle.call_parts.specs.Entered.{IsTested, IsEntered, opens_instance};
 ghost use Rattle.call_parts.specs.Steps.{Steps, Charges, Returns};
 
@@ -62,7 +63,8 @@ fn clone_storage(storage: &Option<Entries>) -> Result<Option<Entries>, HostErr>
 #[tactic(auto, using(crate::proofs::InstanceLaws::entry_ends))]
 fn test_entry(value: &ScVal) -> Result<(), HostErr>
     requires { IsBounded (datum value.now) }
-    ensures { IsTested result (datum value.now) }
+    ensures does { IsTested result (datum value.now) }
+    ensures key { IfErr result IsKeySpelled }
 {
     match entry(value) {
         Ok(()) => Ok(()),
@@ -84,7 +86,8 @@ fn take_entries(map: &mut ScVal) -> Option<Entries>
 fn entered(entries: Entries) -> Result<Option<Entries>, HostErr>
     requires bounded { IsBounded (map_datum (members_of entries)) }
     requires shallow { depth_of (map_datum (members_of entries)) ≤ 100 }
-    ensures { IsEntered result entries (entry (map_datum (members_of entries))) }
+    ensures does { IsEntered result entries (entry (map_datum (members_of entries))) }
+    ensures key { IfErr result IsKeySpelled }
 {
     let mut map = ScVal::Map(Some(entries));
     match test_entry(&map) {
@@ -100,6 +103,7 @@ fn entered_copy(code: Hash, entries: &Entries) -> Result<InstanceCopy, HostErr>
     ensures does { (key : LedgerKeyData) → Returns result copied
         (effected key (with_entered code (members_of entries.now) (entry (map_datum (members_of entries.now))))) }
     ensures held { IfOk result (λ copy. IsHeld copy.storage) }
+    ensures key { IfErr result IsKeySpelled }
 {
     let copy = clone_entries(entries)?;
     match entered(copy) {
@@ -114,6 +118,7 @@ fn instance_in(val: &ScVal) -> Result<InstanceCopy, HostErr>
     requires shallow { depth_of (datum val.now) ≤ 100 }
     ensures does { (key : LedgerKeyData) → Returns result copied (effected key (instance_in (datum val.now))) }
     ensures held { IfOk result (λ copy. IsHeld copy.storage) }
+    ensures key { IfErr result IsKeySpelled }
 {
     match val {
         ScVal::ContractInstance(instance) => match instance.executable {
@@ -135,6 +140,7 @@ fn instance_of(found: &LedgerEntry) -> Result<InstanceCopy, HostErr>
     requires { entry_format.fits found.now }
     ensures does { (key : LedgerKeyData) → Returns result copied (effected key (instance_of_data found.now.data)) }
     ensures held { IfOk result (λ copy. IsHeld copy.storage) }
+    ensures key { IfErr result IsKeySpelled }
 {
     match &found.data {
         LedgerEntryData::ContractCode(_) => Err(NO_INSTANCE),
@@ -147,6 +153,7 @@ fn opened(budget: &mut Budget, found: &LedgerEntry) -> Result<InstanceCopy, Host
     requires { entry_format.fits found.now }
     ensures does { (key : LedgerKeyData) → Charges result copied (effected key (opens_instance found.now)) budget.old budget.new }
     ensures held { IfOk result (λ copy. IsHeld copy.storage) }
+    ensures key { IfErr result IsKeySpelled }
 {
     match pay(budget, Kind::ValDeser, size_of(found)) {
         Ok(()) => instance_of(found),
@@ -155,6 +162,7 @@ fn opened(budget: &mut Budget, found: &LedgerEntry) -> Result<InstanceCopy, Host
 }
 
 /// Finds the instance of a contract, and copies its storage.
+#[tactic(auto, using(host_ledger::proofs::Lemmas::access_spelled))]
 pub fn find_instance<G: Ground, W: Watch>(
     storage: &mut Storage<'_, G, W>,
     budget: &mut Budget,
@@ -163,6 +171,7 @@ pub fn find_instance<G: Ground, W: Watch>(
     ensures does { Steps result copied (λ env. instance_at env contract) storage.old storage.new budget.old budget.new }
     ensures held { IfOk result (λ copy. IsHeld copy.storage) }
     ensures read { IsRead storage.old storage.new }
+    ensures key { IfErr result IsKeySpelled }
 {
     let key = instance_key(contract);
     match storage.get(&key) {
@@ -241,6 +250,7 @@ pub fn write_instance<G: Ground, W: Watch>(
         (puts env (instance_entry (made_seq env) contract (copied copy.now)) tt))
         storage.old storage.new budget.old budget.new }
     ensures later { IsLater storage.old storage.new }
+    ensures key { IfErr result IsKeySpelled }
 {
     let storage_copy = clone_storage(&copy.storage)?;
     let entry = instance_entry(n, contract, copy.code, storage_copy);
@@ -249,6 +259,7 @@ pub fn write_instance<G: Ground, W: Watch>(
 }
 
 /// Makes the instance of a new contract in ledger `n`, with null storage, unless the contract exists.
+#[tactic(auto, using(host_ledger::proofs::Lemmas::access_spelled))]
 pub fn make_instance<G: Ground, W: Watch>(
     storage: &mut Storage<'_, G, W>,
     budget: &mut Budget,
@@ -263,6 +274,7 @@ pub fn make_instance<G: Ground, W: Watch>(
     ensures does { Steps result (λ u. u) (λ env. access env Write (instance_key contract)
         (makes_instance env contract code)) storage.old storage.new budget.old budget.new }
     ensures later { IsLater storage.old storage.new }
+    ensures key { IfErr result IsKeySpelled }
 {
     let entry = instance_entry(n, contract, code, None);
     let size = size_of(&entry);

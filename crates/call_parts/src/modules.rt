@@ -9,6 +9,7 @@ ghost use Rattle.call_spec.specs.Acts.{after, gives, paying};
 ghost use Rattle.call_spec.specs.Found.{code_at, with_module};
 ghost use Rattle.call_parts.specs.Steps.{Steps, Charges, Returns};
 ghost use Rattle.call_parts.specs.Started.{IsStarted};
+ghost use Rattle.host_ledger.specs.Spelled.{IsKeySpelled};
 
 use crate::charges::pay;
 use crate::codes::find_code;
@@ -55,7 +56,8 @@ pub fn cached_module<'c>(
 
 /// The module, if there is one.
 fn linked<'c>(module: Option<HeldModule<'c>>) -> Result<HeldModule<'c>, HostErr>
-    ensures { Returns result (λ m. m) (with_module «module».entry (λ m. gives m)) }
+    ensures does { Returns result (λ m. m) (with_module «module».entry (λ m. gives m)) }
+    ensures key { IfErr result IsKeySpelled }
 {
     match module {
         Some(module) => Ok(module),
@@ -69,8 +71,9 @@ pub fn paid_module<'c>(
     len: u64,
     module: Option<HeldModule<'c>>,
 ) -> Result<HeldModule<'c>, HostErr>
-    ensures { Charges result (λ m. m) (paying kinds.VmInstantiation len
+    ensures does { Charges result (λ m. m) (paying kinds.VmInstantiation len
         (with_module «module».entry (λ m. gives m))) budget.old budget.new }
+    ensures key { IfErr result IsKeySpelled }
 {
     match pay(budget, Kind::VmInstantiation, len) {
         Ok(()) => linked(module),
@@ -85,7 +88,8 @@ fn found<'c>(
     hash: Hash,
     code: &[u8],
 ) -> Result<HeldModule<'c>, HostErr>
-    ensures { Returns result (λ m. m) (with_module (module_of code.now) (λ m. gives m)) }
+    ensures does { Returns result (λ m. m) (with_module (module_of code.now) (λ m. gives m)) }
+    ensures key { IfErr result IsKeySpelled }
 {
     match cached_module(alloc, codes, hash, code) {
         Ok(module) => linked(module),
@@ -101,8 +105,9 @@ fn read_module<'c>(
     hash: Hash,
     code: &[u8],
 ) -> Result<HeldModule<'c>, HostErr>
-    ensures { Charges result (λ m. m) (paying kinds.VmInstantiation (length code.now)
+    ensures does { Charges result (λ m. m) (paying kinds.VmInstantiation (length code.now)
         (with_module (module_of code.now) (λ m. gives m))) budget.old budget.new }
+    ensures key { IfErr result IsKeySpelled }
 {
     match pay(budget, Kind::VmInstantiation, code.len() as u64) {
         Ok(()) => found(alloc, codes, hash, code),
@@ -112,6 +117,7 @@ fn read_module<'c>(
 
 /// Finds the code with a hash, and its module. The charge comes before the code is read, and is the same if the cache has the
 /// module.
+#[tactic(auto, using(host_ledger::proofs::Lemmas::access_spelled))]
 pub fn call_module<'c, G: Ground, W: Watch>(
     alloc: Global,
     storage: &mut Storage<'_, G, W>,
@@ -123,6 +129,7 @@ pub fn call_module<'c, G: Ground, W: Watch>(
         (λ code. paying kinds.VmInstantiation (length code) (with_module (module_of code) (λ m. gives m))))
         storage.old storage.new budget.old budget.new }
     ensures read { IsRead storage.old storage.new }
+    ensures key { IfErr result IsKeySpelled }
 {
     match find_code(storage, hash) {
         Ok(code) => read_module(alloc, budget, codes, hash, code),
@@ -137,7 +144,8 @@ pub fn start_instance<'m>(
     function: &[u8],
     arity: usize,
 ) -> Result<Instance<'m>, HostErr>
-    ensures { IsStarted «module».now function.now arity result }
+    ensures does { IsStarted «module».now function.now arity result }
+    ensures key { IfErr result IsKeySpelled }
 {
     match Instance::new(alloc, module.valid(), function, arity) {
         Ok(instance) => Ok(instance),

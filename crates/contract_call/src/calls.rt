@@ -1,6 +1,6 @@
 //! Calls of contracts, nested over suspended instances.
 
-ghost use Rattle.std.specs.Prelude.{◌≡◌, ℕ, [], ◌∷◌, length, slice_get, IfOk, Err};
+ghost use Rattle.std.specs.Prelude.{◌≡◌, ℕ, [], ◌∷◌, length, slice_get, IfOk, Err, IfErr};
 ghost use Rattle.host_spec.specs.declared.error.HostErr.TheVariants as ends;
 ghost use Rattle.value_types.specs.Views.{datum, datums};
 ghost use Rattle.host_spec.specs.Hosted.{IsHosted, AreHosted};
@@ -23,6 +23,7 @@ ghost use Rattle.call_spec.specs.Frames.{Entered, framed, started, finished, run
 ghost use Rattle.call_spec.specs.Found.{with_start};
 ghost use Rattle.call_spec.specs.HostFunctions.{host_of, host_function, opener_of};
 ghost use Rattle.host_ledger.specs.Worlds.{address_of, IsHeld, copied};
+ghost use Rattle.host_ledger.specs.Spelled.{IsKeySpelled};
 ghost use Rattle.std.specs.Option.{option_map};
 ghost use Rattle.contract_call.specs.Worlds.{DoesAround, DoesIn, RunsIn, Stays, MayRun};
 ghost use Rattle.contract_call.specs.Creations.{creation_of, AreArgsHosted};
@@ -82,6 +83,7 @@ pub(crate) fn call<G: Ground, A: Authority, W: Watch>(
         (λ env. calls_if (may_name_in call.entry) env (opener_of env room) (call_of call.entry)) host.old host.new }
     ensures hosted { IfOk result (λ value. IsHosted (datum value)) }
     ensures stays { Stays host.old host.new }
+    ensures key { IfErr result IsKeySpelled }
 {
     tell_called(host, &call);
     let result = call_counted(host, room, call);
@@ -103,6 +105,7 @@ fn call_counted<G: Ground, A: Authority, W: Watch>(
         (λ env. calls_if (may_name_in call.entry) env (opener_of env room) (call_of call.entry)) host.old host.new }
     ensures hosted { IfOk result (λ value. IsHosted (datum value)) }
     ensures stays { Stays host.old host.new }
+    ensures key { IfErr result IsKeySpelled }
 {
     match host.begin() {
         Ok(path) => call_below(host, room, path, call),
@@ -125,6 +128,7 @@ fn call_below<G: Ground, A: Authority, W: Watch>(
         (λ env. call_at (may_name_in call.entry) env (opener_of env room) (call_of call.entry) path.items) host.old host.new }
     ensures hosted { IfOk result (λ value. IsHosted (datum value)) }
     ensures stays { Stays host.old host.new }
+    ensures key { IfErr result IsKeySpelled }
 {
     if room == 0 {
         return Err(TOO_MANY_FRAMES);
@@ -154,6 +158,7 @@ fn call_target<G: Ground, A: Authority, W: Watch>(
         (target found.entry)) host.old host.new }
     ensures hosted { IfOk result (λ value. IsHosted (datum value)) }
     ensures stays { Stays host.old host.new }
+    ensures key { IfErr result IsKeySpelled }
 {
     let alloc = host.allocator();
     let Target {
@@ -191,6 +196,7 @@ fn enter<G: Ground, A: Authority, W: Watch>(
         (entered frame place.function.items (datums args.items) place.path.items «module».now index store))) host.old host.new }
     ensures hosted { IfOk result (λ value. IsHosted (datum value)) }
     ensures stays { Stays host.old host.new }
+    ensures key { IfErr result IsKeySpelled }
 {
     let alloc = host.allocator();
     match start_instance(alloc, module, place.function.as_slice(), args.len()) {
@@ -222,6 +228,7 @@ fn open<G: Ground, A: Authority, W: Watch>(
         (entered frame place.function.items (datums args.items) place.path.items «module».now index store)) host.old host.new }
     ensures hosted { IfOk result (λ value. IsHosted (datum value)) }
     ensures stays { Stays host.old host.new }
+    ensures key { IfErr result IsKeySpelled }
 {
     match clone_copy(&frame.copy) {
         Ok(first) => match host.open_frame(frame, place) {
@@ -255,6 +262,7 @@ fn inside<G: Ground, A: Authority, W: Watch>(
         (λ env. after (started (host_of env (opener_of env room) «module».now) e) (finished env)) host.old host.new }
     ensures hosted { IfOk result (λ value. IsHosted (datum value)) }
     ensures stays { StaysIn host.old host.new }
+    ensures key { IfErr result IsKeySpelled }
 {
     match begin(host, module, args) {
         Ok(words) => {
@@ -285,6 +293,7 @@ fn run<G: Ground, A: Authority, W: Watch>(
         → RunsIn result (λ word. word) (λ env. with_world (λ w. w.meter)
         (λ meter. runs (host_of env (opener_of env room) «module».now) (go meter))) host.old host.new }
     ensures stays { StaysIn host.old host.new }
+    ensures key { IfErr result IsKeySpelled }
 {
     let mut instance = instance;
     loop {
@@ -322,6 +331,7 @@ fn answer<G: Ground, A: Authority, W: Watch>(
         (λ env. host_function env (opener_of env room) «import» words.now) host.old host.new }
     ensures size { length memory.new ≡ length memory.old }
     ensures stays { StaysIn host.old host.new }
+    ensures key { IfErr result IsKeySpelled }
 {
     match part_of(import) {
         Part::Values => value_answer(host, import, words, memory),
@@ -372,6 +382,7 @@ fn call_row<G: Ground, A: Authority, W: Watch>(
         (call_in env (opener_of env room)) words.now) host.old host.new }
     ensures made { IsMadeIfOk result }
     ensures stays { StaysIn host.old host.new }
+    ensures key { IfErr result IsKeySpelled }
 {
     match call_words(host, words) {
         Ok(
@@ -413,6 +424,7 @@ fn try_row<G: Ground, A: Authority, W: Watch>(
         (try_in env (opener_of env room)) words.now) host.old host.new }
     ensures made { IsMadeIfOk result }
     ensures stays { StaysIn host.old host.new }
+    ensures key { IfErr result IsKeySpelled }
 {
     match call_words(host, words) {
         Ok(
@@ -456,6 +468,7 @@ fn create_row<G: Ground, A: Authority, W: Watch>(
         (create_contract env (opener_of env room)) words.now) host.old host.new }
     ensures made { IsMadeIfOk result }
     ensures stays { StaysIn host.old host.new }
+    ensures key { IfErr result IsKeySpelled }
 {
     match create_words(host, words) {
         Ok(contract) => create_here(host, room, contract),
@@ -478,6 +491,7 @@ fn construct_row<G: Ground, A: Authority, W: Watch>(
         (create_contract_with_constructor env (opener_of env room)) words.now) host.old host.new }
     ensures made { IsMadeIfOk result }
     ensures stays { StaysIn host.old host.new }
+    ensures key { IfErr result IsKeySpelled }
 {
     match construct_words(host, words) {
         Ok(contract) => create_here(host, room, contract),
@@ -499,6 +513,7 @@ fn create_here<G: Ground, A: Authority, W: Watch>(
         (λ env. creates_here env (opener_of env room) (creation_of contract)) host.old host.new }
     ensures made { IsMadeIfOk result }
     ensures stays { StaysIn host.old host.new }
+    ensures key { IfErr result IsKeySpelled }
 {
     let creator = Some(host.ledger.frame.contract);
     let made = create(host, room, creator, contract);
@@ -519,6 +534,7 @@ pub(crate) fn create<G: Ground, A: Authority, W: Watch>(
     ensures does { DoesAround result (λ id. id)
         (λ env. creates env (opener_of env room) (option_map address_of creator) (creation_of contract)) host.old host.new }
     ensures stays { Stays host.old host.new }
+    ensures key { IfErr result IsKeySpelled }
 {
     match host.begin() {
         Ok(path) => create_below(host, room, path, creator, contract),
@@ -543,6 +559,7 @@ fn create_below<G: Ground, A: Authority, W: Watch>(
         (λ env. creates_at env (opener_of env room) (option_map address_of creator)
         (creation_of contract) path.items) host.old host.new }
     ensures stays { Stays host.old host.new }
+    ensures key { IfErr result IsKeySpelled }
 {
     match authorise(host, room, path.as_slice(), creator, &contract) {
         Ok(id) => build(host, room, path, creator, id, contract),
@@ -566,6 +583,7 @@ fn authorise<G: Ground, A: Authority, W: Watch>(
         (λ env. authorising env (opener_of env room) (option_map address_of creator)
         (creation_of contract.now) path.now) host.old host.new }
     ensures stays { Stays host.old host.new }
+    ensures key { IfErr result IsKeySpelled }
 {
     match paid_id(host, contract) {
         Ok(id) => match create_function(host.allocator(), contract) {
@@ -601,6 +619,7 @@ fn build<G: Ground, A: Authority, W: Watch>(
         (λ env. builds_with env (opener_of env room) (option_map address_of creator)
         (creation_of contract) path.items id) host.old host.new }
     ensures stays { Stays host.old host.new }
+    ensures key { IfErr result IsKeySpelled }
 {
     match made(host, id, contract.code) {
         Ok(module) => construct(host, room, path, creator, id, module.linked(), contract),
@@ -626,6 +645,7 @@ fn construct<G: Ground, A: Authority, W: Watch>(
         (λ env. constructing (opener_of env room) (option_map address_of creator) id
         (creation_of contract) path.items «module».now) host.old host.new }
     ensures stays { Stays host.old host.new }
+    ensures key { IfErr result IsKeySpelled }
 {
     let args = given_args(host.allocator(), contract.args);
     if !has_constructor(module) {
@@ -662,6 +682,7 @@ fn auth_row<G: Ground, A: Authority, W: Watch>(
         (λ env. answered (kinds.Address ∷ []) (require_auth env (opener_of env room)) words.now) host.old host.new }
     ensures made { IsMadeIfOk result }
     ensures stays { StaysIn host.old host.new }
+    ensures key { IfErr result IsKeySpelled }
 {
     match auth_words(host, words) {
         Ok(address) => match own_call(host) {
@@ -687,6 +708,7 @@ fn auth_for_args_row<G: Ground, A: Authority, W: Watch>(
         (require_auth_for_args env (opener_of env room)) words.now) host.old host.new }
     ensures made { IsMadeIfOk result }
     ensures stays { StaysIn host.old host.new }
+    ensures key { IfErr result IsKeySpelled }
 {
     match auth_for_args_words(host, words) {
         Ok(AuthArgs { address, args }) => match call_with(host, args) {
@@ -711,6 +733,7 @@ fn demand_here<G: Ground, A: Authority, W: Watch>(
         (λ env. requires_here env (opener_of env room) address function) host.old host.new }
     ensures made { IsMadeIfOk result }
     ensures stays { StaysIn host.old host.new }
+    ensures key { IfErr result IsKeySpelled }
 {
     let caller = contract_address(host.ledger.frame.caller);
     let path = host.place.path.as_slice();
@@ -732,6 +755,7 @@ fn settle<G: Ground, A: Authority, W: Watch>(
     ensures does { DoesAround result (λ u. u) (λ env. settled env (opener_of env room) met) host.old host.new }
     ensures memory { met ≡ Demand.NoMemory → result ≡ Err ends.NoMemory }
     ensures stays { Stays host.old host.new }
+    ensures key { IfErr result IsKeySpelled }
 {
     match met {
         Demand::ByInvoker => Ok(()),
@@ -755,6 +779,7 @@ fn prove<G: Ground, A: Authority, W: Watch>(
     ensures does { DoesAround result (λ u. u)
         (λ env. proves_entry env (opener_of env room) (slice_get env.authority.entries entry)) host.old host.new }
     ensures stays { Stays host.old host.new }
+    ensures key { IfErr result IsKeySpelled }
 {
     match ask_entry(host, entry) {
         Ok(Asked::Proved) => Ok(()),
@@ -777,6 +802,7 @@ fn check<G: Ground, A: Authority, W: Watch>(
     ensures does { DoesAround result (λ u. u)
         (λ env. asks_then env (opener_of env room) (by_contract contract (datums args.items))) host.old host.new }
     ensures stays { Stays host.old host.new }
+    ensures key { IfErr result IsKeySpelled }
 {
     let returned = call(
         host,

@@ -16,6 +16,7 @@ ghost use Rattle.call_spec.specs.World.{Env};
 ghost use Rattle.call_spec.specs.Creating.{function_of, CONSTRUCTOR};
 ghost use Rattle.host_ledger.specs.Accessed.{Accesses};
 ghost use Rattle.host_ledger.specs.Worlds.{IsReady};
+ghost use Rattle.host_ledger.specs.Spelled.{IsKeySpelled};
 ghost use Rattle.call_parts.specs.Steps.{Steps, Charges};
 ghost use Rattle.contract_call.specs.Worlds.{DoesAround, MayRun, Stays};
 ghost use Rattle.contract_call.specs.Creations.{creation_of, args_of, items_of, AreArgsHosted};
@@ -58,6 +59,7 @@ fn paid_id_in<G: Ground, W: Watch>(
     ensures does { (env : Env) → env.header ≡ ledger.old.header.now
         → Charges result (λ id. id) (identifying env (creation_of contract.now)) ledger.old.budget ledger.new.budget }
     ensures kept { ledger.new ≡ record ledger.old { budget = ledger.new.budget } }
+    ensures key { IfErr result IsKeySpelled }
 {
     new_id(
         ledger.objects.allocator(),
@@ -76,6 +78,7 @@ pub(crate) fn paid_id<G: Ground, A: Authority, W: Watch>(
     requires ready { MayRun host.old }
     ensures does { DoesAround result (λ id. id) (λ env. identifying env (creation_of contract.now)) host.old host.new }
     ensures stays { Stays host.old host.new }
+    ensures key { IfErr result IsKeySpelled }
 {
     paid_id_in(&mut host.ledger, contract)
 }
@@ -128,6 +131,7 @@ pub(crate) fn create_function(alloc: Global, contract: &NewContract) -> Result<F
 }
 
 /// Finds the code with a hash, and its module.
+#[tactic(auto, using(host_ledger::proofs::Lemmas::access_spelled))]
 fn sized_code<'c, G: Ground, W: Watch>(
     alloc: Global,
     storage: &mut Storage<'_, G, W>,
@@ -136,6 +140,7 @@ fn sized_code<'c, G: Ground, W: Watch>(
 ) -> Result<SizedCode<'c>, HostErr>
     ensures does { Accesses result sized (λ env. code_of env hash) storage.old storage.new }
     ensures read { IsRead storage.old storage.new }
+    ensures key { IfErr result IsKeySpelled }
 {
     match find_code(storage, hash) {
         Err(error) => Err(end_of(code_key(hash), error)),
@@ -166,6 +171,7 @@ fn instantiate<'c, G: Ground, W: Watch>(
     ensures does { Steps result (λ m. m)
         (λ env. instantiating env id hash (length, «module».entry)) storage.old storage.new budget.old budget.new }
     ensures later { IsLater storage.old storage.new }
+    ensures key { IfErr result IsKeySpelled }
 {
     match make_instance(storage, budget, n, settings, id, hash) {
         Err(error) => Err(error),
@@ -189,6 +195,7 @@ fn build<'c, G: Ground, W: Watch>(
     requires bounds { HasBounds n settings.now }
     ensures does { Steps result (λ m. m) (λ env. building env id hash) storage.old storage.new budget.old budget.new }
     ensures later { IsLater storage.old storage.new }
+    ensures key { IfErr result IsKeySpelled }
 {
     match sized_code(alloc, storage, codes, hash) {
         Err(error) => Err(error),
@@ -210,6 +217,7 @@ fn build_in<'c, G: Ground, W: Watch>(
         (λ env. building env id code) ledger.old.storage ledger.new.storage ledger.old.budget ledger.new.budget }
     ensures later { IsLater ledger.old.storage ledger.new.storage }
     ensures kept { ledger.new ≡ record ledger.old { storage = ledger.new.storage; budget = ledger.new.budget } }
+    ensures key { IfErr result IsKeySpelled }
 {
     let n = made_seq(ledger.header);
     build(
@@ -233,6 +241,7 @@ pub(crate) fn made<'c, G: Ground, A: Authority, W: Watch>(
     requires ready { MayRun host.old }
     ensures does { DoesAround result (λ m. m) (λ env. building env id code) host.old host.new }
     ensures stays { Stays host.old host.new }
+    ensures key { IfErr result IsKeySpelled }
 {
     build_in(&mut host.ledger, host.codes, id, code)
 }
@@ -273,7 +282,8 @@ pub(crate) fn has_constructor(module: &LinkedModule) -> bool
 
 /// The id of a contract without a constructor, if there are no arguments.
 pub(crate) fn unless_args(id: Hash, args: Vec<ScVal>) -> Result<Hash, HostErr>
-    ensures { result ≡ unless_given (length (datums args.items) == 0) id }
+    ensures does { result ≡ unless_given (length (datums args.items) == 0) id }
+    ensures key { IfErr result IsKeySpelled }
 {
     if args.is_empty() {
         Ok(id)
@@ -284,7 +294,8 @@ pub(crate) fn unless_args(id: Hash, args: Vec<ScVal>) -> Result<Hash, HostErr>
 
 /// The id of a contract whose constructor was called, if the constructor returned Void.
 pub(crate) fn constructed(id: Hash, returned: Result<ScVal, HostErr>) -> Result<Hash, HostErr>
-    ensures { IsConstructed returned id result }
+    ensures does { IsConstructed returned id result }
+    ensures key { IfErr returned IsKeySpelled → IfErr result IsKeySpelled }
 {
     match returned {
         Err(error) => Err(error),
@@ -305,7 +316,8 @@ fn address_answer(contract: Hash) -> Answer
 /// A value as an answer.
 pub(crate) fn valued(made: Result<ScVal, HostErr>) -> Result<Answer, HostErr>
     requires { IfOk made (λ v. IsHosted (datum v)) }
-    ensures { IsValued made datum result }
+    ensures does { IsValued made datum result }
+    ensures key { IfErr made IsKeySpelled → IfErr result IsKeySpelled }
 {
     match made {
         Err(error) => Err(error),
@@ -315,7 +327,8 @@ pub(crate) fn valued(made: Result<ScVal, HostErr>) -> Result<Answer, HostErr>
 
 /// The address of a contract that was made, as an answer.
 pub(crate) fn addressed(made: Result<Hash, HostErr>) -> Result<Answer, HostErr>
-    ensures { IsValued made (λ id. address_datum (addresses.Contract id)) result }
+    ensures does { IsValued made (λ id. address_datum (addresses.Contract id)) result }
+    ensures key { IfErr made IsKeySpelled → IfErr result IsKeySpelled }
 {
     match made {
         Err(error) => Err(error),

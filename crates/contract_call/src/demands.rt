@@ -11,6 +11,7 @@ ghost use Rattle.call_spec.specs.World.{World, Env};
 ghost use Rattle.call_spec.specs.Outcomes.{Says};
 ghost use Rattle.host_ledger.specs.Traced.{leaving};
 ghost use Rattle.host_ledger.specs.Worlds.{address_of, IsEnv, IsReady};
+ghost use Rattle.host_ledger.specs.Spelled.{IsKeySpelled};
 ghost use Rattle.auth_parts.specs.Asked.{asks_first};
 ghost use Rattle.auth_parts.specs.Views.{asked, IsAskedHosted};
 ghost use Rattle.contract_call.specs.Made.{IsValued};
@@ -95,6 +96,7 @@ fn ask_in<G: Ground, W: Watch>(
     ensures hosted { IfOk result IsAskedHosted }
     ensures later { IsLater ledger.old.storage ledger.new.storage }
     ensures kept { ledger.new ≡ record ledger.old { storage = ledger.new.storage; budget = ledger.new.budget } }
+    ensures key { IfErr result IsKeySpelled }
 {
     ask(
         ledger.objects.allocator(),
@@ -115,6 +117,7 @@ pub(crate) fn ask_entry<G: Ground, A: Authority, W: Watch>(
     ensures does { DoesAround result asked (λ env. asks_at env (slice_get env.authority.entries index)) host.old host.new }
     ensures hosted { IfOk result IsAskedHosted }
     ensures stays { Stays host.old host.new }
+    ensures key { IfErr result IsKeySpelled }
 {
     match host.marks.entry(index) {
         Some(entry) => ask_in(&mut host.ledger, host.verdicts, entry),
@@ -124,7 +127,8 @@ pub(crate) fn ask_entry<G: Ground, A: Authority, W: Watch>(
 
 /// Void, if a demand was met.
 pub(crate) fn authorised(met: Result<(), HostErr>) -> Result<Answer, HostErr>
-    ensures { IsValued met (λ _. void) result }
+    ensures does { IsValued met (λ _. void) result }
+    ensures key { IfErr met IsKeySpelled → IfErr result IsKeySpelled }
 {
     match met {
         Ok(()) => Ok(Answer::void()),
@@ -134,7 +138,8 @@ pub(crate) fn authorised(met: Result<(), HostErr>) -> Result<Answer, HostErr>
 
 /// The id of a new contract, if its deployer authorised the create.
 pub(crate) fn granted(met: Result<(), HostErr>, id: Hash) -> Result<Hash, HostErr>
-    ensures { result ≡ granted_to met id }
+    ensures does { result ≡ granted_to met id }
+    ensures key { IfErr met IsKeySpelled → IfErr result IsKeySpelled }
 {
     match met {
         Ok(()) => Ok(id),
@@ -145,7 +150,8 @@ pub(crate) fn granted(met: Result<(), HostErr>, id: Hash) -> Result<Hash, HostEr
 /// What the function that checks an authorisation decides: it returns Void if the authorisation is good. Any failure is one of
 /// authorisation.
 pub(crate) fn checked(returned: Result<ScVal, HostErr>) -> Result<(), HostErr>
-    ensures { result ≡ checked_by returned }
+    ensures does { result ≡ checked_by returned }
+    ensures key { IfErr returned IsKeySpelled → IfErr result IsKeySpelled }
 {
     match returned {
         Ok(ScVal::Void) => Ok(()),

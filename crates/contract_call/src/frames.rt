@@ -1,6 +1,6 @@
 //! How a frame's run begins and ends, apart from the run of its code.
 
-ghost use Rattle.std.specs.Prelude.{◌≡◌, length, IfOk, not};
+ghost use Rattle.std.specs.Prelude.{◌≡◌, length, IfOk, not, IfErr};
 ghost use Rattle.value_types.specs.Views.{datum, datums};
 ghost use Rattle.host_spec.specs.Hosted.{IsHosted};
 ghost use Rattle.host_frame.specs.Made.{AreMade};
@@ -11,6 +11,7 @@ ghost use Rattle.call_spec.specs.Frames.{is_same as is_same_copy, writes_if, wri
 ghost use Rattle.call_spec.specs.Outcomes.{quiet, Says};
 ghost use Rattle.host_ledger.specs.Traced.{leaving};
 ghost use Rattle.host_ledger.specs.Worlds.{Serves, IsHeld, copied};
+ghost use Rattle.host_ledger.specs.Spelled.{IsKeySpelled};
 ghost use Rattle.contract_call.specs.Framed.{argument_words};
 
 use budget_meter::Budget;
@@ -42,6 +43,7 @@ pub(crate) fn argument_words(
         })) }
     ensures count { IfOk result (λ words. length words.items ≡ length (datums args.items)) }
     ensures indices { AreIndices objects.new shown.new }
+    ensures key { IfErr result IsKeySpelled }
 {
     match charge_run(budget, module) {
         Ok(()) => show_args(objects, shown, budget, args),
@@ -66,6 +68,7 @@ fn write_if_changed<G: Ground, W: Watch>(
         (leaving storage.old storage.new w.trace
         (λ trace. record w { entries = storage.new.map; trace = trace; meter = budget.new })) }
     ensures later { IsLater storage.old storage.new }
+    ensures key { IfErr result IsKeySpelled }
 {
     if is_same(first, copy) {
         return Ok(());
@@ -94,6 +97,7 @@ pub(crate) fn finish<G: Ground, W: Watch>(
         (λ trace. record w { entries = storage.new.map; trace = trace; meter = budget.new })) }
     ensures hosted { IfOk result (λ value. IsHosted (datum value)) }
     ensures later { IsLater storage.old storage.new }
+    ensures key { IfErr result IsKeySpelled }
 {
     let value = returned_value(objects, &frame.shown, word)?;
     write_if_changed(storage, budget, n, frame.contract, first, &frame.copy)?;

@@ -24,6 +24,7 @@ ghost use Rattle.host_ledger.specs.Accessed.{Runs};
 ghost use Rattle.host_ledger.specs.Answered.{Answers, IsMadeIfOk};
 ghost use Rattle.host_ledger.specs.Called.{is_over_ledger};
 ghost use Rattle.host_ledger.specs.Worlds.{address_of, world_at, IsReady};
+ghost use Rattle.host_ledger.specs.Spelled.{IsKeySpelled};
 ghost use Rattle.host_values.specs.Called.{IsValueCall};
 ghost use Rattle.call_parts.specs.Steps.{Steps};
 ghost use Rattle.contract_call.specs.Worlds.{with_memory, DoesIn, MayRun};
@@ -64,6 +65,7 @@ fn value_in<G: Ground, W: Watch>(
           budget = ledger.new.budget;
           frame = record ledger.old.frame { shown = ledger.new.frame.shown };
         } }
+    ensures key { IfErr result IsKeySpelled }
 {
     match call_function(
         &mut ledger.objects,
@@ -92,6 +94,7 @@ pub(crate) fn value_answer<G: Ground, A: Authority, W: Watch>(
     ensures does { (opener : Opener) → DoesOver memory.old memory.new result (λ word. word)
         (λ env. host_function env opener «import» words.now) host.old host.new }
     ensures stays { StaysIn host.old host.new }
+    ensures key { IfErr result IsKeySpelled }
 {
     value_in(&mut host.ledger, import, words, memory)
 }
@@ -108,6 +111,7 @@ pub(crate) fn ledger_answer<G: Ground, A: Authority, W: Watch>(
     ensures does { (opener : Opener) → DoesIn result (λ word. word)
         (λ env. host_function env opener «import» words.now) host.old host.new }
     ensures stays { StaysIn host.old host.new }
+    ensures key { IfErr result IsKeySpelled }
 {
     host_ledger::call_function(&mut host.ledger, import, words)
 }
@@ -129,6 +133,7 @@ fn show<G: Ground, W: Watch>(
           budget = ledger.new.budget;
           frame = record ledger.old.frame { shown = ledger.new.frame.shown };
         } }
+    ensures key { IfErr result IsKeySpelled }
 {
     let word = give(
         &mut ledger.objects,
@@ -150,6 +155,7 @@ pub(crate) fn shown<G: Ground, A: Authority, W: Watch>(
         → DoesIn made answer_of act start host.old
         → DoesIn result (λ word. word) (λ env. after (act env) (λ answer. lift (given answer))) start host.new }
     ensures stays { StaysIn host.old host.new }
+    ensures key { IfErr made IsKeySpelled → IfErr result IsKeySpelled }
 {
     match made {
         Err(error) => Err(error),
@@ -183,6 +189,7 @@ fn uploaded<G: Ground, W: Watch>(
         (λ env. returning (uploads env code.now) (λ hash. bytes hash.0)) storage.old storage.new budget.old budget.new }
     ensures made { IsMadeIfOk result }
     ensures later { IsLater storage.old storage.new }
+    ensures key { IfErr result IsKeySpelled }
 {
     match upload(alloc, storage, budget, n, code) {
         Err(error) => Err(error),
@@ -205,6 +212,7 @@ fn upload_body<G: Ground, W: Watch>(
         (a ∷ []) values.now contract storage.old storage.new budget.old budget.new copy copy }
     ensures made { IsMadeIfOk result }
     ensures later { IsLater storage.old storage.new }
+    ensures key { IfErr result IsKeySpelled }
 {
     let code = values.bytes(a)?;
     enter(budget, &[a])?;
@@ -217,7 +225,8 @@ fn upload_in<G: Ground, W: Watch>(
     a: u64,
 ) -> Result<Answer, HostErr>
     requires { IsReady ledger.old }
-    ensures { Answers result (kinds.Bytes ∷ []) upload_wasm (a ∷ []) ledger.old ledger.new }
+    ensures does { Answers result (kinds.Bytes ∷ []) upload_wasm (a ∷ []) ledger.old ledger.new }
+    ensures key { IfErr result IsKeySpelled }
 {
     let n = made_seq(ledger.header);
     let values = Values::new(&ledger.objects, &ledger.frame.shown);
@@ -234,6 +243,7 @@ pub(crate) fn upload_row<G: Ground, A: Authority, W: Watch>(
     ensures does { DoesIn result answer_of (λ env. answered (kinds.Bytes ∷ []) (upload_wasm env) words.now) host.old host.new }
     ensures made { IsMadeIfOk result }
     ensures stays { StaysIn host.old host.new }
+    ensures key { IfErr result IsKeySpelled }
 {
     match words {
         [a] => upload_in(&mut host.ledger, *a),

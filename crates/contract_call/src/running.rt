@@ -1,6 +1,6 @@
 //! The frame that runs, before and after its code does.
 
-ghost use Rattle.std.specs.Prelude.{◌≡◌, length, IfOk};
+ghost use Rattle.std.specs.Prelude.{◌≡◌, length, IfOk, IfErr};
 ghost use Rattle.value_types.specs.Views.{datum, datums};
 ghost use Rattle.host_spec.specs.Hosted.{IsHosted};
 ghost use Rattle.host_frame.specs.Made.{AreMade};
@@ -11,6 +11,7 @@ ghost use Rattle.call_spec.specs.Outcomes.{quiet, Says};
 ghost use Rattle.host_ledger.specs.Traced.{leaving};
 ghost use Rattle.call_spec.specs.Frames.{finished};
 ghost use Rattle.host_ledger.specs.Worlds.{IsReady, IsHeld, Serves, copied};
+ghost use Rattle.host_ledger.specs.Spelled.{IsKeySpelled};
 ghost use Rattle.contract_call.specs.Worlds.{DoesIn, MayRun};
 ghost use Rattle.contract_call.specs.Framed.{argument_words as argument_words_in};
 ghost use Rattle.contract_call.specs.Running.{IsNewFrame, StaysIn, DoesFrom};
@@ -72,6 +73,7 @@ fn begin_in<G: Ground, W: Watch>(
           frame = record ledger.old.frame { shown = ledger.new.frame.shown };
           budget = ledger.new.budget;
         } }
+    ensures key { IfErr result IsKeySpelled }
 {
     argument_words(
         &mut ledger.objects,
@@ -94,6 +96,7 @@ pub(crate) fn begin<G: Ground, A: Authority, W: Watch>(
         (λ env. argument_words_in «module».now.memories (datums args.items)) host.old host.new }
     ensures count { IfOk result (λ words. length words.items ≡ length (datums args.items)) }
     ensures stays { StaysIn host.old host.new }
+    ensures key { IfErr result IsKeySpelled }
 {
     begin_in(&mut host.ledger, module, args)
 }
@@ -123,6 +126,7 @@ fn end_in<G: Ground, W: Watch>(
     ensures hosted { IfOk result (λ value. IsHosted (datum value)) }
     ensures later { IsLater ledger.old.storage ledger.new.storage }
     ensures stays { ledger.new ≡ record ledger.old { storage = ledger.new.storage; budget = ledger.new.budget } }
+    ensures key { IfErr result IsKeySpelled }
 {
     let n = made_in(ledger);
     finish(
@@ -146,6 +150,7 @@ pub(crate) fn end<G: Ground, A: Authority, W: Watch>(
     ensures does { DoesFrom (copied first.now) result datum (λ env. finished env word) host.old host.new }
     ensures hosted { IfOk result (λ value. IsHosted (datum value)) }
     ensures stays { StaysIn host.old host.new }
+    ensures key { IfErr result IsKeySpelled }
 {
     end_in(&mut host.ledger, first, word)
 }

@@ -1,6 +1,6 @@
 //! What a call finds before it enters a frame.
 
-ghost use Rattle.std.specs.Prelude.{◌≡◌, Option, Some, None, IfOk, reverse};
+ghost use Rattle.std.specs.Prelude.{◌≡◌, Option, Some, None, IfOk, reverse, IfErr};
 ghost use Rattle.std.specs.List.{list_any};
 ghost use Rattle.std.specs.Str.{bytes_eq};
 ghost use Rattle.value_types.specs.declared.address.ScAddress.TheVariants as addresses;
@@ -12,6 +12,7 @@ ghost use Rattle.call_spec.specs.Outcomes.{quiet, Says};
 ghost use Rattle.host_ledger.specs.Traced.{leaving};
 ghost use Rattle.call_parts.specs.Steps.{Steps};
 ghost use Rattle.host_ledger.specs.Worlds.{Serves, IsHeld, copied};
+ghost use Rattle.host_ledger.specs.Spelled.{IsKeySpelled};
 ghost use Rattle.contract_call.specs.Worlds.{DoesAround, MayRun, Stays};
 ghost use Rattle.contract_call.specs.Targets.{may_name as may_name_in, tests, target, module_at, target_at as target_at_in};
 ghost use Rattle.contract_call.specs.Targets.{target_of as target_of_in};
@@ -73,8 +74,9 @@ fn is_running(open: &[Hash], contract: Hash) -> bool
 /// The contract at the address, if its function may be called now. `named` says whether the caller may call a function of its
 /// name.
 fn admitted(open: &[Hash], address: ScAddress, named: bool) -> Result<Hash, HostErr>
-    ensures { (w : World) → w.contracts ≡ reverse open.now
+    ensures does { (w : World) → w.contracts ≡ reverse open.now
         → Says result (λ c. c) (tests named address (λ c. gives c) w) (quiet w (λ trace. w)) }
+    ensures key { IfErr result IsKeySpelled }
 {
     let ScAddress::Contract(contract) = address else {
         return Err(OTHER_TYPE);
@@ -103,6 +105,7 @@ fn with_module<'c, G: Ground, W: Watch>(
         budget.new }
     ensures held { IfOk result (λ t. IsHeld t.copy.storage) }
     ensures read { IsRead storage.old storage.new }
+    ensures key { IfErr result IsKeySpelled }
 {
     match call_module(alloc, storage, budget, codes, copy.code) {
         Ok(module) => Ok(Target {
@@ -125,6 +128,7 @@ fn target_at<'c, G: Ground, W: Watch>(
     ensures does { Steps result target (λ env. target_at_in env contract) storage.old storage.new budget.old budget.new }
     ensures held { IfOk result (λ t. IsHeld t.copy.storage) }
     ensures read { IsRead storage.old storage.new }
+    ensures key { IfErr result IsKeySpelled }
 {
     match find_instance(storage, budget, contract) {
         Ok(copy) => with_module(alloc, storage, budget, codes, contract, copy),
@@ -149,6 +153,7 @@ pub(crate) fn target_of<'c, G: Ground, W: Watch>(
         (λ trace. record w { entries = storage.new.map; trace = trace; meter = budget.new })) }
     ensures held { IfOk result (λ t. IsHeld t.copy.storage) }
     ensures read { IsRead storage.old storage.new }
+    ensures key { IfErr result IsKeySpelled }
 {
     match admitted(open, address, named) {
         Ok(contract) => target_at(alloc, storage, budget, codes, contract),
@@ -172,6 +177,7 @@ fn target_in<'c, G: Ground, W: Watch>(
     ensures held { IfOk result (λ t. IsHeld t.copy.storage) }
     ensures read { IsRead ledger.old.storage ledger.new.storage }
     ensures stays { ledger.new ≡ record ledger.old { storage = ledger.new.storage; budget = ledger.new.budget } }
+    ensures key { IfErr result IsKeySpelled }
 {
     target_of(
         ledger.objects.allocator(),
@@ -194,6 +200,7 @@ pub(crate) fn find_target<'c, G: Ground, A: Authority, W: Watch>(
     ensures does { DoesAround result target (target_of_in named contract) host.old host.new }
     ensures held { IfOk result (λ t. IsHeld t.copy.storage) }
     ensures stays { Stays host.old host.new }
+    ensures key { IfErr result IsKeySpelled }
 {
     target_in(&mut host.ledger, &host.open, host.codes, contract, named)
 }

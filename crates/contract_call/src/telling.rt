@@ -41,11 +41,13 @@ pub(crate) fn tell_called<G: Ground, A: Authority, W: Watch>(
 )
     ensures { host.new ≡ host.old }
 {
+    let used = host.ledger.budget.spent();
     host.ledger.storage.tell(Moment::Called {
         caller: call.caller,
         address: call.contract,
         function: call.function,
         args: call.args.as_slice(),
+        used,
     });
 }
 
@@ -69,11 +71,13 @@ pub(crate) fn tell_begun<G: Ground, A: Authority, W: Watch>(host: &mut Host<'_, 
 {
     let contract = host.ledger.frame.contract;
     let caller = host.ledger.frame.caller;
+    let used = host.ledger.budget.spent();
     host.ledger.storage.tell(Moment::Begun {
         contract,
         caller,
         function: host.place.function.as_slice(),
         args: host.place.args.as_slice(),
+        used,
     });
 }
 

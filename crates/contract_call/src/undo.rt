@@ -1,6 +1,6 @@
 //! Failures that leave the state as it was.
 
-ghost use Rattle.std.specs.Prelude.{◌≡◌, IfOk};
+ghost use Rattle.std.specs.Prelude.{◌≡◌, IfOk, IfErr};
 ghost use Rattle.value_types.specs.Datum.{Datum, error as error_datum};
 ghost use Rattle.value_types.specs.Views.{datum};
 ghost use Rattle.host_spec.specs.Hosted.{IsHosted};
@@ -11,6 +11,7 @@ ghost use Rattle.call_spec.specs.Frames.{passed_on as passed_on_in};
 ghost use Rattle.contract_call.specs.Worlds.{DoesAround, Stays};
 ghost use Rattle.contract_call.specs.Undone.{IsMark, IsWithin, IsBack, Undoes, Catches};
 ghost use Rattle.contract_call.specs.declared.host.Host.{Host as Host'};
+ghost use Rattle.host_ledger.specs.Spelled.{IsKeySpelled};
 
 use crate::errors::HIDDEN_ERROR;
 use crate::host::Host;
@@ -99,6 +100,7 @@ fn caught_end<G: Ground, A: Authority, W: Watch>(
     requires { IsWithin mark host.old }
     ensures catches { Catches mark error result host.old host.new }
     ensures hosted { IfOk result (λ value. IsHosted (datum value)) }
+    ensures key { IsKeySpelled error → IfErr result IsKeySpelled }
 {
     match error {
         HostErr::Failed(failure) => {
@@ -122,6 +124,7 @@ pub(crate) fn caught<G: Ground, A: Authority, W: Watch>(
         → DoesAround result datum (λ env. catching (act env)) start host.new }
     ensures stays { (start : Host' G A W) → IsMark mark start → Stays start host.old → Stays start host.new }
     ensures hosted { IfOk result (λ value. IsHosted (datum value)) }
+    ensures key { IfErr made IsKeySpelled → IfErr result IsKeySpelled }
 {
     match made {
         Ok(value) => Ok(value),

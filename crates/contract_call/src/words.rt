@@ -19,6 +19,7 @@ ghost use Rattle.contract_call.specs.Creations.{creation_of, args_of, AreArgsHos
 ghost use Rattle.contract_call.specs.Worlds.{MayRun};
 ghost use Rattle.contract_call.specs.Running.{StaysIn};
 ghost use Rattle.contract_call.specs.Taken.{Takes, TakesIn, creates_here};
+ghost use Rattle.host_ledger.specs.Spelled.{IsKeySpelled};
 
 use crate::errors::OTHER_SIZE;
 use crate::host::Host;
@@ -69,6 +70,7 @@ pub(crate) fn call_args(
         → Takes result (answered (kinds.Address ∷ kinds.Symbol ∷ kinds.Vec ∷ []) rule (a ∷ b ∷ c ∷ []))
         (λ x. rule x.contract x.function.items (datums x.args.items)) values.now budget.old budget.new }
     ensures hosted { IfOk result (λ x. AreHosted (datums x.args.items)) }
+    ensures key { IfErr result IsKeySpelled }
 {
     let contract = values.address(a)?;
     let function = values.symbol(b)?;
@@ -85,7 +87,8 @@ pub(crate) fn call_args(
 
 /// The hash with these bytes, if there are 32.
 fn hash_of(bytes: &[u8]) -> Result<Hash, HostErr>
-    ensures { (w : World) → Says result (λ h. h) (only_hash bytes.now (λ h. gives h) w) (quiet w (λ trace. w)) }
+    ensures does { (w : World) → Says result (λ h. h) (only_hash bytes.now (λ h. gives h) w) (quiet w (λ trace. w)) }
+    ensures key { IfErr result IsKeySpelled }
 {
     let mut hash = Hash([0; 32]);
     if bytes.len() != 32 {
@@ -106,6 +109,7 @@ fn new_contract(
         → Takes result (creates_by env opener deployer code.now salt.now (option_map args_of args))
         (λ x. creates_here env opener (creation_of x)) shown meter meter }
     ensures args { IfOk result (λ x. x.args ≡ args) }
+    ensures key { IfErr result IsKeySpelled }
 {
     match hash_of(code) {
         Err(error) => Err(error),
@@ -133,6 +137,7 @@ pub(crate) fn create_args(
         → Takes result (answered (kinds.Address ∷ kinds.Bytes ∷ kinds.Bytes ∷ []) (create_contract env opener) (a ∷ b ∷ c ∷ []))
         (λ x. creates_here env opener (creation_of x)) values.now budget.old budget.new }
     ensures hosted { IfOk result (λ x. AreArgsHosted x.args) }
+    ensures key { IfErr result IsKeySpelled }
 {
     let deployer = values.address(a)?;
     let code = values.bytes(b)?;
@@ -156,6 +161,7 @@ pub(crate) fn constructor_args(
         (create_contract_with_constructor env opener) (a ∷ b ∷ c ∷ d ∷ []))
         (λ x. creates_here env opener (creation_of x)) values.now budget.old budget.new }
     ensures hosted { IfOk result (λ x. AreArgsHosted x.args) }
+    ensures key { IfErr result IsKeySpelled }
 {
     let deployer = values.address(a)?;
     let code = values.bytes(b)?;
@@ -180,6 +186,7 @@ fn call_taken<G: Ground, W: Watch>(
         (shown_of ledger.old.objects ledger.old.frame.shown) ledger.old.budget ledger.new.budget }
     ensures hosted { IfOk result (λ x. AreHosted (datums x.args.items)) }
     ensures paid { ledger.new ≡ record ledger.old { budget = ledger.new.budget } }
+    ensures key { IfErr result IsKeySpelled }
 {
     let values = Values::new(&ledger.objects, &ledger.frame.shown);
     call_args(&values, &mut ledger.budget, a, b, c)
@@ -197,6 +204,7 @@ pub(crate) fn call_words<G: Ground, A: Authority, W: Watch>(
         (λ env x. rule env x.contract x.function.items (datums x.args.items)) host.old host.new }
     ensures hosted { IfOk result (λ x. AreHosted (datums x.args.items)) }
     ensures stays { StaysIn host.old host.new }
+    ensures key { IfErr result IsKeySpelled }
 {
     match words {
         [a, b, c] => call_taken(&mut host.ledger, *a, *b, *c),
@@ -218,6 +226,7 @@ fn create_taken<G: Ground, W: Watch>(
         (shown_of ledger.old.objects ledger.old.frame.shown) ledger.old.budget ledger.new.budget }
     ensures hosted { IfOk result (λ x. AreArgsHosted x.args) }
     ensures paid { ledger.new ≡ record ledger.old { budget = ledger.new.budget } }
+    ensures key { IfErr result IsKeySpelled }
 {
     let values = Values::new(&ledger.objects, &ledger.frame.shown);
     create_args(&values, &mut ledger.budget, a, b, c)
@@ -235,6 +244,7 @@ pub(crate) fn create_words<G: Ground, A: Authority, W: Watch>(
         (create_contract env (opener env)) words.now) (λ env x. creates_here env (opener env) (creation_of x)) host.old host.new }
     ensures hosted { IfOk result (λ x. AreArgsHosted x.args) }
     ensures stays { StaysIn host.old host.new }
+    ensures key { IfErr result IsKeySpelled }
 {
     match words {
         [a, b, c] => create_taken(&mut host.ledger, *a, *b, *c),
@@ -257,6 +267,7 @@ fn construct_taken<G: Ground, W: Watch>(
         (shown_of ledger.old.objects ledger.old.frame.shown) ledger.old.budget ledger.new.budget }
     ensures hosted { IfOk result (λ x. AreArgsHosted x.args) }
     ensures paid { ledger.new ≡ record ledger.old { budget = ledger.new.budget } }
+    ensures key { IfErr result IsKeySpelled }
 {
     let values = Values::new(&ledger.objects, &ledger.frame.shown);
     constructor_args(&values, &mut ledger.budget, a, b, c, d)
@@ -275,6 +286,7 @@ pub(crate) fn construct_words<G: Ground, A: Authority, W: Watch>(
         (λ env x. creates_here env (opener env) (creation_of x)) host.old host.new }
     ensures hosted { IfOk result (λ x. AreArgsHosted x.args) }
     ensures stays { StaysIn host.old host.new }
+    ensures key { IfErr result IsKeySpelled }
 {
     match words {
         [a, b, c, d] => construct_taken(&mut host.ledger, *a, *b, *c, *d),
@@ -286,6 +298,7 @@ pub(crate) fn construct_words<G: Ground, A: Authority, W: Watch>(
 fn auth_address(values: &Values<'_>, budget: &mut Budget, a: u64) -> Result<ScAddress, HostErr>
     ensures takes { (rule : Rule (kinds.Address ∷ []))
         → Takes result (answered (kinds.Address ∷ []) rule (a ∷ [])) (λ x. rule x) values.now budget.old budget.new }
+    ensures key { IfErr result IsKeySpelled }
 {
     let address = values.address(a)?;
     enter(budget, &[a])?;
@@ -302,6 +315,7 @@ fn auth_taken<G: Ground, W: Watch>(
         → Takes result (answered (kinds.Address ∷ []) rule (a ∷ [])) (λ x. rule x)
         (shown_of ledger.old.objects ledger.old.frame.shown) ledger.old.budget ledger.new.budget }
     ensures paid { ledger.new ≡ record ledger.old { budget = ledger.new.budget } }
+    ensures key { IfErr result IsKeySpelled }
 {
     let values = Values::new(&ledger.objects, &ledger.frame.shown);
     auth_address(&values, &mut ledger.budget, a)
@@ -317,6 +331,7 @@ pub(crate) fn auth_words<G: Ground, A: Authority, W: Watch>(
     ensures takes { (rule : Env → Rule (kinds.Address ∷ []))
         → TakesIn result (λ env. answered (kinds.Address ∷ []) (rule env) words.now) (λ env x. rule env x) host.old host.new }
     ensures stays { StaysIn host.old host.new }
+    ensures key { IfErr result IsKeySpelled }
 {
     match words {
         [a] => auth_taken(&mut host.ledger, *a),
@@ -329,6 +344,7 @@ fn auth_args(values: &Values<'_>, budget: &mut Budget, a: u64, b: u64) -> Result
     ensures takes { (rule : Rule (kinds.Address ∷ kinds.Vec ∷ []))
         → Takes result (answered (kinds.Address ∷ kinds.Vec ∷ []) rule (a ∷ b ∷ []))
         (λ x. rule x.address (datums x.args.items)) values.now budget.old budget.new }
+    ensures key { IfErr result IsKeySpelled }
 {
     let address = values.address(a)?;
     let args = values.vec(b)?;
@@ -349,6 +365,7 @@ fn auth_for_args_taken<G: Ground, W: Watch>(
         (λ x. rule x.address (datums x.args.items))
         (shown_of ledger.old.objects ledger.old.frame.shown) ledger.old.budget ledger.new.budget }
     ensures paid { ledger.new ≡ record ledger.old { budget = ledger.new.budget } }
+    ensures key { IfErr result IsKeySpelled }
 {
     let values = Values::new(&ledger.objects, &ledger.frame.shown);
     auth_args(&values, &mut ledger.budget, a, b)
@@ -365,6 +382,7 @@ pub(crate) fn auth_for_args_words<G: Ground, A: Authority, W: Watch>(
         → TakesIn result (λ env. answered (kinds.Address ∷ kinds.Vec ∷ []) (rule env) words.now)
         (λ env x. rule env x.address (datums x.args.items)) host.old host.new }
     ensures stays { StaysIn host.old host.new }
+    ensures key { IfErr result IsKeySpelled }
 {
     match words {
         [a, b] => auth_for_args_taken(&mut host.ledger, *a, *b),

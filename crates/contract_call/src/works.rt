@@ -1,6 +1,6 @@
 //! What a transaction does: a call, an upload, or a create.
 
-ghost use Rattle.std.specs.Prelude.{◌≡◌, ◌<◌, ◌^◌, length, map, Some, None, IfOk};
+ghost use Rattle.std.specs.Prelude.{◌≡◌, ◌<◌, ◌^◌, length, map, Some, None, IfOk, IfErr};
 ghost use Rattle.std.specs.Option.{option_map};
 ghost use Rattle.value_types.specs.Datum.{bytes, address as address_datum};
 ghost use Rattle.value_types.specs.Views.{datum, datums};
@@ -11,6 +11,7 @@ ghost use Rattle.call_spec.specs.Creating.{uploads};
 ghost use Rattle.call_spec.specs.HostFunctions.{MOST_FRAMES};
 ghost use Rattle.call_parts.specs.Steps.{Steps};
 ghost use Rattle.host_ledger.specs.Worlds.{IsReady};
+ghost use Rattle.host_ledger.specs.Spelled.{IsKeySpelled};
 ghost use Rattle.call_spec.specs.WholeRuns.{calling, uploading, creating, done_under};
 ghost use Rattle.contract_call.specs.Worlds.{DoesAround, MayRun};
 ghost use Rattle.contract_call.specs.Creations.{creation_of, AreArgsHosted};
@@ -52,6 +53,7 @@ pub fn invoke<G: Ground, A: Authority, W: Watch>(
     ensures recorded { EndsRecorded (calling contract function.now (datums args.items)) result datum host.old host.new }
     ensures base { host.new.ledger.storage.base ≡ host.old.ledger.storage.base }
     ensures hosted { IfOk result (λ value. IsHosted (datum value)) }
+    ensures key { IfErr result IsKeySpelled }
 {
     let mark = host.mark();
     let call = ContractCall {
@@ -78,6 +80,7 @@ fn upload_in<G: Ground, W: Watch>(
         (λ env. uploads env code.now) ledger.old.storage ledger.new.storage ledger.old.budget ledger.new.budget }
     ensures later { IsLater ledger.old.storage ledger.new.storage }
     ensures stays { ledger.new ≡ record ledger.old { storage = ledger.new.storage; budget = ledger.new.budget } }
+    ensures key { IfErr result IsKeySpelled }
 {
     let n = ledger.header.seq + 1;
     call_parts::upload(
@@ -101,6 +104,7 @@ pub fn upload<G: Ground, A: Authority, W: Watch>(
     ensures ends { Ends (uploading code.now) result (λ hash. bytes hash.0) host.old host.new }
     ensures recorded { EndsRecorded (uploading code.now) result (λ hash. bytes hash.0) host.old host.new }
     ensures base { host.new.ledger.storage.base ≡ host.old.ledger.storage.base }
+    ensures key { IfErr result IsKeySpelled }
 {
     let mark = host.mark();
     match upload_in(&mut host.ledger, code) {
@@ -133,6 +137,7 @@ pub fn create<G: Ground, A: Authority, W: Watch>(
     ensures recorded { EndsRecorded (creating (creation_of contract)) result
         (λ id. address_datum (addresses.Contract id)) host.old host.new }
     ensures base { host.new.ledger.storage.base ≡ host.old.ledger.storage.base }
+    ensures key { IfErr result IsKeySpelled }
 {
     let mark = host.mark();
     match calls::create(host, most_frames(), None, contract) {

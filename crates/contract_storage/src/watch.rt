@@ -6,7 +6,7 @@ ghost use Rattle.contract_storage.specs.Watched.{unseen, see};
 
 use crate::access::Access;
 use budget_meter::Used;
-use invoke_types::Function;
+use invoke_types::{ContractEvent, Function};
 use ledger_types::LedgerKey;
 use value_types::{Hash, ScAddress, ScError, ScVal};
 
@@ -49,7 +49,7 @@ pub enum End<'m> {
     NoMemory,
 }
 
-/// A moment of a run.
+/// A moment of a run. All sums are those of the whole run so far.
 #[derive(Clone, Copy)]
 pub enum Moment<'m> {
     /// A call begins with its tests: by a contract, or by the transaction or the host.
@@ -58,6 +58,7 @@ pub enum Moment<'m> {
         address: ScAddress,
         function: &'m [u8],
         args: &'m [ScVal],
+        used: Used,
     },
     /// The frame of a call or of a constructor begins.
     Begun {
@@ -65,8 +66,13 @@ pub enum Moment<'m> {
         caller: Option<Hash>,
         function: &'m [u8],
         args: &'m [ScVal],
+        used: Used,
     },
-    /// The frame that began last, and has not ended yet, ends. The sums are those of the whole run so far.
+    /// The running frame emits an event. If a call around it fails, the event is dropped later.
+    Emitted {
+        event: &'m ContractEvent,
+    },
+    /// The frame that began last, and has not ended yet, ends.
     Ended {
         end: End<'m>,
         used: Used,

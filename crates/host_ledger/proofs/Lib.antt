@@ -14,6 +14,7 @@ mod Making
 mod Naming
 mod Putting
 mod Rows
+mod Spelling
 mod Stepping
 mod Steps
 mod Storing

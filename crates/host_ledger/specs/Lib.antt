@@ -2,6 +2,7 @@ pub mod EventLists
 pub mod Traced
 pub mod Worlds
 pub mod Answered
+pub mod Spelled
 pub mod Accessed
 pub mod Places
 pub mod Storing

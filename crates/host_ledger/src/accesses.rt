@@ -1,6 +1,6 @@
 //! Accesses of the ledger's entries.
 
-ghost use Rattle.std.specs.Prelude.{◌≡◌, false, nat_lt};
+ghost use Rattle.std.specs.Prelude.{◌≡◌, false, nat_lt, IfErr};
 ghost use Rattle.ledger_types.specs.Key.{key_format};
 ghost use Rattle.ledger_types.specs.Entry.{entry_format, key_of};
 ghost use Rattle.ledger_spec.specs.LedgerMap.{LedgerMap, HasCodeHash};
@@ -16,6 +16,7 @@ ghost use Rattle.call_spec.specs.Storage.{has, gets, deletes, extending};
 ghost use Rattle.call_spec.specs.Outcomes.{Says, quiet};
 ghost use Rattle.host_ledger.specs.Answered.{IsMadeIfOk};
 ghost use Rattle.host_ledger.specs.Accessed.{Accesses, Pays, opens, end_of};
+ghost use Rattle.host_ledger.specs.Spelled.{IsKeySpelled};
 
 use crate::errors::NO_ENTRY;
 use crate::values::{clone_key, clone_value};
@@ -50,6 +51,7 @@ pub(crate) fn has<G: Ground, W: Watch>(
     ensures does { Accesses result answer_of (λ env. access env Read key has) storage.old storage.new }
     ensures made { IsMadeIfOk result }
     ensures read { IsRead storage.old storage.new }
+    ensures key { IfErr result IsKeySpelled }
 {
     match storage.has(&key) {
         Ok(found) => Ok(Answer::boolean(found)),
@@ -67,6 +69,7 @@ pub(crate) fn del<G: Ground, W: Watch>(
     ensures does { Accesses result answer_of (λ env. access env Write key deletes) storage.old storage.new }
     ensures made { IsMadeIfOk result }
     ensures later { IsLater storage.old storage.new }
+    ensures key { IfErr result IsKeySpelled }
 {
     match storage.del(&key) {
         Ok(()) => Ok(Answer::void()),
@@ -94,6 +97,7 @@ pub(crate) fn extend<G: Ground, W: Watch>(
     ensures does { Accesses result answer_of (λ env. extending env key threshold extend_to) storage.old storage.new }
     ensures made { IsMadeIfOk result }
     ensures later { IsLater storage.old storage.new }
+    ensures key { IfErr result IsKeySpelled }
 {
     match storage.extend(&key, threshold, extend_to) {
         Ok(()) => Ok(Answer::void()),
@@ -108,6 +112,7 @@ fn opened(budget: &mut Budget, found: &LedgerEntry) -> Result<Answer, HostErr>
     ensures does { (key : LedgerKeyData) (w : World) → w.meter ≡ budget.old
         → Says result answer_of (opens key found.now w) (quiet w (λ trace. record w { trace = trace; meter = budget.new })) }
     ensures made { IsMadeIfOk result }
+    ensures key { IfErr result IsKeySpelled }
 {
     charge(budget, Kind::ValDeser, found.size())?;
     match &found.data {
@@ -131,6 +136,7 @@ pub(crate) fn get<G: Ground, W: Watch>(
     ensures does { Pays result (λ env. access env Read key gets) storage.old storage.new budget.old budget.new }
     ensures made { IsMadeIfOk result }
     ensures read { IsRead storage.old storage.new }
+    ensures key { IfErr result IsKeySpelled }
 {
     match storage.get(&key) {
         Ok(found) => opened(budget, found),
@@ -145,6 +151,7 @@ fn paid(budget: &mut Budget, size: u64) -> Result<Answer, HostErr>
         → Says result answer_of (paying Kind.ValSer size (sets (with_entries map) nothing) w)
         (quiet w (λ trace. record w { entries = map; trace = trace; meter = budget.new })) }
     ensures made { IsMadeIfOk result }
+    ensures key { IfErr result IsKeySpelled }
 {
     match budget.charge(Kind::ValSer, size) {
         Ok(()) => Ok(Answer::void()),
@@ -177,6 +184,7 @@ pub(crate) fn put<G: Ground, W: Watch>(
         (puts env entry nothing)) storage.old storage.new budget.old budget.new }
     ensures made { IsMadeIfOk result }
     ensures later { IsLater storage.old storage.new }
+    ensures key { IfErr result IsKeySpelled }
 {
     let size = size_of(&entry);
     let again = clone_key(&key)?;

@@ -1,6 +1,6 @@
 //! Calls by the function of the host interface, or by its module and its name.
 
-ghost use Rattle.std.specs.Prelude.{ℕ, List};
+ghost use Rattle.std.specs.Prelude.{ℕ, List, IfErr};
 ghost use Rattle.object_store.specs.Shown.{AreIndices};
 ghost use Rattle.host_spec.specs.Answers.{given};
 ghost use Rattle.host_frame.specs.Answered.{answer_of};
@@ -12,6 +12,7 @@ ghost use Rattle.host_ledger.specs.Worlds.{world_at, IsReady, Shows};
 ghost use Rattle.host_interface.specs.Named.{import_named};
 ghost use Rattle.host_ledger.specs.Called.{IsLedgerCall, Calls, IsNamedCall, CallsNamed};
 ghost use Rattle.host_ledger.specs.Rows.{AnswersRow};
+ghost use Rattle.host_ledger.specs.Spelled.{IsKeySpelled};
 
 use crate::groups::{four_words, one_word, three_words, two_words, without_words};
 use crate::state::HostLedger;
@@ -30,7 +31,8 @@ fn answer<G: Ground, W: Watch>(
 ) -> Result<Answer, HostErr>
     requires call { IsLedgerCall «import» words.now }
     requires ready { IsReady host.old }
-    ensures { AnswersRow result «import» words.now host.old host.new }
+    ensures does { AnswersRow result «import» words.now host.old host.new }
+    ensures key { IfErr result IsKeySpelled }
 {
     match words {
         [] => without_words(host, import),
@@ -54,6 +56,7 @@ fn show<G: Ground, W: Watch>(
         (quiet (world_at rest host.old trace) (world_at rest host.new)) }
     ensures indices { AreIndices host.new.objects host.new.frame.shown }
     ensures shows { Shows host.old host.new }
+    ensures key { IfErr result IsKeySpelled }
 {
     let word = give(
         &mut host.objects,
@@ -73,7 +76,8 @@ pub fn call_function<G: Ground, W: Watch>(
 ) -> Result<u64, HostErr>
     requires call { IsLedgerCall «import» words.now }
     requires ready { IsReady host.old }
-    ensures { Calls result «import» words.now host.old host.new }
+    ensures does { Calls result «import» words.now host.old host.new }
+    ensures key { IfErr result IsKeySpelled }
 {
     match answer(host, import, words) {
         Ok(answer) => show(host, answer),
@@ -91,7 +95,8 @@ pub fn ledger_call<G: Ground, W: Watch>(
 ) -> Result<u64, HostErr>
     requires call { IsNamedCall (import_named «module».now name.now) args.now }
     requires ready { IsReady host.old }
-    ensures { CallsNamed result (import_named «module».now name.now) args.now host.old host.new }
+    ensures does { CallsNamed result (import_named «module».now name.now) args.now host.old host.new }
+    ensures key { IfErr result IsKeySpelled }
 {
     let Some(import) = import_named(module, name) else {
         unreachable!();

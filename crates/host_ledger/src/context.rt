@@ -14,6 +14,7 @@ ghost use Rattle.call_spec.specs.Events.{get_ledger_version, get_ledger_sequence
 ghost use Rattle.call_spec.specs.Events.{get_current_contract_address, get_max_live_until_ledger, fail_with_error};
 ghost use Rattle.host_ledger.specs.Worlds.{IsReady};
 ghost use Rattle.host_ledger.specs.Answered.{Answers};
+ghost use Rattle.host_ledger.specs.Spelled.{IsKeySpelled};
 
 use crate::errors::NO_CONTRACT_ERROR;
 use crate::state::HostLedger;
@@ -75,7 +76,8 @@ pub fn get_ledger_version<G: Ground, W: Watch>(
     host: &mut HostLedger<'_, G, W>,
 ) -> Result<Answer, HostErr>
     requires { IsReady host.old }
-    ensures { Answers result [] get_ledger_version [] host.old host.new }
+    ensures does { Answers result [] get_ledger_version [] host.old host.new }
+    ensures key { IfErr result IsKeySpelled }
 {
     enter(&mut host.budget, &[])?;
     Ok(Answer::number32(host.header.protocol))
@@ -86,7 +88,8 @@ pub fn get_ledger_sequence<G: Ground, W: Watch>(
     host: &mut HostLedger<'_, G, W>,
 ) -> Result<Answer, HostErr>
     requires { IsReady host.old }
-    ensures { Answers result [] get_ledger_sequence [] host.old host.new }
+    ensures does { Answers result [] get_ledger_sequence [] host.old host.new }
+    ensures key { IfErr result IsKeySpelled }
 {
     enter(&mut host.budget, &[])?;
     Ok(Answer::number32(made_seq(host.header)))
@@ -97,7 +100,8 @@ pub fn get_ledger_timestamp<G: Ground, W: Watch>(
     host: &mut HostLedger<'_, G, W>,
 ) -> Result<Answer, HostErr>
     requires { IsReady host.old }
-    ensures { Answers result [] get_ledger_timestamp [] host.old host.new }
+    ensures does { Answers result [] get_ledger_timestamp [] host.old host.new }
+    ensures key { IfErr result IsKeySpelled }
 {
     enter(&mut host.budget, &[])?;
     Ok(number64(host.header.close_time))
@@ -108,7 +112,8 @@ pub fn get_ledger_network_id<G: Ground, W: Watch>(
     host: &mut HostLedger<'_, G, W>,
 ) -> Result<Answer, HostErr>
     requires { IsReady host.old }
-    ensures { Answers result [] get_ledger_network_id [] host.old host.new }
+    ensures does { Answers result [] get_ledger_network_id [] host.old host.new }
+    ensures key { IfErr result IsKeySpelled }
 {
     enter(&mut host.budget, &[])?;
     let answer = bytes_of(host.objects.allocator(), &host.header.network_id)?;
@@ -120,7 +125,8 @@ pub fn get_max_live_until_ledger<G: Ground, W: Watch>(
     host: &mut HostLedger<'_, G, W>,
 ) -> Result<Answer, HostErr>
     requires { IsReady host.old }
-    ensures { Answers result [] get_max_live_until_ledger [] host.old host.new }
+    ensures does { Answers result [] get_max_live_until_ledger [] host.old host.new }
+    ensures key { IfErr result IsKeySpelled }
 {
     enter(&mut host.budget, &[])?;
     Ok(Answer::number32(furthest(host.header)))
@@ -131,7 +137,8 @@ pub fn get_current_contract_address<G: Ground, W: Watch>(
     host: &mut HostLedger<'_, G, W>,
 ) -> Result<Answer, HostErr>
     requires { IsReady host.old }
-    ensures { Answers result [] (λ _. get_current_contract_address) [] host.old host.new }
+    ensures does { Answers result [] (λ _. get_current_contract_address) [] host.old host.new }
+    ensures key { IfErr result IsKeySpelled }
 {
     enter(&mut host.budget, &[])?;
     Ok(address_of(host.frame.contract))
@@ -143,7 +150,8 @@ pub fn fail_with_error<G: Ground, W: Watch>(
     a: u64,
 ) -> Result<Answer, HostErr>
     requires { IsReady host.old }
-    ensures { Answers result (kinds.Error ∷ []) (λ _. fail_with_error) (a ∷ []) host.old host.new }
+    ensures does { Answers result (kinds.Error ∷ []) (λ _. fail_with_error) (a ∷ []) host.old host.new }
+    ensures key { IfErr result IsKeySpelled }
 {
     let error = Values::new(&host.objects, &host.frame.shown).error(a)?;
     enter(&mut host.budget, &[a])?;

@@ -13,6 +13,7 @@ ghost use Rattle.call_spec.specs.Storage.{members, get_in_copy, storage_without}
 ghost use Rattle.host_ledger.specs.Worlds.{IsHeld, copied};
 ghost use Rattle.host_ledger.specs.Answered.{IsMadeIfOk};
 ghost use Rattle.host_ledger.specs.Storing.{PutsInCopy};
+ghost use Rattle.host_ledger.specs.Spelled.{IsKeySpelled};
 
 use crate::errors::{NO_ENTRY, TOO_LARGE};
 use crate::puts::{Unput, delete_in, put_in};
@@ -59,6 +60,7 @@ pub(crate) fn get_in_copy(copy: &InstanceCopy, key: &ScVal) -> Result<Answer, Ho
     ensures does { (w : World) → w.frame.copy ≡ copied copy.now
         → Says result answer_of (get_in_copy (datum key.now) w) (quiet w (λ trace. record w { trace = trace })) }
     ensures made { IsMadeIfOk result }
+    ensures key { IfErr result IsKeySpelled }
 {
     match in_copy(copy, key) {
         None => Err(NO_ENTRY),
@@ -86,6 +88,7 @@ fn put_first(copy: &mut InstanceCopy, alloc: Global, entry: Entry) -> Result<Ans
         (copied copy.new) }
     ensures made { IsMadeIfOk result }
     ensures held { IsHeld copy.new.storage }
+    ensures key { IfErr result IsKeySpelled }
 {
     match put_in(copy.code, Entries::from_vec(Vec::new(alloc)), entry) {
         Ok(entries) => {
@@ -107,6 +110,7 @@ fn put_more(copy: &mut InstanceCopy, entries: Entries, entry: Entry) -> Result<A
         (copied copy.new) }
     ensures made { IsMadeIfOk result }
     ensures held { IsHeld copy.new.storage }
+    ensures key { IfErr result IsKeySpelled }
 {
     match put_in(copy.code, entries, entry) {
         Ok(entries) => {
@@ -134,6 +138,7 @@ pub(crate) fn put_in_copy(
     ensures does { PutsInCopy result (datum key.now) (datum val.now) (copied copy.old) (copied copy.new) }
     ensures made { IsMadeIfOk result }
     ensures held { IsHeld copy.new.storage }
+    ensures key { IfErr result IsKeySpelled }
 {
     let entry = entry_of(key, val)?;
     match copy.storage.take() {

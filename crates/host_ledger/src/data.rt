@@ -23,6 +23,7 @@ ghost use Rattle.host_frame.specs.Answered.{answer_of};
 ghost use Rattle.host_ledger.specs.Worlds.{IsReady, IsHeld, Serves, copied};
 ghost use Rattle.host_ledger.specs.Answered.{Answers, IsMadeIfOk};
 ghost use Rattle.host_ledger.specs.Accessed.{Runs};
+ghost use Rattle.host_ledger.specs.Spelled.{IsKeySpelled};
 
 use crate::accesses::{del, extend, get, has, is_backward, put};
 use crate::context::made_seq;
@@ -90,6 +91,7 @@ fn put_entry<G: Ground, W: Watch>(
         (λ trace. record w { entries = storage.new.map; trace = trace; meter = budget.new })) }
     ensures made { IsMadeIfOk result }
     ensures later { IsLater storage.old storage.new }
+    ensures key { IfErr result IsKeySpelled }
 {
     let named = data_key(contract, key, durability)?;
     let entry = data_entry(n, contract, key, durability, val)?;
@@ -115,6 +117,7 @@ fn put_data<G: Ground, W: Watch>(
     ensures made { IsMadeIfOk result }
     ensures later { IsLater storage.old storage.new }
     ensures held { IsHeld copy.new.storage }
+    ensures key { IfErr result IsKeySpelled }
 {
     let key = values.value(a)?;
     let val = values.value(b)?;
@@ -143,8 +146,9 @@ pub fn put_contract_data<G: Ground, W: Watch>(
     c: u64,
 ) -> Result<Answer, HostErr>
     requires { IsReady host.old }
-    ensures { Answers result (kinds.Value ∷ kinds.Value ∷ kinds.Unsigned ∷ []) put_contract_data
+    ensures does { Answers result (kinds.Value ∷ kinds.Value ∷ kinds.Unsigned ∷ []) put_contract_data
         (a ∷ b ∷ c ∷ []) host.old host.new }
+    ensures key { IfErr result IsKeySpelled }
 {
     let values = Values::new(&host.objects, &host.frame.shown);
     put_data(
@@ -174,6 +178,7 @@ fn del_entry<G: Ground, W: Watch>(
         (leaving storage.old storage.new w.trace (λ trace. record w { entries = storage.new.map; trace = trace })) }
     ensures made { IsMadeIfOk result }
     ensures later { IsLater storage.old storage.new }
+    ensures key { IfErr result IsKeySpelled }
 {
     let key = data_key(contract, key, durability)?;
     del(storage, key)
@@ -219,6 +224,7 @@ fn has_data<G: Ground, W: Watch>(
         (a ∷ b ∷ []) values.now contract storage.old storage.new budget.old budget.new (copied copy.now) (copied copy.now) }
     ensures made { IsMadeIfOk result }
     ensures read { IsRead storage.old storage.new }
+    ensures key { IfErr result IsKeySpelled }
 {
     let key = values.value(a)?;
     enter(budget, &[a])?;
@@ -238,7 +244,8 @@ pub fn has_contract_data<G: Ground, W: Watch>(
     b: u64,
 ) -> Result<Answer, HostErr>
     requires { IsReady host.old }
-    ensures { Answers result (kinds.Value ∷ kinds.Unsigned ∷ []) has_contract_data (a ∷ b ∷ []) host.old host.new }
+    ensures does { Answers result (kinds.Value ∷ kinds.Unsigned ∷ []) has_contract_data (a ∷ b ∷ []) host.old host.new }
+    ensures key { IfErr result IsKeySpelled }
 {
     let values = Values::new(&host.objects, &host.frame.shown);
     has_data(
@@ -268,6 +275,7 @@ fn extend_entry<G: Ground, W: Watch>(
         (leaving storage.old storage.new w.trace (λ trace. record w { entries = storage.new.map; trace = trace })) }
     ensures made { IsMadeIfOk result }
     ensures later { IsLater storage.old storage.new }
+    ensures key { IfErr result IsKeySpelled }
 {
     if is_backward(threshold, extend_to) {
         return Err(INVALID_STORAGE_INPUT);
@@ -292,6 +300,7 @@ fn extend_data<G: Ground, W: Watch>(
         (a ∷ b ∷ c ∷ d ∷ []) values.now contract storage.old storage.new budget.old budget.new copy copy }
     ensures made { IsMadeIfOk result }
     ensures later { IsLater storage.old storage.new }
+    ensures key { IfErr result IsKeySpelled }
 {
     let key = values.value(a)?;
     let threshold = values.number32(c)?;
@@ -321,8 +330,9 @@ pub fn extend_contract_data_ttl<G: Ground, W: Watch>(
     d: u64,
 ) -> Result<Answer, HostErr>
     requires { IsReady host.old }
-    ensures { Answers result (kinds.Value ∷ kinds.Unsigned ∷ kinds.U32 ∷ kinds.U32 ∷ []) extend_contract_data_ttl
+    ensures does { Answers result (kinds.Value ∷ kinds.Unsigned ∷ kinds.U32 ∷ kinds.U32 ∷ []) extend_contract_data_ttl
         (a ∷ b ∷ c ∷ d ∷ []) host.old host.new }
+    ensures key { IfErr result IsKeySpelled }
 {
     let values = Values::new(&host.objects, &host.frame.shown);
     extend_data(
@@ -352,6 +362,7 @@ fn get_data<G: Ground, W: Watch>(
         (a ∷ b ∷ []) values.now contract storage.old storage.new budget.old budget.new (copied copy.now) (copied copy.now) }
     ensures made { IsMadeIfOk result }
     ensures read { IsRead storage.old storage.new }
+    ensures key { IfErr result IsKeySpelled }
 {
     let key = values.value(a)?;
     enter(budget, &[a])?;
@@ -371,7 +382,8 @@ pub fn get_contract_data<G: Ground, W: Watch>(
     b: u64,
 ) -> Result<Answer, HostErr>
     requires { IsReady host.old }
-    ensures { Answers result (kinds.Value ∷ kinds.Unsigned ∷ []) get_contract_data (a ∷ b ∷ []) host.old host.new }
+    ensures does { Answers result (kinds.Value ∷ kinds.Unsigned ∷ []) get_contract_data (a ∷ b ∷ []) host.old host.new }
+    ensures key { IfErr result IsKeySpelled }
 {
     let values = Values::new(&host.objects, &host.frame.shown);
     get_data(
@@ -401,6 +413,7 @@ fn del_data<G: Ground, W: Watch>(
     ensures made { IsMadeIfOk result }
     ensures later { IsLater storage.old storage.new }
     ensures held { IsHeld copy.new.storage }
+    ensures key { IfErr result IsKeySpelled }
 {
     let key = values.value(a)?;
     enter(budget, &[a])?;
@@ -420,7 +433,8 @@ pub fn del_contract_data<G: Ground, W: Watch>(
     b: u64,
 ) -> Result<Answer, HostErr>
     requires { IsReady host.old }
-    ensures { Answers result (kinds.Value ∷ kinds.Unsigned ∷ []) del_contract_data (a ∷ b ∷ []) host.old host.new }
+    ensures does { Answers result (kinds.Value ∷ kinds.Unsigned ∷ []) del_contract_data (a ∷ b ∷ []) host.old host.new }
+    ensures key { IfErr result IsKeySpelled }
 {
     let values = Values::new(&host.objects, &host.frame.shown);
     del_data(

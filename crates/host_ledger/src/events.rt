@@ -16,12 +16,13 @@ ghost use Rattle.call_spec.specs.Rules.{answered};
 ghost use Rattle.call_spec.specs.Events.{event_of as event_with, emits, contract_event};
 ghost use Rattle.host_ledger.specs.Worlds.{IsReady};
 ghost use Rattle.host_ledger.specs.Answered.{Answers, IsMadeIfOk};
+ghost use Rattle.host_ledger.specs.Spelled.{IsKeySpelled};
 
 use crate::event_list::Events;
 use crate::state::HostLedger;
 use crate::values::{clone_value, clone_values};
 use budget_meter::{Budget, Kind};
-use contract_storage::Watch;
+use contract_storage::{Moment, Watch};
 use entry_lookup::Ground;
 use host_frame::{Answer, Values, charge, enter};
 use host_spec::{HostErr, ValueErr};
@@ -76,6 +77,7 @@ pub(crate) fn emit(
         (quiet w (λ trace. record w { events = events.new; trace = trace; meter = budget.new })) }
     ensures made { IsMadeIfOk result }
     ensures later { (more : List _) × (events.new ≡ events.old ++ more) }
+    ensures key { IfErr result IsKeySpelled }
 {
     charge(budget, Kind::ValSer, event.size())?;
     events.push(event)?;
@@ -97,6 +99,7 @@ fn emit_event(
         (quiet w (λ trace. record w { events = events.new; trace = trace; meter = budget.new })) }
     ensures made { IsMadeIfOk result }
     ensures later { (more : List _) × (events.new ≡ events.old ++ more) }
+    ensures key { IfErr result IsKeySpelled }
 {
     let topics = values.vec(a)?;
     let content = values.value(b)?;
@@ -105,14 +108,15 @@ fn emit_event(
     emit(events, budget, event)
 }
 
-/// `contract_event`: appends an event of the contract that runs.
-pub fn contract_event<G: Ground, W: Watch>(
+/// Appends an event of the contract that runs.
+fn append_event<G: Ground, W: Watch>(
     host: &mut HostLedger<'_, G, W>,
     a: u64,
     b: u64,
 ) -> Result<Answer, HostErr>
     requires { IsReady host.old }
-    ensures { Answers result (kinds.Vec ∷ kinds.Value ∷ []) (λ _. contract_event) (a ∷ b ∷ []) host.old host.new }
+    ensures does { Answers result (kinds.Vec ∷ kinds.Value ∷ []) (λ _. contract_event) (a ∷ b ∷ []) host.old host.new }
+    ensures key { IfErr result IsKeySpelled }
 {
     let values = Values::new(&host.objects, &host.frame.shown);
     emit_event(
@@ -123,4 +127,30 @@ pub fn contract_event<G: Ground, W: Watch>(
         a,
         b,
     )
+}
+
+/// Tells the observer of the newest event.
+pub(crate) fn tell_emitted<G: Ground, W: Watch>(host: &mut HostLedger<'_, G, W>)
+    ensures { host.new ≡ host.old }
+{
+    if let [.., event] = host.events.as_slice() {
+        host.storage.tell(Moment::Emitted { event });
+    }
+}
+
+/// `contract_event`: appends an event of the contract that runs.
+pub fn contract_event<G: Ground, W: Watch>(
+    host: &mut HostLedger<'_, G, W>,
+    a: u64,
+    b: u64,
+) -> Result<Answer, HostErr>
+    requires { IsReady host.old }
+    ensures does { Answers result (kinds.Vec ∷ kinds.Value ∷ []) (λ _. contract_event) (a ∷ b ∷ []) host.old host.new }
+    ensures key { IfErr result IsKeySpelled }
+{
+    let answer = append_event(host, a, b);
+    if answer.is_ok() {
+        tell_emitted(host);
+    }
+    answer
 }

@@ -1,8 +1,9 @@
 //! Calls of functions by the number of their words.
 
-ghost use Rattle.std.specs.Prelude.{◌≡◌, [], ◌∷◌};
+ghost use Rattle.std.specs.Prelude.{◌≡◌, [], ◌∷◌, IfErr};
 ghost use Rattle.host_ledger.specs.Worlds.{IsReady};
 ghost use Rattle.host_ledger.specs.Rows.{AnswersRow, group_of};
+ghost use Rattle.host_ledger.specs.Spelled.{IsKeySpelled};
 
 use crate::context::{
     fail_with_error, get_current_contract_address, get_ledger_network_id, get_ledger_sequence,
@@ -31,7 +32,8 @@ pub(crate) fn without_words<G: Ground, W: Watch>(
 ) -> Result<Answer, HostErr>
     requires group { group_of «import» ≡ 1 }
     requires ready { IsReady host.old }
-    ensures { AnswersRow result «import» ([]) host.old host.new }
+    ensures does { AnswersRow result «import» ([]) host.old host.new }
+    ensures key { IfErr result IsKeySpelled }
 {
     match import {
         HostImport::GetLedgerVersion => get_ledger_version(host),
@@ -53,7 +55,8 @@ pub(crate) fn one_word<G: Ground, W: Watch>(
 ) -> Result<Answer, HostErr>
     requires group { group_of «import» ≡ 2 }
     requires ready { IsReady host.old }
-    ensures { AnswersRow result «import» (a ∷ []) host.old host.new }
+    ensures does { AnswersRow result «import» (a ∷ []) host.old host.new }
+    ensures key { IfErr result IsKeySpelled }
 {
     match import {
         HostImport::FailWithError => fail_with_error(host, a),
@@ -72,7 +75,8 @@ pub(crate) fn two_words<G: Ground, W: Watch>(
 ) -> Result<Answer, HostErr>
     requires group { group_of «import» ≡ 3 }
     requires ready { IsReady host.old }
-    ensures { AnswersRow result «import» (a ∷ b ∷ []) host.old host.new }
+    ensures does { AnswersRow result «import» (a ∷ b ∷ []) host.old host.new }
+    ensures key { IfErr result IsKeySpelled }
 {
     match import {
         HostImport::ContractEvent => contract_event(host, a, b),
@@ -97,7 +101,8 @@ pub(crate) fn three_words<G: Ground, W: Watch>(
 ) -> Result<Answer, HostErr>
     requires group { group_of «import» ≡ 4 }
     requires ready { IsReady host.old }
-    ensures { AnswersRow result «import» (a ∷ b ∷ c ∷ []) host.old host.new }
+    ensures does { AnswersRow result «import» (a ∷ b ∷ c ∷ []) host.old host.new }
+    ensures key { IfErr result IsKeySpelled }
 {
     match import {
         HostImport::PutContractData => put_contract_data(host, a, b, c),
@@ -117,7 +122,8 @@ pub(crate) fn four_words<G: Ground, W: Watch>(
 ) -> Result<Answer, HostErr>
     requires group { group_of «import» ≡ 5 }
     requires ready { IsReady host.old }
-    ensures { AnswersRow result «import» (a ∷ b ∷ c ∷ d ∷ []) host.old host.new }
+    ensures does { AnswersRow result «import» (a ∷ b ∷ c ∷ d ∷ []) host.old host.new }
+    ensures key { IfErr result IsKeySpelled }
 {
     match import {
         HostImport::ExtendContractDataTtl => extend_contract_data_ttl(host, a, b, c, d),

@@ -20,6 +20,7 @@ ghost use Rattle.call_spec.specs.Outcomes.{quiet, Says};
 ghost use Rattle.call_spec.specs.Rules.{answered, returning};
 ghost use Rattle.host_ledger.specs.Worlds.{IsReady};
 ghost use Rattle.host_ledger.specs.Answered.{Answers, IsMadeIfOk};
+ghost use Rattle.host_ledger.specs.Spelled.{IsKeySpelled};
 
 use crate::context::address_of;
 use crate::errors::OTHER_SIZE;
@@ -121,6 +122,7 @@ fn paid_id(
         (returning (gives (contract_id_of network.now (Preimage.FromAddress deployer salt)))
         (λ id. address (ScAddress.Contract id))) w) (quiet w (λ trace. record w { trace = trace; meter = budget.new })) }
     ensures made { IsMadeIfOk result }
+    ensures key { IfErr result IsKeySpelled }
 {
     let size = payload_size(*network, deployer, salt);
     charge(budget, Kind::ComputeSha256Hash, size)?;
@@ -141,6 +143,7 @@ fn id_of_words(
         → Says result answer_of (answered (kinds.Address ∷ kinds.Bytes ∷ []) (get_contract_id env) (a ∷ b ∷ []) w)
         (quiet w (λ trace. record w { trace = trace; meter = budget.new })) }
     ensures made { IsMadeIfOk result }
+    ensures key { IfErr result IsKeySpelled }
 {
     let deployer = values.address(a)?;
     let salt = values.bytes(b)?;
@@ -158,7 +161,8 @@ pub fn get_contract_id<G: Ground, W: Watch>(
     b: u64,
 ) -> Result<Answer, HostErr>
     requires { IsReady host.old }
-    ensures { Answers result (kinds.Address ∷ kinds.Bytes ∷ []) get_contract_id (a ∷ b ∷ []) host.old host.new }
+    ensures does { Answers result (kinds.Address ∷ kinds.Bytes ∷ []) get_contract_id (a ∷ b ∷ []) host.old host.new }
+    ensures key { IfErr result IsKeySpelled }
 {
     let values = Values::new(&host.objects, &host.frame.shown);
     id_of_words(&mut host.budget, &values, &host.header.network_id, a, b)

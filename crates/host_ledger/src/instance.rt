@@ -1,6 +1,6 @@
 //! Module l: the lives of the contract's instance and of its code.
 
-ghost use Rattle.std.specs.Prelude.{◌≡◌, [], ◌∷◌, nat_lt, false};
+ghost use Rattle.std.specs.Prelude.{◌≡◌, [], ◌∷◌, nat_lt, false, IfErr};
 ghost use Rattle.ledger_types.specs.Key.{key_format};
 ghost use Rattle.host_interface.specs.declared.kinds.ArgKind.TheVariants as kinds;
 ghost use Rattle.host_frame.specs.Answered.{answer_of};
@@ -15,6 +15,7 @@ ghost use Rattle.call_spec.specs.Storage.{extending, unless_backward, extend_cur
 ghost use Rattle.host_ledger.specs.Worlds.{IsReady, Serves};
 ghost use Rattle.host_ledger.specs.Answered.{Answers, IsMadeIfOk};
 ghost use Rattle.host_ledger.specs.Accessed.{Accesses};
+ghost use Rattle.host_ledger.specs.Spelled.{IsKeySpelled};
 
 use crate::accesses::{extend, is_backward};
 use crate::data::hold_contract;
@@ -67,6 +68,7 @@ fn extend_both<G: Ground, W: Watch>(
         (λ _. extending env (code_key_of code) threshold extend_to)) storage.old storage.new }
     ensures made { IsMadeIfOk result }
     ensures later { IsLater storage.old storage.new }
+    ensures key { IfErr result IsKeySpelled }
 {
     match extend(storage, instance_key(contract), threshold, extend_to) {
         Ok(_) => extend(storage, code_key(code), threshold, extend_to),
@@ -90,6 +92,7 @@ fn extend_lives<G: Ground, W: Watch>(
         (leaving storage.old storage.new w.trace (λ trace. record w { entries = storage.new.map; trace = trace })) }
     ensures made { IsMadeIfOk result }
     ensures later { IsLater storage.old storage.new }
+    ensures key { IfErr result IsKeySpelled }
 {
     if is_backward(threshold, extend_to) {
         return Err(INVALID_STORAGE_INPUT);
@@ -115,6 +118,7 @@ fn extend_instance<G: Ground, W: Watch>(
         (λ trace. record w { entries = storage.new.map; trace = trace; meter = budget.new })) }
     ensures made { IsMadeIfOk result }
     ensures later { IsLater storage.old storage.new }
+    ensures key { IfErr result IsKeySpelled }
 {
     let threshold = values.number32(a)?;
     let extend_to = values.number32(b)?;
@@ -129,8 +133,9 @@ pub fn extend_current_contract_instance_and_code_ttl<G: Ground, W: Watch>(
     b: u64,
 ) -> Result<Answer, HostErr>
     requires { IsReady host.old }
-    ensures { Answers result (kinds.U32 ∷ kinds.U32 ∷ []) extend_current_contract_instance_and_code_ttl
+    ensures does { Answers result (kinds.U32 ∷ kinds.U32 ∷ []) extend_current_contract_instance_and_code_ttl
         (a ∷ b ∷ []) host.old host.new }
+    ensures key { IfErr result IsKeySpelled }
 {
     let values = Values::new(&host.objects, &host.frame.shown);
     extend_instance(

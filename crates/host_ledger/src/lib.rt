@@ -14,7 +14,8 @@
 //!
 //! 1. The row's clause is `Answers`: the kinds of the arguments, as the table of host_interface has them, the rule of call_spec,
 //!    the words, and the state before and after. It says what the row returns, with each charge and each end, that the answer may
-//!    be shown, and what stays (`Stays`). `IsReady` is what each row needs. Later calls find it again by `Stays`.
+//!    be shown, and what stays (`Stays`). `IsReady` is what each row needs. Later calls find it again by `Stays`. The clause
+//!    `key` of each function that may end so says that the key that an error names has a spelling.
 //! 2. A row that borrows nothing from the state is one function (`context`).
 //! 3. Any other row lends parts of the state to a body, as its last act. The body takes `Values`, so its `?`s and the drops of
 //!    its values do not touch the state. Its clause is `Runs`: the same over every world with these parts. The row's answer is

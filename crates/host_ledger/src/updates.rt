@@ -25,10 +25,11 @@ ghost use Rattle.call_spec.specs.Rules.{answered, nothing};
 ghost use Rattle.host_ledger.specs.Worlds.{IsReady, Serves, copied};
 ghost use Rattle.host_ledger.specs.Answered.{Answers, IsMadeIfOk};
 ghost use Rattle.host_ledger.specs.Accessed.{Accesses, named as named_by};
+ghost use Rattle.host_ledger.specs.Spelled.{IsKeySpelled};
 
 use crate::accesses::end_of;
 use crate::event_list::Events;
-use crate::events::{emit, hold_hash};
+use crate::events::{emit, hold_hash, tell_emitted};
 use crate::ids::hash_of;
 use crate::instance::code_key;
 use crate::state::{HostLedger, InstanceCopy};
@@ -128,6 +129,7 @@ fn emit_update(
         (quiet w (λ trace. record w { events = events.new; trace = trace; meter = budget.new })) }
     ensures made { IsMadeIfOk result }
     ensures later { (more : List _) × (events.new ≡ events.old ++ more) }
+    ensures key { IfErr result IsKeySpelled }
 {
     hold_hash(contract);
     hold_hash(old);
@@ -158,6 +160,7 @@ fn replace_code(
     ensures made { IsMadeIfOk result }
     ensures later { (more : List _) × (events.new ≡ events.old ++ more) }
     ensures storage { copy.new.storage ≡ copy.old.storage }
+    ensures key { IfErr result IsKeySpelled }
 {
     match emit_update(events, budget, alloc, contract, copy.code, code) {
         Ok(_) => {
@@ -169,6 +172,7 @@ fn replace_code(
 }
 
 /// Updates the code of the frame's copy to one that is in the ledger.
+#[tactic(auto, using(crate::proofs::Spelling::access_spelled))]
 fn update_to<G: Ground, W: Watch>(
     storage: &mut Storage<'_, G, W>,
     events: &mut Events,
@@ -194,6 +198,7 @@ fn update_to<G: Ground, W: Watch>(
     ensures later { (more : List _) × (events.new ≡ events.old ++ more) }
     ensures storage { copy.new.storage ≡ copy.old.storage }
     ensures read { IsRead storage.old storage.new }
+    ensures key { IfErr result IsKeySpelled }
 {
     match code_at(storage, code) {
         Ok(_) => replace_code(events, budget, alloc, contract, copy, code),
@@ -225,6 +230,7 @@ fn update_code<G: Ground, W: Watch>(
     ensures later { (more : List _) × (events.new ≡ events.old ++ more) }
     ensures storage { copy.new.storage ≡ copy.old.storage }
     ensures read { IsRead storage.old storage.new }
+    ensures key { IfErr result IsKeySpelled }
 {
     let bytes = values.bytes(a)?;
     enter(budget, &[a])?;
@@ -242,13 +248,14 @@ fn update_code<G: Ground, W: Watch>(
     }
 }
 
-/// `update_current_contract_wasm`: changes the contract's code to one that is in the ledger. The frame goes on with the old one.
-pub fn update_current_contract_wasm<G: Ground, W: Watch>(
+/// Changes the code of the contract that runs, and appends the event of that.
+fn update_running<G: Ground, W: Watch>(
     host: &mut HostLedger<'_, G, W>,
     a: u64,
 ) -> Result<Answer, HostErr>
     requires { IsReady host.old }
-    ensures { Answers result (kinds.Bytes ∷ []) update_current_contract_wasm (a ∷ []) host.old host.new }
+    ensures does { Answers result (kinds.Bytes ∷ []) update_current_contract_wasm (a ∷ []) host.old host.new }
+    ensures key { IfErr result IsKeySpelled }
 {
     let values = Values::new(&host.objects, &host.frame.shown);
     update_code(
@@ -260,4 +267,20 @@ pub fn update_current_contract_wasm<G: Ground, W: Watch>(
         &mut host.frame.copy,
         a,
     )
+}
+
+/// `update_current_contract_wasm`: changes the contract's code to one that is in the ledger. The frame goes on with the old one.
+pub fn update_current_contract_wasm<G: Ground, W: Watch>(
+    host: &mut HostLedger<'_, G, W>,
+    a: u64,
+) -> Result<Answer, HostErr>
+    requires { IsReady host.old }
+    ensures does { Answers result (kinds.Bytes ∷ []) update_current_contract_wasm (a ∷ []) host.old host.new }
+    ensures key { IfErr result IsKeySpelled }
+{
+    let answer = update_running(host, a);
+    if answer.is_ok() {
+        tell_emitted(host);
+    }
+    answer
 }

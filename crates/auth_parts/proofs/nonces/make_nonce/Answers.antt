@@ -1,3 +1,6 @@
+use Rattle.std.proofs.Common.{ap, sym, ◌∙◌}
+use Rattle.ledger_types.specs.Entry.{key_of}
+use Rattle.host_ledger.proofs.Lemmas.{put_spelled}
 use Rattle.auth_parts.proofs.Making.{nonce_made, nonce_used, nonce_refused}
 use Rattle.auth_parts.proofs.nonces.make_nonce.Goals as goal
 
@@ -14,3 +17,7 @@ pub returns-clause-does : goal.returns-clause-does
 returns-clause-does g c =
     nonce_refused c.args.signer.now c.in-Err.error c.end_of.result c.nonce_key-again.result c.nonce_entry-entry.result c.args.n c.args.storage.now c.make.new.self c.args.budget.now c.end_of.ensures c.nonce_key-again.ensures
     c.nonce_entry-entry.ensures.entry c.requires.number c.nonce_entry-entry.ensures.fits c.in-Err.ensures
+
+pub returns-clause-key : goal.returns-clause-key
+returns-clause-key g c =
+    put_spelled c.in-Err.error c.end_of.result c.nonce_entry-entry.result c.nonce_key-again.result (c.nonce_key-again.ensures ∙ sym (ap key_of c.nonce_entry-entry.ensures.entry)) c.nonce_entry-entry.ensures.fits c.end_of.ensures

@@ -7,12 +7,12 @@ use Rattle.call_parts.specs.Steps.{Charges}
 use Rattle.call_parts.proofs.Stepping.{run_paid, run_unpaid}
 use Rattle.call_parts.proofs.frames.charge_run.Goals as goal
 
-pub returns-in-Ok : goal.returns-in-Ok
-returns-in-Ok c =
+pub returns-in-Ok-clause-does : goal.returns-in-Ok-clause-does
+returns-in-Ok-clause-does c =
     run_paid tt c.pay.result c.args.module.now.memories c.args.budget.now c.charge_pages.new.budget c.pay.new.budget
-    (subst (λ (ms : List ResizableLimits). let r : Result (Unit {0}) HostErr = Ok tt in Charges r (λ u. u) (paying_pages ms (gives tt)) c.args.budget.now c.charge_pages.new.budget) c.as_slice.ensures c.in-Ok.ensures) c.pay.ensures.does
+    (subst (λ (ms : List ResizableLimits). let r : Result (Unit {0}) HostErr = Ok tt in Charges r (λ u. u) (paying_pages ms (gives tt)) c.args.budget.now c.charge_pages.new.budget) c.as_slice.ensures c.in-Ok.ensures.does) c.pay.ensures.does
 
-pub returns-in-Err : goal.returns-in-Err
-returns-in-Err c =
+pub returns-in-Err-clause-does : goal.returns-in-Err-clause-does
+returns-in-Err-clause-does c =
     run_unpaid c.in-Err.error c.args.module.now.memories c.args.budget.now c.charge_pages.new.budget
-    (subst (λ (ms : List ResizableLimits). let r : Result (Unit {0}) HostErr = Err c.in-Err.error in Charges r (λ u. u) (paying_pages ms (gives tt)) c.args.budget.now c.charge_pages.new.budget) c.as_slice.ensures c.in-Err.ensures)
+    (subst (λ (ms : List ResizableLimits). let r : Result (Unit {0}) HostErr = Err c.in-Err.error in Charges r (λ u. u) (paying_pages ms (gives tt)) c.args.budget.now c.charge_pages.new.budget) c.as_slice.ensures c.in-Err.ensures.does)

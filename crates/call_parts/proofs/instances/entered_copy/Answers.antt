@@ -10,4 +10,4 @@ use Rattle.call_parts.proofs.instances.entered_copy.Goals as goal
 pub returns-in-Ok-clause-does : goal.returns-in-Ok-clause-does
 returns-in-Ok-clause-does c key =
     copy_entered c.args.code c.in-Ok.storage c.args.entries.now (entry (map (members_of c.args.entries.now))) key
-    (subst (λ (ms : List Member). let q : Result (Option (List Member)) HostErr = Ok c.in-Ok.storage in IsEntered q ms (entry (map (members_of ms)))) c.in_ok-copy.ensures.ok c.in-Ok.ensures)
+    (subst (λ (ms : List Member). let q : Result (Option (List Member)) HostErr = Ok c.in-Ok.storage in IsEntered q ms (entry (map (members_of ms)))) c.in_ok-copy.ensures.ok c.in-Ok.ensures.does)

@@ -6,7 +6,7 @@ use Rattle.call_parts.proofs.modules.call_module.Goals as goal
 pub returns-in-Ok-clause-does : goal.returns-in-Ok-clause-does
 returns-in-Ok-clause-does g c =
     let found = rw c.in-Ok.is at c.find_code.follows.holds-at-none in
-    code_read (λ (code : Bor (List ℕ)). code.now) c.in-Ok.code c.read_module.result c.args.hash c.args.storage.now c.find_code.follows.lender-at-none c.args.budget.now c.read_module.new.budget found.0 found.1 c.read_module.ensures
+    code_read (λ (code : Bor (List ℕ)). code.now) c.in-Ok.code c.read_module.result c.args.hash c.args.storage.now c.find_code.follows.lender-at-none c.args.budget.now c.read_module.new.budget found.0 found.1 c.read_module.ensures.does
 
 pub returns-in-Ok-clause-read : goal.returns-in-Ok-clause-read
 returns-in-Ok-clause-read g c = c.find_code.follows.holds-at-none.1

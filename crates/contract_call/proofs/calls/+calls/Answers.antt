@@ -102,14 +102,14 @@ call_target-returns-in-Ok-clause-does g t c =
 pub enter-returns-in-Ok-clause-does : goal.enter-returns-in-Ok-clause-does
 enter-returns-in-Ok-clause-does g t c =
     let m = c.args.module.now in
-    let index = c.in-Ok.ensures.0 in
-    let store = c.in-Ok.ensures.1 in
+    let index = c.in-Ok.ensures.does.0 in
+    let store = c.in-Ok.ensures.does.1 in
     let function = c.args.place.function.items in
     let count = c.len.ensures ∙ c.args.args.ok.0 ∙ sym (length-map c.args.args.items datum) in
     start_ready (start_of m function (length (datums c.args.args.items))) index store c.open.result datum
     (λ env index store. framed env (host_of env (opener_of env c.args.room)) (entered c.args.frame function (datums c.args.args.items) c.args.place.path.items m index store)) c.args.host.now c.open.new.host
-    (subst (λ f. start_of m f (length (datums c.args.args.items)) ≡ Ready index store) c.as_slice.ensures.value (subst (λ n. start_of m c.as_slice.result.now n ≡ Ready index store) count c.in-Ok.ensures.2))
-    (c.open.ensures.does index store (subst (λ n. IsFresh c.in-Ok.instance m index n store) count c.in-Ok.ensures.3))
+    (subst (λ f. start_of m f (length (datums c.args.args.items)) ≡ Ready index store) c.as_slice.ensures.value (subst (λ n. start_of m c.as_slice.result.now n ≡ Ready index store) count c.in-Ok.ensures.does.2))
+    (c.open.ensures.does index store (subst (λ n. IsFresh c.in-Ok.instance m index n store) count c.in-Ok.ensures.does.3))
 
 pub enter-returns-in-Err-clause-does : goal.enter-returns-in-Err-clause-does
 enter-returns-in-Err-clause-does g t c =
@@ -118,7 +118,10 @@ enter-returns-in-Err-clause-does g t c =
     let count = c.len.ensures ∙ c.args.args.ok.0 ∙ sym (length-map c.args.args.items datum) in
     start_refused c.args.module.now function (length (datums c.args.args.items)) c.in-Err.error
     (λ env index store. framed env (host_of env (opener_of env c.args.room)) (entered c.args.frame function (datums c.args.args.items) c.args.place.path.items c.args.module.now index store)) c.args.host.now
-    (subst (λ f. IsStarted c.args.module.now f (length (datums c.args.args.items)) none) c.as_slice.ensures.value (subst (λ n. IsStarted c.args.module.now c.as_slice.result.now n none) count c.in-Err.ensures))
+    (subst (λ f. IsStarted c.args.module.now f (length (datums c.args.args.items)) none) c.as_slice.ensures.value (subst (λ n. IsStarted c.args.module.now c.as_slice.result.now n none) count c.in-Err.ensures.does))
+
+pub enter-returns-in-Err-clause-stays : goal.enter-returns-in-Err-clause-stays
+enter-returns-in-Err-clause-stays g t c = stays_equal c.args.host.now c.args.host.now refl refl
 
 pub run-loop-instance-init : goal.run-loop-instance-init
 run-loop-instance-init g t c = (stays_same c.args.host.now c.requires.ready, c.requires.phase, c.requires.source, follows_first c.args.module.now c.args.room c.args.instance c.args.host.now)
@@ -247,7 +250,7 @@ call_row-returns-in-Ok-clause-does g t c =
     taken_does x c.valued.result (λ env. answered (kinds.Address ∷ kinds.Symbol ∷ kinds.Vec ∷ []) (call env (opener_of env c.args.room)) c.args.words.now)
     (λ env x. call env (opener_of env c.args.room) x.contract x.function.items (datums x.args.items)) old mid c.call-made.new.host c.in-Ok.ensures.stays (c.in-Ok.ensures.takes (λ env. call env (opener_of env c.args.room)))
     (called_by (λ act. act) c.args.room x.contract c.as_slice.result.now x.function.items (datums x.args.items) c.call-made.result c.valued.result mid c.call-made.new.host c.as_slice.ensures.value c.call-made.ensures.stays
-    c.valued.ensures c.call-made.ensures.does)
+    c.valued.ensures.does c.call-made.ensures.does)
 
 pub call_row-returns-in-Err-clause-does : goal.call_row-returns-in-Err-clause-does
 call_row-returns-in-Err-clause-does g t c = c.in-Err.ensures.takes (λ env. call env (opener_of env c.args.room))
@@ -264,7 +267,7 @@ try_row-returns-in-Ok-clause-does g t c =
     taken_does x c.valued.result (λ env. answered (kinds.Address ∷ kinds.Symbol ∷ kinds.Vec ∷ []) (try_call env (opener_of env c.args.room)) c.args.words.now)
     (λ env x. try_call env (opener_of env c.args.room) x.contract x.function.items (datums x.args.items)) old mid c.caught-made.new.host c.in-Ok.ensures.stays (c.in-Ok.ensures.takes (λ env. try_call env (opener_of env c.args.room)))
     (called_by catching c.args.room x.contract c.as_slice.result.now x.function.items (datums x.args.items) c.caught-made.result c.valued.result mid c.caught-made.new.host c.as_slice.ensures.value
-    (c.caught-made.ensures.stays mid marks c.call-made.ensures.stays) c.valued.ensures (c.caught-made.ensures.does mid (λ (env : Env). calls env (opener_of env c.args.room) (record { caller = Some (Contract mid.ledger.frame.contract); address = x.contract; function = c.as_slice.result.now; args = datums x.args.items })) marks c.call-made.ensures.stays c.call-made.ensures.does))
+    (c.caught-made.ensures.stays mid marks c.call-made.ensures.stays) c.valued.ensures.does (c.caught-made.ensures.does mid (λ (env : Env). calls env (opener_of env c.args.room) (record { caller = Some (Contract mid.ledger.frame.contract); address = x.contract; function = c.as_slice.result.now; args = datums x.args.items })) marks c.call-made.ensures.stays c.call-made.ensures.does))
 
 pub try_row-returns-in-Ok-clause-stays : goal.try_row-returns-in-Ok-clause-stays
 try_row-returns-in-Ok-clause-stays g t c =
@@ -297,7 +300,7 @@ pub create_here-returns-clause-does : goal.create_here-returns-clause-does
 create_here-returns-clause-does g t c =
     let h = c.args.host.now in
     let creator = Some (Contract h.ledger.frame.contract) in
-    valued_does c.create-made.result (λ id. id) (λ id. address (Contract id)) c.addressed.result (λ env. creates env (opener_of env c.args.room) creator (creation_of c.args.contract)) h c.create-made.new.host c.addressed.ensures
+    valued_does c.create-made.result (λ id. id) (λ id. address (Contract id)) c.addressed.result (λ env. creates env (opener_of env c.args.room) creator (creation_of c.args.contract)) h c.create-made.new.host c.addressed.ensures.does
     (in_around c.create-made.result (λ id. id) (λ env. creates env (opener_of env c.args.room) creator (creation_of c.args.contract)) h c.create-made.new.host c.create-made.ensures.stays c.create-made.ensures.does)
 
 pub create-returns-in-Ok-clause-does : goal.create-returns-in-Ok-clause-does
@@ -404,7 +407,7 @@ construct-returns-in-Ok-clause-does g t c =
     let args = c.given_args-args.result.items in
     constructs_does c.args.room c.if-room-eq0.false c.args.creator c.args.id (creation_of c.args.contract) copy c.running-frame.result c.in-Ok.place args c.args.path.items c.args.module.now c.enter-returned.result c.constructed.result
     c.args.host.now c.enter-returned.new.host c.given_args-args.ensures.args (sym c.if-not-has_constructor.ensures) c.running-frame.ensures.contract c.running-frame.ensures.caller c.running-frame.ensures.copy refl
-    (subst (λ (vs : List ScVal). IsNewPlace c.in-Ok.place CONSTRUCTOR vs (c.args.path.items ++ 1 ∷ [])) c.as_slice.ensures.value c.in-Ok.ensures.ok) c.enter-returned.ensures.stays c.constructed.ensures c.enter-returned.ensures.does
+    (subst (λ (vs : List ScVal). IsNewPlace c.in-Ok.place CONSTRUCTOR vs (c.args.path.items ++ 1 ∷ [])) c.as_slice.ensures.value c.in-Ok.ensures.ok) c.enter-returned.ensures.stays c.constructed.ensures.does c.enter-returned.ensures.does
 
 pub build-returns-in-Ok-clause-does : goal.build-returns-in-Ok-clause-does
 build-returns-in-Ok-clause-does g t c =
@@ -433,7 +436,7 @@ authorise-returns-in-Ok-create_function-clause-does g t c =
     let met = c.settle-settled.result in
     let stays = stays_then mid (record mid { marks = marks }) new (marked_stays mid path caller made.deployer function c.demand-met.result marks c.demand-met.ensures) (subst (λ h. Stays h new) c.tell_demanded.ensures c.settle-settled.ensures.stays) in
     authorises_does room creator made path c.in-Ok.id c.granted.result c.args.host.now mid new c.in-Ok.ensures.stays c.in-Ok.ensures.does
-    (grants_does room creator made path c.in-Ok.id met c.granted.result mid new (env_later mid new stays) c.granted.ensures
+    (grants_does room creator made path c.in-Ok.id met c.granted.result mid new (env_later mid new stays) c.granted.ensures.does
     (subst (λ f. DoesAround met (λ u. u) (λ env. demanded env (opener_of env room) path creator made.deployer f) mid new) c.in-Ok-create_function.ensures.ok
     (subst (λ a. DoesAround met (λ u. u) (λ env. demanded env (opener_of env room) path a made.deployer function) mid new) c.contract_address-caller.ensures
     (demanded_does room path caller made.deployer function c.demand-met.result met mid marks new c.demand-met.ensures c.settle-settled.ensures.memory
@@ -486,7 +489,7 @@ demand_here-returns-clause-does g t c =
     let marks = c.demand-met.new.self in
     let met = c.settle-settled.result in
     let stays = stays_then h (record h { marks = marks }) new (marked_stays h path caller c.args.address c.args.function c.demand-met.result marks c.demand-met.ensures) (subst (λ x. Stays x new) c.tell_demanded.ensures c.settle-settled.ensures.stays) in
-    here_does room c.args.address c.args.function met c.authorised.result h new stays c.authorised.ensures
+    here_does room c.args.address c.args.function met c.authorised.result h new stays c.authorised.ensures.does
     (subst (λ a. DoesAround met (λ u. u) (λ env. demanded env (opener_of env room) h.place.path.items a c.args.address c.args.function) h new) c.contract_address-caller.ensures
     (subst (λ p. DoesAround met (λ u. u) (λ env. demanded env (opener_of env room) p caller c.args.address c.args.function) h new) c.as_slice-path.ensures.value
     (demanded_does room path caller c.args.address c.args.function c.demand-met.result met h marks new c.demand-met.ensures c.settle-settled.ensures.memory
@@ -524,7 +527,7 @@ pub check-returns-clause-does : goal.check-returns-clause-does
 check-returns-clause-does g t c =
     let h = c.args.host.now in
     let new = c.call-returned.new.host in
-    checks_does c.call-returned.result c.checked.result (λ env. calls_for_host env (opener_of env c.args.room) (check_of c.args.contract (datums c.args.args.items))) h new (env_later h new c.call-returned.ensures.stays) c.checked.ensures
+    checks_does c.call-returned.result c.checked.result (λ env. calls_for_host env (opener_of env c.args.room) (check_of c.args.contract (datums c.args.args.items))) h new (env_later h new c.call-returned.ensures.stays) c.checked.ensures.does
     c.call-returned.ensures.does
 
 pub call_target-returns-in-Err-clause-stays : goal.call_target-returns-in-Err-clause-stays

@@ -5,12 +5,12 @@ use Rattle.call_spec.specs.Outcomes.{trace_of}
 use Rattle.contract_call.proofs.Splitting.{tested}
 use Rattle.contract_call.proofs.targets.admitted.Goals as goal
 
-pub returns-then-is_running : goal.returns-then-is_running
-returns-then-is_running c w at =
+pub returns-then-is_running-clause-does : goal.returns-then-is_running-clause-does
+returns-then-is_running-clause-does c w at =
     let e = tested c.args.named c.args.address c.in-Contract.contract (reverse c.args.open.now) true c.if-not-named.false c.in-Contract.is (sym c.if-is_running.true ∙ c.is_running.ensures) w at in
     (ap (λ (o : Out Hash). trace_of o) e, e)
 
-pub returns : goal.returns
-returns c w at =
+pub returns-clause-does : goal.returns-clause-does
+returns-clause-does c w at =
     let e = tested c.args.named c.args.address c.in-Contract.contract (reverse c.args.open.now) false c.if-not-named.false c.in-Contract.is (sym c.if-is_running.false ∙ c.is_running.ensures) w at in
     (ap (λ (o : Out Hash). trace_of o) e, e)

@@ -5,12 +5,12 @@ use Rattle.contract_call.proofs.words.new_contract.Goals as goal
 
 pub returns-in-Err-clause-takes : goal.returns-in-Err-clause-takes
 returns-in-Err-clause-takes c env opener =
-    code_bad c.in-Err.error env opener c.args.deployer c.args.code.now c.args.salt.now (option_map args_of c.args.args) c.in-Err.ensures
+    code_bad c.in-Err.error env opener c.args.deployer c.args.code.now c.args.salt.now (option_map args_of c.args.args) c.in-Err.ensures.does
 
 pub returns-in-Err-hash_of-clause-takes : goal.returns-in-Err-hash_of-clause-takes
 returns-in-Err-hash_of-clause-takes c env opener =
-    salt_bad c.in-Err-hash_of.error env opener c.args.deployer c.args.code.now c.args.salt.now c.in-Ok.code (option_map args_of c.args.args) c.in-Ok.ensures c.in-Err-hash_of.ensures
+    salt_bad c.in-Err-hash_of.error env opener c.args.deployer c.args.code.now c.args.salt.now c.in-Ok.code (option_map args_of c.args.args) c.in-Ok.ensures.does c.in-Err-hash_of.ensures.does
 
 pub returns-in-Ok-hash_of-clause-takes : goal.returns-in-Ok-hash_of-clause-takes
 returns-in-Ok-hash_of-clause-takes c env opener =
-    both_good env opener c.args.deployer c.args.code.now c.args.salt.now c.in-Ok.code c.in-Ok-hash_of.salt c.args.args c.in-Ok.ensures c.in-Ok-hash_of.ensures
+    both_good env opener c.args.deployer c.args.code.now c.args.salt.now c.in-Ok.code c.in-Ok-hash_of.salt c.args.args c.in-Ok.ensures.does c.in-Ok-hash_of.ensures.does

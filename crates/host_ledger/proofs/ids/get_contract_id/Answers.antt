@@ -7,8 +7,8 @@ use Rattle.host_ledger.proofs.Tracing.{quietly}
 use Rattle.host_ledger.proofs.Rows.{later_same}
 use Rattle.host_ledger.proofs.ids.get_contract_id.Goals as goal
 
-pub returns : goal.returns
-returns g c = record {
+pub returns-clause-does : goal.returns-clause-does
+returns-clause-does g c = record {
   does = λ env is rest trace.
       quietly c.id_of_words.result answer_of _ c.args.host.now.storage (world_at rest c.args.host.now trace) _
       (c.id_of_words.ensures.does env (ap (λ (h : Header). h.network_id) is.header) (world_at rest c.args.host.now trace) refl (sym c.new-values.ensures));

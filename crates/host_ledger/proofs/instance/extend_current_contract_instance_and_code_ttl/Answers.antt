@@ -3,8 +3,8 @@ use Rattle.std.proofs.lemmas.Grind.{common_steps}
 use Rattle.host_ledger.specs.Worlds.{world_at}
 use Rattle.host_ledger.proofs.instance.extend_current_contract_instance_and_code_ttl.Goals as goal
 
-pub returns : goal.returns
-returns g c = record {
+pub returns-clause-does : goal.returns-clause-does
+returns-clause-does g c = record {
   does = λ env is rest trace. c.extend_instance.ensures.does env is.serves (world_at rest c.args.host.now trace) refl refl (sym c.new-values.ensures) refl refl;
   made = c.extend_instance.ensures.made;
   stays = record {

@@ -1,10 +1,10 @@
 use Rattle.std.proofs.Common.{refl, sym, subst}
 use Rattle.host_ledger.specs.Worlds.{IsHeld, world_at}
 use Rattle.host_ledger.proofs.Rows.{later_read}
-use Rattle.host_ledger.proofs.updates.update_current_contract_wasm.Goals as goal
+use Rattle.host_ledger.proofs.updates.update_running.Goals as goal
 
-pub returns : goal.returns
-returns g c = record {
+pub returns-clause-does : goal.returns-clause-does
+returns-clause-does g c = record {
   does = λ env is rest trace. c.update_code.ensures.does env is.serves (world_at rest c.args.host.now trace) refl refl refl (sym c.new-values.ensures) refl refl;
   made = c.update_code.ensures.made;
   stays = record {
