@@ -16,3 +16,4 @@ mod Running
 mod Simulation
 mod Sums
 mod Told
+mod Watching

@@ -21,24 +21,24 @@ pub by_error : {A E : Type 0} (P : Result A E → Type 0) (r : Result A E) (e : 
 by_error P (Ok a) e h p = absurd h
 by_error {A} {E} P (Err y) e h p = subst (λ (z : E). let none : Result A E = Err z in P none) (sym h) p
 
-abbrev Ran : Type 0
-Ran = Result TransactionDone NoMemory
+abbrev Ran : Type 0 → Type 0
+Ran W = Result (TransactionDone W) NoMemory
 
-pub can_from : (r : Ran) (e : Ended) → CanEnd e → IfOk r (λ done. ended_of done ≡ e) → IfOk r (λ done. CanEnd (ended_of done))
+pub can_from : {W : Type 0} (r : Ran W) (e : Ended) → CanEnd e → IfOk r (λ done. ended_of done ≡ e) → IfOk r (λ done. CanEnd (ended_of done))
 can_from (Ok done) e can h = subst CanEnd (sym h) can
 can_from (Err x) e can h = tt
 
-pub done_from : (r : Ran) (e f : Ended) → e ≡ f → IfOk r (λ done. ended_of done ≡ e) → IfOk r (λ done. ended_of done ≡ f)
+pub done_from : {W : Type 0} (r : Ran W) (e f : Ended) → e ≡ f → IfOk r (λ done. ended_of done ≡ e) → IfOk r (λ done. ended_of done ≡ f)
 done_from (Ok done) e f is h = h ∙ is
 done_from (Err x) e f is h = tt
 
 -- ---- a host function that ended without a value
 
-abbrev IsEndOf : HostErr → Used → TransactionDone → Type 0
+abbrev IsEndOf : {W : Type 0} → HostErr → Used → TransactionDone W → Type 0
 IsEndOf end used done = IsSomeAnd (result_of end) (λ r. ended_of done ≡ unsuccessful r used)
 
 module _ (used : Used) where
-  pub ended_done : (m : LedgerMap) (footprint : Footprint) (x : Invoked) (r : Ran) (end : HostErr) → IfSome (result_of end) (λ k. spec.unsuccessful k m used ≡ x) → IfOk r (IsEndOf end used)
+  pub ended_done : {W : Type 0} (m : LedgerMap) (footprint : Footprint) (x : Invoked) (r : Ran W) (end : HostErr) → IfSome (result_of end) (λ k. spec.unsuccessful k m used ≡ x) → IfOk r (IsEndOf end used)
       → IfOk r (λ done. ended_of done ≡ ended_of_call m footprint x)
   ended_done m footprint x (Err e) end is h = tt
   ended_done m footprint x (Ok done) (ends.Failed e) is h = h ∙ ap (ended_of_call m footprint) is
@@ -47,7 +47,7 @@ module _ (used : Used) where
   ended_done m footprint x (Ok done) (ends.Archived key) is h = h ∙ ap (ended_of_call m footprint) is
   ended_done m footprint x (Ok done) ends.NoMemory is h = absurd h
 
-  pub ended_can : (r : Ran) (end : HostErr) → IfOk r (IsEndOf end used) → IfOk r (λ done. CanEnd (ended_of done))
+  pub ended_can : {W : Type 0} (r : Ran W) (end : HostErr) → IfOk r (IsEndOf end used) → IfOk r (λ done. CanEnd (ended_of done))
   ended_can (Err e) end h = tt
   ended_can (Ok done) (ends.Failed e) h = subst CanEnd (sym h) (call_failed_can Trapped used trapped_fits)
   ended_can (Ok done) ends.Spent h = subst CanEnd (sym h) (call_failed_can ResourceLimitExceeded used limit_fits)

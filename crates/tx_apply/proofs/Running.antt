@@ -32,6 +32,8 @@ use Rattle.call_spec.specs.WholeRuns.{Work, arguments_in, does, meter_of, start_
 use Rattle.call_spec.specs.Invoked.{Invoked, unsuccessful, by_writes, by_end, by_trace, by_run}
 use Rattle.call_spec.specs.Laws.{Maps}
 use Rattle.contract_storage.specs.Footprint.{IsFootprint}
+use Rattle.contract_storage.specs.Stored.{Stored}
+use Rattle.auth_trees.specs.Authorities.{Authorised}
 use Rattle.contract_call.specs.Worlds.{authority_of, world_around}
 use Rattle.contract_call.specs.Ended.{IsEnd, EndsBy}
 use Rattle.contract_call.specs.declared.host.Host.{Host}
@@ -103,13 +105,33 @@ module _ {G U V : Type 0} (old : Host G U V) where
     pub begun-is : old.place.begun ≡ 0
     pub meter-is : old.ledger.budget ≡ meter
 
+  -- a host that was just made
+  pub new_starts : (header : Header) (authority : Authority) (meter : Meter) (entries : LedgerMap) (stored : Stored) → old.ledger.storage ≡ stored → stored.map ≡ entries
+      → old.marks ≡ record { entries = authority.entries; source = authority.source; pairs = []; noted = None } → old.verdicts.now ≡ authority.verdicts → old.ledger.header.now ≡ header
+      → old.ledger.budget ≡ meter → old.ledger.events ≡ [] → old.open.items ≡ [] → old.place.function.items ≡ [] → old.place.args.items ≡ [] → old.place.path.items ≡ []
+      → old.place.begun ≡ 0 → Starts header authority meter entries
+  new_starts header authority meter entries stored storage map marks verdicts header-is budget events contracts function args path begun = record {
+    header-is = header-is;
+    authority-is = λ i. let a : Authority = record { entries = (marks i).entries; source = (marks i).source; verdicts = verdicts i } in a;
+    map-is = ap (λ (s : Stored). s.map) storage ∙ map;
+    events-is = events;
+    pairs-is = ap (λ (m : Authorised). m.pairs) marks;
+    noted-is = ap (λ (m : Authorised). m.noted) marks;
+    open-is = contracts;
+    function-is = function;
+    args-is = args;
+    path-is = path;
+    begun-is = begun;
+    meter-is = budget;
+  }
+
   abbrev run_from : Header → Authority → World → Work → Out Datum
   run_from header authority w work = after (done_under all_allowed header authority work) charging w
 
   abbrev first : Header → LedgerMap → World
   first header entries = start_of header 0 entries
 
-  start_same : (header : Header) (authority : Authority) (meter : Meter) (entries : LedgerMap) → Starts header authority meter entries
+  pub start_same : (header : Header) (authority : Authority) (meter : Meter) (entries : LedgerMap) → Starts header authority meter entries
       → world_around (first header entries) old [] ≡ with_meter meter (first header entries)
   start_same header authority meter entries is = λ i. record (first header entries) {
     entries = is.map-is i;

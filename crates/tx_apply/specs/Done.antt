@@ -12,7 +12,7 @@ use Rattle.tx_apply.specs.declared.results.TransactionDone.{TransactionDone}
 use Rattle.tx_apply.specs.declared.envelope.TxDone.{TxDone}
 use Rattle.tx_apply.specs.Outcomes.{Ended}
 
-abbrev pub ended_of : TransactionDone → Ended
+abbrev pub ended_of : {W : Type 0} → TransactionDone W → Ended
 ended_of done = record {
   outcome = done.outcome;
   success = done.success;

@@ -8,3 +8,4 @@ pub mod Recording
 pub mod Needed
 pub mod Simulating
 pub mod Changed
+pub mod Watching

@@ -1,6 +1,6 @@
 //! INVOKE_HOST_FUNCTION.
 
-ghost use Rattle.std.specs.Prelude.{◌≡◌, All, IfOk, IsSomeAnd, IsTrue};
+ghost use Rattle.std.specs.Prelude.{◌≡◌, ◌≢◌, [], All, IfOk, IsSomeAnd, IsTrue};
 ghost use Rattle.value_types.specs.Views.{datum, datums};
 ghost use Rattle.auth_types.specs.AuthEntry.{auth_entry_format};
 ghost use Rattle.ledger_types.specs.Key.{key_format};
@@ -11,7 +11,8 @@ ghost use Rattle.invoke_types.specs.Success.{success_format};
 ghost use Rattle.contract_storage.specs.Differences.{AreDifferences};
 ghost use Rattle.host_spec.specs.Hosted.{IsHosted, AreHosted};
 ghost use Rattle.call_spec.specs.World.{next_seq};
-ghost use Rattle.call_spec.specs.WholeRuns.{whole};
+ghost use Rattle.call_spec.specs.Footprints.{by_footprint};
+ghost use Rattle.call_spec.specs.WholeRuns.{work_of, whole};
 ghost use Rattle.call_spec.specs.Invoked.{by_run, invoked};
 ghost use Rattle.tx_apply.specs.Authorities.{authority_in};
 ghost use Rattle.tx_apply.specs.Changed.{CanStand};
@@ -19,13 +20,14 @@ ghost use Rattle.tx_apply.specs.Jobs.{work_in, values_in, IsSpelled};
 ghost use Rattle.tx_apply.specs.Running.{entered_run, result_of as result_of_end, successful_with, outcome_with};
 ghost use Rattle.tx_apply.specs.Outcomes.{ended_of_call, unsuccessful};
 ghost use Rattle.tx_apply.specs.Done.{ended_of, CanEnd};
+ghost use Rattle.tx_apply.specs.Watching.{HasSeen, entered_accesses, run_accesses, work_accesses};
 
 use crate::authority::Authority;
 use crate::changes::{by_key, changes_at, extensions_at};
 use crate::job::{Job, job_of, values};
 use crate::reading::{declares_archived, reads_more};
 use crate::results::{TransactionDone, failed_call, nothing_used, one_result};
-use crate::run::run_job;
+use crate::run::run_told;
 use crate::success::success_hash;
 use crate::writing::writes_more;
 use auth_parts::enter_all;
@@ -33,7 +35,7 @@ use auth_trees::Marks;
 use budget_meter::{Budget, Limits, Used};
 use code_cache::Cache;
 use contract_call::Host;
-use contract_storage::{NoWatch, Storage};
+use contract_storage::{Storage, Watch};
 use entry_lookup::Ground;
 use host_ledger::{Events, HostLedger};
 use host_spec::HostErr;
@@ -73,11 +75,18 @@ fn result_of(end: &HostErr) -> Option<InvokeResult>
 }
 
 /// The outcome of a host function that ended without a value.
-fn ended(alloc: Global, end: &HostErr, used: Used) -> Result<TransactionDone, NoMemory>
-    ensures { IfOk result (λ done. IsSomeAnd (result_of_end end.now) (λ r. ended_of done ≡ unsuccessful r used)) }
+fn ended<W: Watch>(
+    alloc: Global,
+    end: &HostErr,
+    used: Used,
+    watch: W,
+) -> Result<TransactionDone<W>, NoMemory>
+    ensures done { IfOk result (λ done. IsSomeAnd (result_of_end end.now) (λ r. ended_of done ≡ unsuccessful r used)) }
+    ensures watch { IfOk result (λ done. done.watch ≡ watch) }
+    ensures memory { IfOk result (λ done. end.now ≢ HostErr.NoMemory) }
 {
     match result_of(end) {
-        Some(result_of_call) => failed_call(alloc, result_of_call, used),
+        Some(result_of_call) => failed_call(alloc, result_of_call, used, watch),
         None => Err(NoMemory),
     }
 }
@@ -96,14 +105,15 @@ fn success_of(value: ScVal, events: Events) -> SuccessPreimage
 }
 
 /// The outcome of a host function that succeeded.
-fn succeeded<G: Ground>(
+fn succeeded<G: Ground, W: Watch>(
     alloc: Global,
     ground: &G,
     footprint: &Footprint,
     changes: &[contract_storage::Change],
     success: SuccessPreimage,
     used: Used,
-) -> Result<TransactionDone, NoMemory>
+    watch: W,
+) -> Result<TransactionDone<W>, NoMemory>
     requires read_only { All (λ key. key_format.fits key) footprint.now.read_only }
     requires read_write { All (λ key. key_format.fits key) footprint.now.read_write }
     requires changes { All CanStand changes.now }
@@ -111,6 +121,7 @@ fn succeeded<G: Ground>(
     ensures done { IfOk result (λ done. (new : LedgerMap) → AreDifferences (G.map ground.now) new changes.now
         → ended_of done ≡ ended_of_call (G.map ground.now) footprint.now (successful_with success new used)) }
     ensures can { IfOk result (λ done. CanEnd (ended_of done)) }
+    ensures watch { IfOk result (λ done. done.watch ≡ watch) }
 {
     let hash = success_hash(alloc, &success)?;
     let changed = by_key(alloc, changes)?;
@@ -124,12 +135,14 @@ fn succeeded<G: Ground>(
         changes: Items::from_vec(changes),
         extensions: Items::from_vec(extensions),
         used,
+        watch,
     })
 }
 
-/// Returns the events of a run.
-fn events_of<G: Ground>(host: Host<'_, G, Marks<'_>, NoWatch>) -> Events
-    ensures { result ≡ host.entry.ledger.events }
+/// Returns the events of a run, and its observer.
+fn parts_of<G: Ground, W: Watch>(host: Host<'_, G, Marks<'_>, W>) -> (Events, W)
+    ensures events { result.0 ≡ host.entry.ledger.events }
+    ensures watch { W.seen result.1 ≡ host.entry.ledger.storage.touched.seen }
 {
     let Host {
         ledger,
@@ -141,24 +154,24 @@ fn events_of<G: Ground>(host: Host<'_, G, Marks<'_>, NoWatch>) -> Events
     } = host;
     let HostLedger {
         header: _,
-        storage: _,
+        storage,
         events,
         budget: _,
         objects: _,
         frame: _,
     } = ledger;
-    events
+    (events, storage.into_watch())
 }
 
 /// The outcome of a host function that returned a value in ledger `n`: it may have written too much.
-fn returned<G: Ground>(
+fn returned<G: Ground, W: Watch>(
     alloc: Global,
     ground: &G,
     n: u32,
     resources: &SorobanData,
-    host: Host<'_, G, Marks<'_>, NoWatch>,
+    host: Host<'_, G, Marks<'_>, W>,
     value: ScVal,
-) -> Result<TransactionDone, NoMemory>
+) -> Result<TransactionDone<W>, NoMemory>
     requires read_only { All (λ key. key_format.fits key) resources.now.footprint.read_only }
     requires read_write { All (λ key. key_format.fits key) resources.now.footprint.read_write }
     requires value { IsHosted (datum value) }
@@ -167,18 +180,28 @@ fn returned<G: Ground>(
         (outcome_with n resources.now
         (G.map ground.now) value host.entry.ledger.storage.map host.entry.ledger.events host.entry.ledger.budget.used)) }
     ensures can { IfOk result (λ done. CanEnd (ended_of done)) }
+    ensures watch { IfOk result (λ done. W.seen done.watch ≡ host.entry.ledger.storage.touched.seen) }
 {
     let used = host.ledger.budget.spent();
     let changes = host.ledger.storage.changes()?;
+    let (events, watch) = parts_of(host);
     if writes_more(ground, n, &changes, resources.write_bytes) {
-        return failed_call(alloc, InvokeResult::ResourceLimitExceeded, used);
+        return failed_call(alloc, InvokeResult::ResourceLimitExceeded, used, watch);
     }
-    let success = success_of(value, events_of(host));
-    succeeded(alloc, ground, &resources.footprint, &changes, success, used)
+    let success = success_of(value, events);
+    succeeded(
+        alloc,
+        ground,
+        &resources.footprint,
+        &changes,
+        success,
+        used,
+        watch,
+    )
 }
 
 /// Runs a host function whose arguments have entered the host.
-fn run<G: Ground>(
+fn run<G: Ground, W: Watch>(
     alloc: Global,
     ground: &G,
     header: &Header,
@@ -187,7 +210,8 @@ fn run<G: Ground>(
     job: &Job<'_>,
     budget: Budget,
     codes: Option<&Cache<'_>>,
-) -> Result<TransactionDone, NoMemory>
+    watch: W,
+) -> Result<TransactionDone<W>, NoMemory>
     requires spelled { IsSpelled job.now }
     requires hosted { AreHosted (datums (values_in job.now)) }
     requires entries { All auth_entry_format.fits authority.now.entries.now }
@@ -195,10 +219,13 @@ fn run<G: Ground>(
     requires read_write { All (λ key. key_format.fits key) resources.now.footprint.read_write }
     requires settings { IsTrue (are_settings header.now.settings) }
     requires next { IsTrue (has_next header.now) }
+    requires fresh { HasSeen (W.seen watch) [] }
     ensures done { IfOk result (λ done. ended_of done ≡ ended_of_call (G.map ground.now) resources.now.footprint
         (by_run (next_seq header.now) resources.now (G.map ground.now)
         (entered_run header.now (authority_in authority.now) budget (work_in job.now) (G.map ground.now)))) }
     ensures can { IfOk result (λ done. CanEnd (ended_of done)) }
+    ensures seen { IfOk result (λ done. HasSeen (W.seen done.watch) (entered_accesses (by_footprint resources.now.footprint)
+        header.now (authority_in authority.now) budget (work_in job.now) (G.map ground.now))) }
 {
     let n = header.seq + 1;
     let storage = Storage::enforcing(
@@ -208,7 +235,7 @@ fn run<G: Ground>(
         &header.settings,
         resources.footprint.read_only.as_slice(),
         resources.footprint.read_write.as_slice(),
-        NoWatch,
+        watch,
     )?;
     let marks = Marks::prepare(alloc, authority.entries, authority.source)?;
     let mut host = Host::new(
@@ -220,14 +247,18 @@ fn run<G: Ground>(
         authority.verdicts,
         codes,
     );
-    match run_job(alloc, &mut host, job) {
+    match run_told(alloc, &mut host, job) {
         Ok(value) => returned(alloc, ground, n, resources, host, value),
-        Err(end) => ended(alloc, &end, host.ledger.budget.spent()),
+        Err(end) => {
+            let used = host.ledger.budget.spent();
+            let (_events, watch) = parts_of(host);
+            ended(alloc, &end, used, watch)
+        }
     }
 }
 
 /// Runs a host function. First its arguments enter the host.
-fn enter_and_run<G: Ground>(
+fn enter_and_run<G: Ground, W: Watch>(
     alloc: Global,
     ground: &G,
     header: &Header,
@@ -235,29 +266,33 @@ fn enter_and_run<G: Ground>(
     authority: &Authority<'_>,
     job: &Job<'_>,
     codes: Option<&Cache<'_>>,
-) -> Result<TransactionDone, NoMemory>
+    watch: W,
+) -> Result<TransactionDone<W>, NoMemory>
     requires spelled { IsSpelled job.now }
     requires entries { All auth_entry_format.fits authority.now.entries.now }
     requires read_only { All (λ key. key_format.fits key) resources.now.footprint.read_only }
     requires read_write { All (λ key. key_format.fits key) resources.now.footprint.read_write }
     requires settings { IsTrue (are_settings header.now.settings) }
     requires next { IsTrue (has_next header.now) }
+    requires fresh { HasSeen (W.seen watch) [] }
     ensures done { IfOk result (λ done. ended_of done ≡ ended_of_call (G.map ground.now) resources.now.footprint
         (by_run (next_seq header.now) resources.now (G.map ground.now)
         (whole header.now (authority_in authority.now) resources.now.instructions (work_in job.now) (G.map ground.now)))) }
     ensures can { IfOk result (λ done. CanEnd (ended_of done)) }
+    ensures seen { IfOk result (λ done. HasSeen (W.seen done.watch)
+        (run_accesses header.now (authority_in authority.now) resources.now (G.map ground.now) (work_in job.now))) }
 {
     let mut budget = budget_of(&header.settings, resources.instructions);
     match enter_all(&mut budget, values(job)) {
         Ok(()) => run(
-            alloc, ground, header, resources, authority, job, budget, codes,
+            alloc, ground, header, resources, authority, job, budget, codes, watch,
         ),
-        Err(end) => ended(alloc, &HostErr::from(end), budget.spent()),
+        Err(end) => ended(alloc, &HostErr::from(end), budget.spent(), watch),
     }
 }
 
 /// INVOKE_HOST_FUNCTION. The first test that holds decides.
-pub(crate) fn call<G: Ground>(
+pub(crate) fn call<G: Ground, W: Watch>(
     alloc: Global,
     ground: &G,
     header: &Header,
@@ -265,26 +300,37 @@ pub(crate) fn call<G: Ground>(
     authority: &Authority<'_>,
     function: &HostFunction,
     codes: Option<&Cache<'_>>,
-) -> Result<TransactionDone, NoMemory>
+    watch: W,
+) -> Result<TransactionDone<W>, NoMemory>
     requires function { host_function_format.fits function.now }
     requires entries { All auth_entry_format.fits authority.now.entries.now }
     requires read_only { All (λ key. key_format.fits key) resources.now.footprint.read_only }
     requires read_write { All (λ key. key_format.fits key) resources.now.footprint.read_write }
     requires settings { IsTrue (are_settings header.now.settings) }
     requires next { IsTrue (has_next header.now) }
+    requires fresh { HasSeen (W.seen watch) [] }
     ensures done { IfOk result (λ done. ended_of done ≡ ended_of_call (G.map ground.now) resources.now.footprint
         (invoked header.now (authority_in authority.now) resources.now (G.map ground.now) function.now)) }
     ensures can { IfOk result (λ done. CanEnd (ended_of done)) }
+    ensures seen { IfOk result (λ done. HasSeen (W.seen done.watch)
+        (work_accesses header.now (authority_in authority.now) resources.now (G.map ground.now) (work_of function.now))) }
 {
     let n = header.seq + 1;
     let Some(job) = job_of(function) else {
-        return failed_call(alloc, InvokeResult::Malformed, nothing_used());
+        return failed_call(alloc, InvokeResult::Malformed, nothing_used(), watch);
     };
     if declares_archived(ground, n, &resources.footprint) {
-        return failed_call(alloc, InvokeResult::EntryArchived, nothing_used());
+        return failed_call(alloc, InvokeResult::EntryArchived, nothing_used(), watch);
     }
     if reads_more(ground, n, &resources.footprint, resources.disk_read_bytes) {
-        return failed_call(alloc, InvokeResult::ResourceLimitExceeded, nothing_used());
+        return failed_call(
+            alloc,
+            InvokeResult::ResourceLimitExceeded,
+            nothing_used(),
+            watch,
+        );
     }
-    enter_and_run(alloc, ground, header, resources, authority, &job, codes)
+    enter_and_run(
+        alloc, ground, header, resources, authority, &job, codes, watch,
+    )
 }

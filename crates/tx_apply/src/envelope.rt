@@ -1,20 +1,22 @@
 //! Runs one envelope: a transaction, or a fee bump's inner transaction as if alone.
 
-ghost use Rattle.std.specs.Prelude.{◌≡◌, pos, IfOk, IsTrue};
+ghost use Rattle.std.specs.Prelude.{◌≡◌, [], pos, IfOk, IsTrue};
 ghost use Rattle.ledger_spec.specs.LedgerMap.{LedgerMap};
 ghost use Rattle.ledger_spec.specs.LedgerFile.{are_settings, has_next};
 ghost use Rattle.value_types.specs.Hash.{hash_format};
-ghost use Rattle.tx_xdr.specs.Envelope.{envelope_format};
+ghost use Rattle.tx_xdr.specs.Envelope.{envelope_format, transaction_in};
 ghost use Rattle.tx_results.specs.Results.{outcome_format, envelope_outcome_format, pair_format};
 ghost use Rattle.stage_runs.specs.Maps.{AgreeOn};
 ghost use Rattle.stage_runs.specs.Transactions.{declares};
 ghost use Rattle.apply_spec.specs.Enforced.{enforced, is_success as is_success_in, fee_bump_outcome as fee_bump_outcome_in};
 ghost use Rattle.apply_spec.specs.Enforced.{envelope_outcome as envelope_outcome_in, result_pair as result_pair_in};
 ghost use Rattle.tx_apply.specs.Done.{effect_of, IsWithin};
+ghost use Rattle.tx_apply.specs.Watching.{HasSeen, accesses_of};
 
 use crate::transaction::run_transaction;
 use budget_meter::Used;
 use code_cache::Cache;
+use contract_storage::{NoWatch, Watch};
 use entry_lookup::Ground;
 use invoke_types::SuccessPreimage;
 use ledger_types::{Header, Verdicts};
@@ -114,6 +116,51 @@ fn result_pair(
     })
 }
 
+/// Checks and runs an envelope, as `enforce` does. The observer sees each access of the run that the footprint allows, and its
+/// moments. It comes back with the effect.
+pub fn enforce_watched<G: Ground, W: Watch>(
+    alloc: Global,
+    ground: &G,
+    header: &Header,
+    verdicts: &Verdicts,
+    envelope: &Envelope,
+    codes: Option<&Cache<'_>>,
+    watch: W,
+) -> Result<(TxDone, W), NoMemory>
+    requires fits { envelope_format.fits envelope.now }
+    requires settings { IsTrue (are_settings header.now.settings) }
+    requires next { IsTrue (has_next header.now) }
+    requires fresh { HasSeen (W.seen watch) [] }
+    ensures done { IfOk result (λ r. effect_of r.0 ≡ enforced header.now verdicts.now (G.map ground.now) envelope.now) }
+    ensures within { IfOk result (λ r. IsWithin r.0) }
+    // The effect is the same on every map that agrees with the ground on the declared keys.
+    ensures frame { IfOk result (λ r. (other : LedgerMap) → AgreeOn (declares envelope.now) (G.map ground.now) other
+        → enforced header.now verdicts.now other envelope.now ≡ effect_of r.0) }
+    ensures seen { IfOk result (λ r. HasSeen (W.seen r.1)
+        (accesses_of header.now verdicts.now (G.map ground.now) (transaction_in envelope.now))) }
+{
+    let done = run_transaction(
+        alloc,
+        ground,
+        header,
+        verdicts,
+        envelope.transaction(),
+        codes,
+        watch,
+    )?;
+    let result = result_pair(alloc, &header.network_id, envelope, done.outcome)?;
+    Ok((
+        TxDone {
+            result,
+            success: done.success,
+            changes: done.changes,
+            extensions: done.extensions,
+            used: done.used,
+        },
+        done.watch,
+    ))
+}
+
 /// Checks and runs an envelope over the entries of a ledger. A fee bump's inner transaction runs as if alone, and fees are not
 /// judged.
 ///
@@ -137,20 +184,8 @@ pub fn enforce<G: Ground>(
     ensures frame { IfOk result (λ done. (other : LedgerMap) → AgreeOn (declares envelope.now) (G.map ground.now) other
         → enforced header.now verdicts.now other envelope.now ≡ effect_of done) }
 {
-    let done = run_transaction(
-        alloc,
-        ground,
-        header,
-        verdicts,
-        envelope.transaction(),
-        codes,
+    let (done, _watch) = enforce_watched(
+        alloc, ground, header, verdicts, envelope, codes, NoWatch,
     )?;
-    let result = result_pair(alloc, &header.network_id, envelope, done.outcome)?;
-    Ok(TxDone {
-        result,
-        success: done.success,
-        changes: done.changes,
-        extensions: done.extensions,
-        used: done.used,
-    })
+    Ok(done)
 }

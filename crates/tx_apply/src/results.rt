@@ -7,6 +7,7 @@ ghost use Rattle.tx_apply.specs.Outcomes.{unsuccessful};
 ghost use Rattle.tx_apply.specs.Done.{ended_of};
 
 use budget_meter::Used;
+use contract_storage::Watch;
 use invoke_types::SuccessPreimage;
 use stage_runs::{Change, Extension};
 use std::alloc::Global;
@@ -14,9 +15,9 @@ use tx_results::{InnerResult, InvokeResult, OperationResult, TransactionOutcome}
 use value_types::Items;
 use xdr_core::NoMemory;
 
-/// The outcome of a transaction and its effect.
+/// The outcome of a transaction and its effect, with the observer of its run.
 #[derive(Drop)]
-pub struct TransactionDone {
+pub struct TransactionDone<W: Watch> {
     pub outcome: TransactionOutcome,
     /// The success preimage of a host function that succeeded.
     pub success: Option<SuccessPreimage>,
@@ -25,6 +26,7 @@ pub struct TransactionDone {
     /// Pending until they are put in.
     pub extensions: Items<Extension, 4294967295>,
     pub used: Used,
+    pub watch: W,
 }
 
 /// The sums of a transaction that ran nothing.
@@ -37,8 +39,14 @@ pub(crate) fn nothing_used() -> Used
     }
 }
 
-fn without_changes(alloc: Global, outcome: TransactionOutcome, used: Used) -> TransactionDone
-    ensures { ended_of result ≡ without_changes_in outcome used }
+fn without_changes<W: Watch>(
+    alloc: Global,
+    outcome: TransactionOutcome,
+    used: Used,
+    watch: W,
+) -> TransactionDone<W>
+    ensures done { ended_of result ≡ without_changes_in outcome used }
+    ensures watch { result.watch ≡ watch }
 {
     TransactionDone {
         outcome,
@@ -46,14 +54,20 @@ fn without_changes(alloc: Global, outcome: TransactionOutcome, used: Used) -> Tr
         changes: Items::from_vec(Vec::new(alloc)),
         extensions: Items::from_vec(Vec::new(alloc)),
         used,
+        watch,
     }
 }
 
 /// Returns an outcome without an effect, of a transaction that ran nothing.
-pub(crate) fn without_effect(alloc: Global, outcome: TransactionOutcome) -> TransactionDone
-    ensures { ended_of result ≡ without_effect_in outcome }
+pub(crate) fn without_effect<W: Watch>(
+    alloc: Global,
+    outcome: TransactionOutcome,
+    watch: W,
+) -> TransactionDone<W>
+    ensures done { ended_of result ≡ without_effect_in outcome }
+    ensures watch { result.watch ≡ watch }
 {
-    without_changes(alloc, outcome, nothing_used())
+    without_changes(alloc, outcome, nothing_used(), watch)
 }
 
 /// Returns the results of a transaction with one operation.
@@ -69,24 +83,31 @@ pub(crate) fn one_result(
 }
 
 /// Returns the outcome of a transaction whose only operation failed.
-pub(crate) fn failed(alloc: Global, only: OperationResult) -> Result<TransactionDone, NoMemory>
-    ensures { IfOk result (λ done. ended_of done ≡ without_effect_in (TransactionOutcome.Failed (only ∷ []))) }
+pub(crate) fn failed<W: Watch>(
+    alloc: Global,
+    only: OperationResult,
+    watch: W,
+) -> Result<TransactionDone<W>, NoMemory>
+    ensures done { IfOk result (λ done. ended_of done ≡ without_effect_in (TransactionOutcome.Failed (only ∷ []))) }
+    ensures watch { IfOk result (λ done. done.watch ≡ watch) }
 {
     let results = one_result(alloc, only)?;
-    Ok(without_effect(alloc, TransactionOutcome::Failed(results)))
+    Ok(without_effect(alloc, TransactionOutcome::Failed(results), watch))
 }
 
 /// Returns the outcome of a transaction whose host function did not succeed, with the sums that it used.
-pub(crate) fn failed_call(
+pub(crate) fn failed_call<W: Watch>(
     alloc: Global,
     result_of_call: InvokeResult,
     used: Used,
-) -> Result<TransactionDone, NoMemory>
-    ensures { IfOk result (λ done. ended_of done ≡ unsuccessful result_of_call used) }
+    watch: W,
+) -> Result<TransactionDone<W>, NoMemory>
+    ensures done { IfOk result (λ done. ended_of done ≡ unsuccessful result_of_call used) }
+    ensures watch { IfOk result (λ done. done.watch ≡ watch) }
 {
     let results = one_result(
         alloc,
         OperationResult::Inner(InnerResult::Invoke(result_of_call)),
     )?;
-    Ok(without_changes(alloc, TransactionOutcome::Failed(results), used))
+    Ok(without_changes(alloc, TransactionOutcome::Failed(results), used, watch))
 }

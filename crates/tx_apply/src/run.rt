@@ -16,6 +16,7 @@ ghost use Rattle.contract_call.specs.Worlds.{MayRun};
 ghost use Rattle.tx_apply.specs.Jobs.{work_in, values_in, datums_in, IsSpelled};
 ghost use Rattle.auth_parts.specs.Entering.{Enters};
 ghost use Rattle.tx_apply.specs.Running.{Charges, EndsCharged, EndsChargedRecorded};
+ghost use Rattle.tx_apply.specs.Watching.{Told};
 
 use crate::job::Job;
 use auth_trees::Authority;
@@ -70,6 +71,7 @@ fn call<G: Ground, A: Authority, W: Watch>(
     requires args { AreHosted (datums args.now) }
     ensures ends { Ends (calling contract function.now (datums args.now)) result datum host.old host.new }
     ensures recorded { EndsRecorded (calling contract function.now (datums args.now)) result datum host.old host.new }
+    ensures told { Told (calling contract function.now (datums args.now)) result host.old host.new }
     ensures base { host.new.ledger.storage.base ≡ host.old.ledger.storage.base }
     ensures hosted { IfOk result (λ value. IsHosted (datum value)) }
 {
@@ -87,6 +89,7 @@ fn upload_code<G: Ground, A: Authority, W: Watch>(
     requires size { length code.now < 2 ^ 32 }
     ensures ends { Ends (uploading code.now) result datum host.old host.new }
     ensures recorded { EndsRecorded (uploading code.now) result datum host.old host.new }
+    ensures told { Told (uploading code.now) result host.old host.new }
     ensures base { host.new.ledger.storage.base ≡ host.old.ledger.storage.base }
     ensures hosted { IfOk result (λ value. IsHosted (datum value)) }
 {
@@ -117,6 +120,7 @@ fn create_contract<G: Ground, A: Authority, W: Watch>(
     requires args { AreArgsHosted contract.args }
     ensures ends { Ends (creating (creation_of contract)) result datum host.old host.new }
     ensures recorded { EndsRecorded (creating (creation_of contract)) result datum host.old host.new }
+    ensures told { Told (creating (creation_of contract)) result host.old host.new }
     ensures base { host.new.ledger.storage.base ≡ host.old.ledger.storage.base }
     ensures hosted { IfOk result (λ value. IsHosted (datum value)) }
 {
@@ -138,6 +142,7 @@ fn perform<G: Ground, A: Authority, W: Watch>(
     requires hosted { AreHosted (datums (values_in job.now)) }
     ensures ends { Ends (work_in job.now) result datum host.old host.new }
     ensures recorded { EndsRecorded (work_in job.now) result datum host.old host.new }
+    ensures told { Told (work_in job.now) result host.old host.new }
     ensures base { host.new.ledger.storage.base ≡ host.old.ledger.storage.base }
     ensures hosted { IfOk result (λ value. IsHosted (datum value)) }
 {
@@ -185,6 +190,28 @@ fn charged(budget: &mut Budget, value: ScVal) -> Result<ScVal, HostErr>
     Ok(value)
 }
 
+/// Runs a host function, as `run_job` does. The storage then knows the accesses of the run.
+pub(crate) fn run_told<G: Ground, A: Authority, W: Watch>(
+    alloc: Global,
+    host: &mut Host<'_, G, A, W>,
+    job: &Job<'_>,
+) -> Result<ScVal, HostErr>
+    requires ready { MayRun host.old }
+    requires path { HasRoom 64 host.old }
+    requires spelled { IsSpelled job.now }
+    requires hosted { AreHosted (datums (values_in job.now)) }
+    ensures ends { EndsCharged (work_in job.now) result host.old host.new }
+    ensures recorded { EndsChargedRecorded (work_in job.now) result host.old host.new }
+    ensures told { Told (work_in job.now) result host.old host.new }
+    ensures base { host.new.ledger.storage.base ≡ host.old.ledger.storage.base }
+    ensures hosted { IfOk result (λ value. IsHosted (datum value)) }
+{
+    match perform(alloc, host, job) {
+        Ok(value) => charged(&mut host.ledger.budget, value),
+        Err(end) => Err(end),
+    }
+}
+
 /// Runs a host function whose arguments have entered the host. Returns its value after the charge for it.
 pub fn run_job<G: Ground, A: Authority, W: Watch>(
     alloc: Global,
@@ -200,8 +227,5 @@ pub fn run_job<G: Ground, A: Authority, W: Watch>(
     ensures base { host.new.ledger.storage.base ≡ host.old.ledger.storage.base }
     ensures hosted { IfOk result (λ value. IsHosted (datum value)) }
 {
-    match perform(alloc, host, job) {
-        Ok(value) => charged(&mut host.ledger.budget, value),
-        Err(end) => Err(end),
-    }
+    run_told(alloc, host, job)
 }

@@ -1,9 +1,9 @@
 //! Simulates one envelope: finds the footprint that its transaction needs, and runs the envelope with it.
 
-ghost use Rattle.std.specs.Prelude.{◌≡◌, true, IfOk, IsTrue};
+ghost use Rattle.std.specs.Prelude.{◌≡◌, [], true, IfOk, IsTrue};
 ghost use Rattle.ledger_spec.specs.LedgerMap.{LedgerMap};
 ghost use Rattle.ledger_spec.specs.LedgerFile.{are_settings, has_next};
-ghost use Rattle.tx_xdr.specs.Envelope.{envelope_format};
+ghost use Rattle.tx_xdr.specs.Envelope.{envelope_format, transaction_in};
 ghost use Rattle.tx_xdr.specs.Soroban.{footprint_format};
 ghost use Rattle.tx_xdr.specs.declared.transaction.Footprint.{Footprint as FootprintData};
 ghost use Rattle.tx_results.specs.Report.{has_preimage};
@@ -16,11 +16,13 @@ ghost use Rattle.apply_spec.specs.Simulated.{simulated, tx_with, ext_with, with_
 ghost use Rattle.apply_spec.specs.SimulatedLaws.{IsTrapped};
 ghost use Rattle.tx_apply.specs.Done.{effect_of, IsWithin};
 ghost use Rattle.tx_apply.specs.Simulating.{simulated_in};
+ghost use Rattle.tx_apply.specs.Watching.{HasSeen, accesses_of};
 
-use crate::envelope::{TxDone, enforce};
+use crate::envelope::{TxDone, enforce_watched};
 use crate::needs::{Needs, needed};
 use budget_meter::Used;
 use code_cache::Cache;
+use contract_storage::{NoWatch, Watch};
 use entry_lookup::Ground;
 use ledger_types::{Header, Verdicts};
 use std::alloc::Global;
@@ -65,6 +67,59 @@ fn with_footprint(mut envelope: Envelope, footprint: Footprint) -> Envelope
     envelope
 }
 
+/// Simulates an envelope, as `simulate_with` does. The observer sees the run with the footprint: each access, and its moments. It
+/// comes back with the result.
+pub fn simulate_watched<G: Ground, W: Watch>(
+    alloc: Global,
+    ground: &G,
+    header: &Header,
+    verdicts: &Verdicts,
+    envelope: &Envelope,
+    codes: Option<&Cache<'_>>,
+    watch: W,
+) -> Result<(Simulated, W), NoMemory>
+    requires fits { envelope_format.fits envelope.now }
+    requires settings { IsTrue (are_settings header.now.settings) }
+    requires next { IsTrue (has_next header.now) }
+    requires fresh { HasSeen (W.seen watch) [] }
+    ensures simulated { IfOk result (λ r. simulated_in r.0
+        ≡ simulated header.now verdicts.now (G.map ground.now) envelope.now) }
+    ensures within { IfOk result (λ r. IsWithin r.0.done) }
+    ensures footprint { IfOk result (λ r. footprint_format.fits r.0.footprint) }
+    ensures envelope { IfOk result (λ r. envelope_format.fits r.0.envelope) }
+    // On every map that agrees on the recorded keys, the same is enforced.
+    ensures enforced { IfOk result (λ r. (other : LedgerMap) → AgreeOn (declares r.0.envelope) (G.map ground.now) other
+        → enforced header.now verdicts.now other r.0.envelope ≡ effect_of r.0.done) }
+    // If a call succeeded, each smaller footprint traps there.
+    ensures smaller { IfOk result (λ r. (other : LedgerMap) (smaller : FootprintData)
+        → AgreeOn (declares r.0.envelope) (G.map ground.now) other
+        → has_preimage (outcome_in r.0.done.result.result.outcome) ≡ true → IsSmaller smaller r.0.footprint
+        → IsTrapped header.now (with_footprint_in smaller envelope.now)
+        (enforced header.now verdicts.now other (with_footprint_in smaller envelope.now))) }
+    // The observer has seen the run with the footprint, and not the one that finds it.
+    ensures seen { IfOk result (λ r. HasSeen (W.seen r.1)
+        (accesses_of header.now verdicts.now (G.map ground.now) (transaction_in r.0.envelope))) }
+{
+    let Needs { footprint, used } = needed(
+        alloc,
+        ground,
+        header,
+        verdicts,
+        envelope.transaction(),
+        codes,
+    )?;
+    let again = footprint.clone()?;
+    let envelope = with_footprint(envelope.clone()?, again);
+    let (done, watch) = enforce_watched(alloc, ground, header, verdicts, &envelope, codes, watch)?;
+    let simulated = Simulated {
+        done,
+        footprint,
+        envelope,
+        used,
+    };
+    Ok((simulated, watch))
+}
+
 /// Simulates an envelope over the entries of a ledger: finds the footprint that its transaction needs, and its effect with that
 /// footprint. The declared footprint of a call is not read.
 ///
@@ -99,23 +154,10 @@ pub fn simulate_with<G: Ground>(
         → IsTrapped header.now (with_footprint_in smaller envelope.now)
         (enforced header.now verdicts.now other (with_footprint_in smaller envelope.now))) }
 {
-    let Needs { footprint, used } = needed(
-        alloc,
-        ground,
-        header,
-        verdicts,
-        envelope.transaction(),
-        codes,
+    let (simulated, _watch) = simulate_watched(
+        alloc, ground, header, verdicts, envelope, codes, NoWatch,
     )?;
-    let again = footprint.clone()?;
-    let envelope = with_footprint(envelope.clone()?, again);
-    let done = enforce(alloc, ground, header, verdicts, &envelope, codes)?;
-    Ok(Simulated {
-        done,
-        footprint,
-        envelope,
-        used,
-    })
+    Ok(simulated)
 }
 
 /// Simulates an envelope, as `simulate_with` does, without codes that are shared.

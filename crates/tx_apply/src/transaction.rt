@@ -1,6 +1,6 @@
 //! Runs one transaction: its checks, then its operation.
 
-ghost use Rattle.std.specs.Prelude.{◌≡◌, All, IfOk, IsTrue};
+ghost use Rattle.std.specs.Prelude.{◌≡◌, [], All, IfOk, IsTrue};
 ghost use Rattle.auth_types.specs.AuthEntry.{auth_entry_format};
 ghost use Rattle.ledger_types.specs.Key.{key_format};
 ghost use Rattle.ledger_spec.specs.LedgerFile.{are_settings, has_next};
@@ -12,6 +12,7 @@ ghost use Rattle.apply_spec.specs.Checks.{footprint_of};
 ghost use Rattle.tx_apply.specs.Authorities.{authority_in};
 ghost use Rattle.tx_apply.specs.Outcomes.{ended, extended, called, performed};
 ghost use Rattle.tx_apply.specs.Done.{ended_of, CanEnd};
+ghost use Rattle.tx_apply.specs.Watching.{HasSeen, called_accesses, body_accesses, accesses_of};
 
 use crate::authority::{Authority, authority_of};
 use crate::call::call;
@@ -20,6 +21,7 @@ use crate::extend::{extensions, may_extend};
 use crate::footprint::{read_only_of, read_write_of};
 use crate::results::{TransactionDone, failed, nothing_used, one_result, without_effect};
 use code_cache::Cache;
+use contract_storage::Watch;
 use entry_lookup::Ground;
 use invoke_types::HostFunction;
 use ledger_types::{Header, Verdicts};
@@ -36,22 +38,24 @@ fn extension(result_of_extend: ExtendResult) -> OperationResult
 }
 
 /// Runs EXTEND_FOOTPRINT_TTL.
-fn extend<G: Ground>(
+fn extend<G: Ground, W: Watch>(
     alloc: Global,
     ground: &G,
     header: &Header,
     tx: &Transaction,
     extend_to: u32,
-) -> Result<TransactionDone, NoMemory>
+    watch: W,
+) -> Result<TransactionDone<W>, NoMemory>
     requires read_only { All (λ key. key_format.fits key) (footprint_of tx.now).read_only }
     requires settings { IsTrue (are_settings header.now.settings) }
     requires next { IsTrue (has_next header.now) }
     ensures done { IfOk result (λ done. ended_of done ≡ extended header.now (G.map ground.now) (footprint_of tx.now) extend_to) }
     ensures can { IfOk result (λ done. CanEnd (ended_of done)) }
+    ensures watch { IfOk result (λ done. done.watch ≡ watch) }
 {
     let keys = read_only_of(tx);
     if !may_extend(&header.settings, keys, read_write_of(tx), extend_to) {
-        return failed(alloc, extension(ExtendResult::Malformed));
+        return failed(alloc, extension(ExtendResult::Malformed), watch);
     }
     let n = header.seq + 1;
     let extensions = extensions(alloc, ground, n, keys, n + extend_to)?;
@@ -62,11 +66,12 @@ fn extend<G: Ground>(
         changes: Items::from_vec(Vec::new(alloc)),
         extensions: Items::from_vec(extensions),
         used: nothing_used(),
+        watch,
     })
 }
 
 /// Runs INVOKE_HOST_FUNCTION with the resources that the transaction declares.
-fn call_with<G: Ground>(
+fn call_with<G: Ground, W: Watch>(
     alloc: Global,
     ground: &G,
     header: &Header,
@@ -74,28 +79,34 @@ fn call_with<G: Ground>(
     ext: &TransactionExt,
     function: &HostFunction,
     codes: Option<&Cache<'_>>,
-) -> Result<TransactionDone, NoMemory>
+    watch: W,
+) -> Result<TransactionDone<W>, NoMemory>
     requires function { host_function_format.fits function.now }
     requires entries { All auth_entry_format.fits authority.now.entries.now }
     requires read_only { All (λ key. key_format.fits key) (footprint_in ext.now).read_only }
     requires read_write { All (λ key. key_format.fits key) (footprint_in ext.now).read_write }
     requires settings { IsTrue (are_settings header.now.settings) }
     requires next { IsTrue (has_next header.now) }
+    requires fresh { HasSeen (W.seen watch) [] }
     ensures done { IfOk result (λ done. ended_of done
         ≡ called header.now (authority_in authority.now) (G.map ground.now) ext.now function.now) }
     ensures can { IfOk result (λ done. CanEnd (ended_of done)) }
+    ensures seen { IfOk result (λ done. HasSeen (W.seen done.watch)
+        (called_accesses header.now (authority_in authority.now) (G.map ground.now) ext.now function.now)) }
 {
     match ext {
         // The checks reject a transaction without Soroban data.
-        TransactionExt::None => Ok(without_effect(alloc, TransactionOutcome::Malformed)),
+        TransactionExt::None => Ok(without_effect(alloc, TransactionOutcome::Malformed, watch)),
         TransactionExt::Soroban(resources) => {
-            call(alloc, ground, header, resources, authority, function, codes)
+            call(
+                alloc, ground, header, resources, authority, function, codes, watch,
+            )
         }
     }
 }
 
 /// Runs the only operation of a transaction that passed its checks.
-fn perform<G: Ground>(
+fn perform<G: Ground, W: Watch>(
     alloc: Global,
     ground: &G,
     header: &Header,
@@ -103,21 +114,25 @@ fn perform<G: Ground>(
     tx: &Transaction,
     operation: &Operation,
     codes: Option<&Cache<'_>>,
-) -> Result<TransactionDone, NoMemory>
+    watch: W,
+) -> Result<TransactionDone<W>, NoMemory>
     requires body { body_format.fits operation.now.body }
     requires read_only { All (λ key. key_format.fits key) (footprint_of tx.now).read_only }
     requires read_write { All (λ key. key_format.fits key) (footprint_of tx.now).read_write }
     requires settings { IsTrue (are_settings header.now.settings) }
     requires next { IsTrue (has_next header.now) }
+    requires fresh { HasSeen (W.seen watch) [] }
     ensures done { IfOk result (λ done. ended_of done
         ≡ performed header.now verdicts.now (G.map ground.now) tx.now operation.now.source operation.now.body) }
     ensures can { IfOk result (λ done. CanEnd (ended_of done)) }
+    ensures seen { IfOk result (λ done. HasSeen (W.seen done.watch)
+        (body_accesses header.now verdicts.now (G.map ground.now) tx.now operation.now.source operation.now.body)) }
 {
     match &operation.body {
         OperationBody::ExtendFootprintTtl { extend_to } => {
-            extend(alloc, ground, header, tx, *extend_to)
+            extend(alloc, ground, header, tx, *extend_to, watch)
         }
-        OperationBody::RestoreFootprint => failed(alloc, OperationResult::NotSupported),
+        OperationBody::RestoreFootprint => failed(alloc, OperationResult::NotSupported, watch),
         OperationBody::InvokeHostFunction {
             host_function,
             auth,
@@ -131,31 +146,36 @@ fn perform<G: Ground>(
                 &tx.ext,
                 host_function,
                 codes,
+                watch,
             )
         }
     }
 }
 
 /// Checks and runs a transaction over the entries of a ledger.
-pub fn run_transaction<G: Ground>(
+pub fn run_transaction<G: Ground, W: Watch>(
     alloc: Global,
     ground: &G,
     header: &Header,
     verdicts: &Verdicts,
     tx: &Transaction,
     codes: Option<&Cache<'_>>,
-) -> Result<TransactionDone, NoMemory>
+    watch: W,
+) -> Result<TransactionDone<W>, NoMemory>
     requires fits { transaction_format.fits tx.now }
     requires settings { IsTrue (are_settings header.now.settings) }
     requires next { IsTrue (has_next header.now) }
+    requires fresh { HasSeen (W.seen watch) [] }
     ensures done { IfOk result (λ done. ended_of done ≡ ended header.now verdicts.now (G.map ground.now) tx.now) }
     ensures can { IfOk result (λ done. CanEnd (ended_of done)) }
+    ensures seen { IfOk result (λ done. HasSeen (W.seen done.watch)
+        (accesses_of header.now verdicts.now (G.map ground.now) tx.now)) }
 {
     if let Some(outcome) = refusal_of(alloc, header, tx)? {
-        return Ok(without_effect(alloc, outcome));
+        return Ok(without_effect(alloc, outcome, watch));
     }
     match tx.operations.as_slice() {
-        [] => Ok(without_effect(alloc, TransactionOutcome::MissingOperation)),
-        [operation, ..] => perform(alloc, ground, header, verdicts, tx, operation, codes),
+        [] => Ok(without_effect(alloc, TransactionOutcome::MissingOperation, watch)),
+        [operation, ..] => perform(alloc, ground, header, verdicts, tx, operation, codes, watch),
     }
 }

@@ -1,5 +1,5 @@
 use Rattle.std.specs.Prelude.{IfSome}
-use Rattle.std.proofs.Common.{◌≡◌, ap, sym, subst}
+use Rattle.std.proofs.Common.{◌≡◌, ap, sym, subst, ◌∙◌}
 use Rattle.budget_meter.specs.declared.budget.Used.{Used}
 use Rattle.host_spec.specs.declared.error.HostErr.{HostErr}
 use Rattle.call_spec.specs.World.{next_seq}
@@ -13,6 +13,7 @@ use Rattle.tx_apply.specs.Outcomes.{ended_of_call}
 use Rattle.tx_apply.proofs.Running.{whole_entered, stopped_comes, meter_is}
 use Rattle.tx_apply.proofs.Mapped.{done_from, ended_done, ended_can}
 use Rattle.tx_apply.proofs.Arguments.{passed_arguments, stopped_arguments, encodable_arguments}
+use Rattle.tx_apply.proofs.Watching.{entered_seen, stopped_seen, seen_as, seen_stopped}
 use Rattle.tx_apply.proofs.call.enter_and_run.Goals as goal
 
 pub enter_all-requires : goal.enter_all-requires
@@ -49,7 +50,36 @@ returns-in-Err-clause-done g c =
     ended_done c.spent.result entries resources.footprint x c.ended.result c.from.result
     (subst (λ (u : Used). IfSome (result_of c.from.result) (λ k. spec.unsuccessful k entries u ≡ x)) (sym c.spent.ensures.sums)
     (subst (λ (end : HostErr). IfSome (result_of end) (λ k. spec.unsuccessful k entries later.used ≡ x)) (sym c.from.ensures) comes))
-    c.ended.ensures
+    c.ended.ensures.done
 
 pub returns-in-Err-clause-can : goal.returns-in-Err-clause-can
-returns-in-Err-clause-can g c = ended_can c.spent.result c.ended.result c.from.result c.ended.ensures
+returns-in-Err-clause-can g c = ended_can c.spent.result c.ended.result c.from.result c.ended.ensures.done
+
+pub returns-in-Ok-clause-seen : goal.returns-in-Ok-clause-seen
+returns-in-Ok-clause-seen g c =
+    let header = c.args.header.now in
+    let resources = c.args.resources.now in
+    let entries = g.G.Ground.map c.args.ground.now in
+    let authority = authority_in c.args.authority.now in
+    let job = c.args.job.now in
+    let before = c.budget_of-budget.result in
+    let later = c.enter_all.new.budget in
+    let is : before ≡ meter_of header resources.instructions = meter_is header resources.instructions before c.budget_of-budget.ensures.limits c.budget_of-budget.ensures.terms c.budget_of-budget.ensures.used in
+    seen_as g.W.Watch.seen c.run.result _ _
+    (entered_seen header authority resources entries (work_in job) before later is (passed_arguments job c.values.result.now before later c.values.ensures c.in-Ok.ensures.does))
+    c.run.ensures.seen
+
+pub returns-in-Err-clause-seen : goal.returns-in-Err-clause-seen
+returns-in-Err-clause-seen g c =
+    let header = c.args.header.now in
+    let resources = c.args.resources.now in
+    let entries = g.G.Ground.map c.args.ground.now in
+    let authority = authority_in c.args.authority.now in
+    let job = c.args.job.now in
+    let before = c.budget_of-budget.result in
+    let later = c.enter_all.new.budget in
+    let is : before ≡ meter_of header resources.instructions = meter_is header resources.instructions before c.budget_of-budget.ensures.limits c.budget_of-budget.ensures.terms c.budget_of-budget.ensures.used in
+    seen_stopped g.W.Watch.seen c.ended.result c.args.watch c.from.result _
+    (λ n. stopped_seen header authority resources entries (work_in job) before later is c.in-Err.end
+    (stopped_arguments job c.values.result.now before later c.values.ensures c.in-Err.end c.in-Err.ensures.does) (λ e. n (c.from.ensures ∙ e)))
+    c.requires.fresh c.ended.ensures.watch c.ended.ensures.memory

@@ -27,8 +27,8 @@ returns-then-writes_more-clause-done g c =
     (ap (λ (u : Used). unsuccessful invokes.ResourceLimitExceeded u) c.spent-used.ensures.sums
     ∙ sym (ap (λ (b : Bool). ended_of_call old resources.footprint (if b then spec.unsuccessful invokes.ResourceLimitExceeded old used
     else successful_with (record { return_value = c.args.value; events = c.args.host.ledger.events }) new used)) more))
-    c.failed_call.ensures
+    c.failed_call.ensures.done
 
 pub returns-then-writes_more-clause-can : goal.returns-then-writes_more-clause-can
 returns-then-writes_more-clause-can g c =
-    can_from c.failed_call.result (unsuccessful invokes.ResourceLimitExceeded c.spent-used.result) (call_failed_can invokes.ResourceLimitExceeded c.spent-used.result limit_fits) c.failed_call.ensures
+    can_from c.failed_call.result (unsuccessful invokes.ResourceLimitExceeded c.spent-used.result) (call_failed_can invokes.ResourceLimitExceeded c.spent-used.result limit_fits) c.failed_call.ensures.done

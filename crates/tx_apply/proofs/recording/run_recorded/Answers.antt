@@ -9,6 +9,7 @@ use Rattle.call_spec.specs.World.{Authority}
 use Rattle.contract_call.specs.Placed.{IsPathFor}
 use Rattle.tx_apply.specs.Authorities.{authority_in}
 use Rattle.tx_apply.specs.Jobs.{work_in}
+use Rattle.tx_apply.proofs.Running.{new_starts}
 use Rattle.tx_apply.proofs.Needing.{run_needs}
 use Rattle.tx_apply.proofs.recording.run_recorded.Goals as goal
 
@@ -26,18 +27,6 @@ returns-clause-needs g c =
     let authority = authority_in c.args.authority.now in
     let marks : c.new-host.result.marks ≡ record { entries = authority.entries; source = authority.source; pairs = []; noted = None } = c.new-host.ensures.marks ∙ ap by_entries c.in_ok-marks.ensures in
     let stored = c.new-host.ensures.storage ∙ c.recording-storage.ensures in
-    run_needs c.new-host.result c.run_job-end.new.host header authority c.args.budget entries (work_in c.args.job.now) c.run_job-end.result (record {
-      header-is = c.new-host.ensures.header;
-      authority-is = λ i. let a : Authority = record { entries = (marks i).entries; source = (marks i).source; verdicts = c.new-host.ensures.verdicts i } in a;
-      map-is = ap (λ (s : Stored). s.map) stored;
-      events-is = c.new-host.ensures.events;
-      pairs-is = ap (λ (m : Authorised). m.pairs) marks;
-      noted-is = ap (λ (m : Authorised). m.noted) marks;
-      open-is = c.new-host.ensures.contracts;
-      function-is = c.new-host.ensures.function;
-      args-is = c.new-host.ensures.args;
-      path-is = c.new-host.ensures.path;
-      begun-is = c.new-host.ensures.begun;
-      meter-is = c.new-host.ensures.budget;
-    }) (ap (λ (s : Stored). s.declared) stored) (subst (λ (s : Stored). IsRecorded s []) (sym stored) refl) c.run_job-end.ensures.recorded
+    run_needs c.new-host.result c.run_job-end.new.host header authority c.args.budget entries (work_in c.args.job.now) c.run_job-end.result (new_starts c.new-host.result header authority c.args.budget entries _ c.new-host.ensures.storage (ap (λ (s : Stored). s.map) c.recording-storage.ensures) marks c.new-host.ensures.verdicts
+    c.new-host.ensures.header c.new-host.ensures.budget c.new-host.ensures.events c.new-host.ensures.contracts c.new-host.ensures.function c.new-host.ensures.args c.new-host.ensures.path c.new-host.ensures.begun) (ap (λ (s : Stored). s.declared) stored) (subst (λ (s : Stored). IsRecorded s []) (sym stored) refl) c.run_job-end.ensures.recorded
     c.needs_after.result c.needs_after.ensures.ended c.needs_after.ensures.footprint c.needs_after.ensures.used

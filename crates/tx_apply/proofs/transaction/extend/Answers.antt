@@ -9,7 +9,7 @@ use Rattle.tx_apply.proofs.transaction.extend.Goals as goal
 
 pub returns-then-not-may_extend-clause-can : goal.returns-then-not-may_extend-clause-can
 returns-then-not-may_extend-clause-can g c =
-    can_from c.failed.result (without_effect (Failed (c.extension.result ∷ []))) (extend_malformed_can c.extension.result c.extension.ensures) c.failed.ensures
+    can_from c.failed.result (without_effect (Failed (c.extension.result ∷ []))) (extend_malformed_can c.extension.result c.extension.ensures) c.failed.ensures.done
 
 pub returns-clause-can : goal.returns-clause-can
 returns-clause-can g c =

@@ -17,7 +17,7 @@ call_with-requires-clause-function g c =
     function_fits c.in-InvokeHostFunction.host_function c.in-InvokeHostFunction.auth (subst (λ (b : OperationBody). body_format.fits b) c.in-InvokeHostFunction.is c.requires.body)
 
 pub returns-in-RestoreFootprint-clause-can : goal.returns-in-RestoreFootprint-clause-can
-returns-in-RestoreFootprint-clause-can g c = can_from c.failed.result (without_effect (Failed (NotSupported ∷ []))) restore_can c.failed.ensures
+returns-in-RestoreFootprint-clause-can g c = can_from c.failed.result (without_effect (Failed (NotSupported ∷ []))) restore_can c.failed.ensures.done
 
 pub call_with-requires-clause-entries : goal.call_with-requires-clause-entries
 call_with-requires-clause-entries g c =

@@ -13,7 +13,7 @@ refusal_of-requires-clause-read_write g c = (declared_spelled c.args.tx.now c.re
 
 pub returns-in-Some-clause-can : goal.returns-in-Some-clause-can
 returns-in-Some-clause-can g c =
-    subst CanEnd (sym c.without_effect.ensures) (refused_can c.args.header.now c.args.tx.now c.in-Some.outcome (sym c.in_ok-outcome.ensures ∙ c.in-Some.is))
+    subst CanEnd (sym c.without_effect.ensures.done) (refused_can c.args.header.now c.args.tx.now c.in-Some.outcome (sym c.in_ok-outcome.ensures ∙ c.in-Some.is))
 
 pub perform-requires-clause-body : goal.perform-requires-clause-body
 perform-requires-clause-body g c = body_at c.args.tx.now c.as_slice.result.now c.operation-item.result c.as_slice.ensures c.in-len1-up.len_at_least c.operation-item.is c.requires.fits

@@ -7,7 +7,7 @@ use Rattle.apply_spec.specs.Simulated.{with_footprint, needs}
 use Rattle.tx_apply.specs.Done.{effect_of}
 use Rattle.tx_apply.specs.Needed.{needs_in}
 use Rattle.tx_apply.proofs.Simulation.{simulated_is, enforced_elsewhere, smaller_trap}
-use Rattle.tx_apply.proofs.simulating.simulate_with.Goals as goal
+use Rattle.tx_apply.proofs.simulating.simulate_watched.Goals as goal
 
 pub needed-requires-clause-fits : goal.needed-requires-clause-fits
 needed-requires-clause-fits g c =

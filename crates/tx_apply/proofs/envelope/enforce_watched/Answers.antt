@@ -9,7 +9,7 @@ use Rattle.apply_spec.proofs.Lemmas.{step_framed}
 use Rattle.tx_apply.specs.Outcomes.{ended}
 use Rattle.tx_apply.specs.Done.{ended_of}
 use Rattle.tx_apply.proofs.Told.{told_done, told_same}
-use Rattle.tx_apply.proofs.envelope.enforce.Goals as goal
+use Rattle.tx_apply.proofs.envelope.enforce_watched.Goals as goal
 
 pub run_transaction-requires-clause-fits : goal.run_transaction-requires-clause-fits
 run_transaction-requires-clause-fits g c =
