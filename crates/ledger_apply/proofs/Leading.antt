@@ -6,6 +6,8 @@ use Rattle.std.proofs.Common.{◌≡◌, ℕ, suc, ◌+◌, ◌<◌, ◌^◌, Bo
 use Rattle.std.proofs.lemmas.Bool.{eq-eqb}
 use Rattle.xdr_spec.specs.Format.{list, number32, number64}
 use Rattle.ledger_types.specs.declared.header.Header.{Header}
+use Rattle.ledger_spec.specs.LedgerMap.{IsLedgerMap}
+use Rattle.ledger_spec.proofs.Lemmas.{kept_at}
 use Rattle.stage_runs.specs.Maps.{Bytes, LedgerMap}
 use Rattle.stage_runs.specs.Transactions.{Envelope, Step, IsFramed, writes}
 use Rattle.stage_runs.specs.Runs.{Cluster, Stage, RunState, start, run_transaction, run_all, run_next_cluster, run_clusters, run_stage, run_set}
@@ -305,3 +307,7 @@ pub log_fits : (log : Log) → log.old_seq < 2 ^ 32 → log.old_close_time < 2 ^
     → length log.stages < 2 ^ 32 → AllByRecursion stage_format.fits log.stages → log_format.fits log
 unfolding log_format list number32 number64
 log_fits log seq old new few fit = (seq, (old, (new, (omega (arith, few), few, fit))))
+
+-- a ledger's map has each entry at its key
+pub all_kept : (m : LedgerMap) → IsLedgerMap m → AreKept m
+all_kept m is q kept e = kept_at m q kept is e

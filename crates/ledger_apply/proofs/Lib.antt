@@ -4,6 +4,7 @@ mod Crosses
 mod Cutting
 mod Firsts
 mod Jobs
+mod Lasting
 mod Leading
 pub mod Lemmas
 mod Lists
@@ -12,10 +13,10 @@ mod Moved
 mod Noting
 mod Raising
 mod Searching
+mod SidesListed
 mod Spelling
-mod FormersListed
 mod Staging
 mod Steps
-mod FormerChanges
+mod Telling
 mod Waiting
 mod Written

@@ -1,30 +1,34 @@
 -- What the transactions of a cluster write, as it is added to a log.
-use Rattle.std.specs.FinMap.{get, retain_keys}
+use Rattle.std.specs.FinMap.{get, retain_keys, empty}
 use Rattle.std.specs.List.{AllByRecursion, flat_map}
-use Rattle.std.specs.Prelude.{Ok, IfOk, Result}
+use Rattle.std.specs.Option.{option_or}
+use Rattle.std.specs.Prelude.{Ok, IfOk, Result, filter, Option}
 use Rattle.std.proofs.Common.{◌≡◌, ℕ, suc, ◌+◌, ◌<◌, ◌^◌, Bool, true, false, cond, List, [], ◌∷◌, ◌++◌, length, get_or, take, map, Some, None, refl, sym, ap, ap₂, subst, ◌∙◌, append_assoc}
 use Rattle.std.proofs.lemmas.List.{append-nil, map-append}
 use Rattle.xdr_core.specs.declared.error.NoMemory.{NoMemory}
-use Rattle.stage_runs.specs.Maps.{Bytes, LedgerMap, laid_over, has_bytes}
+use Rattle.stage_runs.specs.Maps.{Bytes, Kept, LedgerMap, laid_over, has_bytes, key_bytes}
+use Rattle.stage_runs.specs.declared.Change.{Change}
+use Rattle.stage_runs.specs.declared.Extension.{Extension}
 use Rattle.stage_runs.specs.Transactions.{Envelope, Step, IsFramed, declared_by, writes, declares}
-use Rattle.stage_runs.specs.Runs.{RunState, start, run_transaction, run_all}
-use Rattle.stage_runs.proofs.Lemmas.{found_kept, right_true, same}
+use Rattle.stage_runs.specs.Runs.{RunState, change_all, is_written, put_all_in, start, run_transaction, run_all}
+use Rattle.stage_runs.proofs.Lemmas.{change_untouched, found_kept, kept_pass, put_untouched, right_true, same}
 use Rattle.ledger_parts.specs.Shown.{is_read}
-use Rattle.ledger_parts.specs.Notes.{Note, IsFramedNote, noted_in, noted_over}
+use Rattle.ledger_parts.specs.Notes.{Note, IsFramedNote, noted_in, noted_over, shown_note}
 use Rattle.ledger_parts.proofs.Lemmas.{noted_append, noted_seen}
 use Rattle.worker_runs.specs.Worked.{IsWorked}
 use Rattle.change_log.specs.Log.{Changes}
-use Rattle.change_log.specs.Groups.{changes_of, changes}
+use Rattle.change_log.specs.Groups.{changes}
 use Rattle.change_log.specs.declared.log.LoggedStage.{LoggedStage}
 use Rattle.ledger_apply.specs.LoggedLists.{WrittenSides, written_sides, list_of, if_logs, all_lists, IsSound, IsWritable, IsStageLog, AddsLists}
-use Rattle.ledger_apply.specs.Formers.{IsKeptIn, groups_since, AreFormersOf}
-use Rattle.ledger_apply.specs.declared.formers.Former.{Former}
+use Rattle.ledger_apply.specs.Lives.{before_lives, AreLives}
+use Rattle.ledger_apply.specs.Sides.{AddsList, Having, IsMade}
+use Rattle.ledger_apply.specs.declared.lives.Life.{Life}
 use Rattle.ledger_apply.specs.State.{done_in}
 use Rattle.ledger_apply.specs.Job.{cluster_of, own_of, IsCut, IsRun, IsRunOn, AreDone, IsMovedOf}
 use Rattle.ledger_apply.specs.declared.running.ClusterDone.{ClusterDone}
 use Rattle.ledger_apply.specs.declared.job.Job.{Job}
 use Rattle.ledger_apply.proofs.Lists.{recursion_append, take_one_more}
-use Rattle.ledger_apply.proofs.FormerChanges.{after_kept, before_kept, sides_list}
+use Rattle.ledger_apply.proofs.SidesListed.{part_after, part_before, part_list}
 
 -- ---- what is at the declared keys before and after a transaction depends on them alone
 
@@ -131,27 +135,41 @@ module _ (step : Step) (laws : IsFramed step) (logs : Bool) (lent : LedgerMap) w
   all_sound i (x ∷ xs) (y ∷ ys) (d ∷ ds) w cut moved done e =
       ((job_adds x y d cut.0 moved.0 w.0 done.0).sound e, all_sound (suc i) xs ys ds w.1 cut.1 moved.1 done.1 e)
 
--- what a transaction leaves at its read-write keys is added, as the copies of what was there tell it
-pub adds_sides : (m n own own' : LedgerMap) (tx : Envelope) (formers : List Former) (list : Changes) (old new : List Changes)
-    → AreFormersOf m (writes tx) formers → m ≡ own → n ≡ own' → list ≡ flat_map changes_of (groups_since n formers)
-    → AllByRecursion (IsKeptIn n) formers → length list < 2 ^ 32 → new ≡ old ++ list ∷ []
-    → AddsLists true (written_sides own own' tx ∷ []) old new
-adds_sides m n own own' tx formers list old new are seen seen' is kept few e =
-    let same : list ≡ changes (retain_keys m (writes tx)) (retain_keys n (writes tx)) = sides_list m n (writes tx) formers are list is in
-    let both : AddsLists true (written_sides m n tx ∷ []) old new =
+-- What a transaction leaves at its read-write keys is added, as the list tells it that was made before its changes.
+pub adds_made : (logs : Bool) (shown : LedgerMap → LedgerMap) → ((own : LedgerMap) (q : Bytes) → get (shown own) q ≡ option_or (get own q) (get (shown empty) q))
+    → (tx : Envelope) (own put own' m mid : LedgerMap) (pending : List Extension) (lives : List Life) (made : List Change) (old new : List Changes)
+    → m ≡ shown own → AreLives m mid lives → put ≡ put_all_in own (filter (is_written tx) pending)
+    → AllByRecursion (λ (c : Change). writes tx (key_bytes c.key) ≡ true) made → own' ≡ change_all put made
+    → AddsList logs (IsMade shown put mid lives made) old new → AddsLists logs (shown_note shown written_sides own own' tx ∷ []) old new
+adds_made false shown sees tx own put own' m mid pending lives made old new seen before is_put written is e =
+    record { lists = e ∙ sym (append-nil old); sound = λ t. absurd (never_true t) }
+  where
+    never_true : false ≡ true → ⊥
+    never_true e = cc
+adds_made true shown sees tx own put own' m mid pending lives made old new seen before is_put written is adds =
+    let list = adds.list in
+    let told = adds.told in
+    let was : (q : Bytes) → before_lives lives q (get mid q) ≡ get (shown own) q = λ q. before.before q ∙ ap (λ (x : LedgerMap). get x q) seen in
+    let then : (q : Bytes) → get (shown (change_all put made)) q ≡ get (shown own') q = λ q. ap (λ (x : LedgerMap). get (shown x) q) (sym is) in
+    let same_own : (q : Bytes) → writes tx q ≡ false → get own q ≡ get own' q = λ q off.
+    sym (ap (λ (x : LedgerMap). get x q) is ∙ change_untouched (writes tx) made put q written off ∙ ap (λ (x : LedgerMap). get x q) is_put
+    ∙ put_untouched (writes tx) (filter (is_written tx) pending) own q (kept_pass (is_written tx) pending) off) in
+    let off : (q : Bytes) → writes tx q ≡ false → get (shown own) q ≡ get (shown own') q = λ q w.
+    sees own q ∙ ap (λ (o : Option Kept). option_or o (get (shown empty) q)) (same_own q w) ∙ sym (sees own' q) in
+    let was_of : Having = λ q. before_lives lives q (get mid q) in
+    let same : list ≡ changes (retain_keys (shown own) (writes tx)) (retain_keys (shown own') (writes tx)) =
+    part_list was_of (get (shown (change_all put made))) list told (shown own) (shown own') was then (writes tx) off in
     record {
-      lists = e ∙ ap (λ (l : Changes). old ++ l ∷ []) same;
+      lists = adds.added ∙ ap (λ (l : Changes). old ++ l ∷ []) same;
       sound = λ t. (
         record {
-          before = before_kept m n (writes tx) formers are;
-          after = after_kept m n (writes tx) formers are kept;
-          few = subst (λ (l : Changes). length l < 2 ^ 32) same few;
+          before = part_before was_of (get (shown (change_all put made))) list told (shown own) (shown own') was then (writes tx) off;
+          after = part_after was_of (get (shown (change_all put made))) list told (shown own) (shown own') was then (writes tx) off;
+          few = subst (λ (l : Changes). length l < 2 ^ 32) same told.few;
         },
         tt,
       );
-    } in
-    subst (λ (x : LedgerMap). AddsLists true (written_sides own x tx ∷ []) old new) seen'
-    (subst (λ (x : LedgerMap). AddsLists true (written_sides x n tx ∷ []) old new) seen both)
+    }
 
 -- ---- the log of a stage
 

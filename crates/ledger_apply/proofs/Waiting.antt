@@ -1,5 +1,5 @@
 -- What is kept of pending extensions, as it changes.
-use Rattle.std.specs.BTreeMap.{BTreeMap, UpdatesBy}
+use Rattle.std.specs.BTreeMap.{BTreeMap, UpdatesBy, get_by}
 use Rattle.std.specs.Cmp.{eq_by_cmp_equiv}
 use Rattle.std.specs.Cmp.Lexicographic.{slice_cmp, nat_list_cmp_total, nat_list_eq_equiv}
 use Rattle.std.specs.Map.{KeepsOthers, IsKeyTest, AreApart, lookup}
@@ -20,7 +20,7 @@ use Rattle.ledger_apply.specs.Pending.{Awaiting, awaiting, is_awaited, still_pen
 
 -- ---- a map after a change at one key
 
-symmetric : (xs ys : List ℕ) → bytes_eq xs ys ≡ bytes_eq ys xs
+pub symmetric : (xs ys : List ℕ) → bytes_eq xs ys ≡ bytes_eq ys xs
 symmetric xs ys = nat_list_eq_equiv.symm xs ys
 
 apart : (bs cs ks : List ℕ) → bytes_eq bs cs ≡ false → is_eq (slice_cmp nat_cmp bs ks) ≡ true → is_eq (slice_cmp nat_cmp cs ks) ≡ false
@@ -32,14 +32,23 @@ other_entries : {K X : Type 0} (eq : K → K → Bool) (test : K → Bool) (old 
 unfolding KeepsOthers
 other_entries eq test old new h = h
 
-pub changed : {Z : Type 0} (bytes : List ℕ) (old new : BTreeMap (Vec ℕ Z) Awaited) (w : Option Awaited)
+abbrev at_bytes : {Z X : Type 0} → BTreeMap (Vec ℕ Z) X → List ℕ → Option X
+at_bytes map bytes = get_by (λ k. slice_cmp nat_cmp bytes k.items) map
+
+pub changed : {Z X : Type 0} (bytes : List ℕ) (old new : BTreeMap (Vec ℕ Z) X) (w : Option X)
     → UpdatesBy (λ x y. slice_cmp nat_cmp x.items y.items) (λ k. slice_cmp nat_cmp bytes k.items) old new w
-    → (q : List ℕ) → awaiting new q ≡ cond (bytes_eq bytes q) w (awaiting old q)
+    → (q : List ℕ) → at_bytes new q ≡ cond (bytes_eq bytes q) w (at_bytes old q)
 changed bytes old new w h q =
-    elim (bytes_eq bytes q) as (λ b. bytes_eq bytes q ≡ b → awaiting new q ≡ cond b w (awaiting old q)) [
-      | true ↦ λ is. ap (awaiting new) (sym ((bytes_eq-Decides bytes q).0 is)) ∙ h.1
+    elim (bytes_eq bytes q) as (λ b. bytes_eq bytes q ≡ b → at_bytes new q ≡ cond b w (at_bytes old q)) [
+      | true ↦ λ is. ap (at_bytes new) (sym ((bytes_eq-Decides bytes q).0 is)) ∙ h.1
       | false ↦ λ is. other_entries _ _ _ _ h.3 _ (λ x y. (eq_by_cmp_equiv nat_list_cmp_total).congr q x.items y.items) (λ k. apart bytes q k.items is)
     ] refl
+
+-- a map without a key
+pub removed : {Z : Type 0} (bytes key : List ℕ) (old new : BTreeMap (Vec ℕ Z) Awaited) → bytes ≡ key
+    → UpdatesBy (λ x y. slice_cmp nat_cmp x.items y.items) (λ k. slice_cmp nat_cmp bytes k.items) old new None
+    → (q : List ℕ) → awaiting new q ≡ cond (bytes_eq key q) None (awaiting old q)
+removed bytes key old new e h q = changed bytes old new None h q ∙ ap (λ (b : List ℕ). cond (bytes_eq b q) None (awaiting old q)) e
 
 -- ---- taken out: nothing of one key is pending any more
 

@@ -9,4 +9,5 @@ pub mod Job
 pub mod Search
 pub mod Logged
 pub mod LoggedLists
-pub mod Formers
+pub mod Lives
+pub mod Sides

@@ -5,8 +5,10 @@ ghost use Rattle.std.specs.Option.{option_map_or};
 ghost use Rattle.ledger_types.specs.Key.{key_format};
 ghost use Rattle.ledger_spec.specs.LedgerMap.{key_bytes};
 ghost use Rattle.stage_runs.specs.Runs.{put_all_in};
+ghost use Rattle.ledger_apply.specs.Lives.{KeepsLives};
 ghost use Rattle.ledger_apply.specs.Pending.{has_bytes, is_awaited as is_awaited_in};
 
+use crate::lives::{Life, keep_life};
 use ledger_parts::Entries;
 use ledger_types::LedgerKey;
 use stage_runs::Extension;
@@ -119,24 +121,30 @@ impl Pending {
         Ok(pending)
     }
 
-    /// Puts in the pending extensions of a key: the greater live-until ledger stays.
+    /// Puts in the pending extensions of a key: the greater live-until ledger stays. Keeps the life before, if there are any.
     pub fn put_in<E: Entries>(
         &mut self,
         alloc: Global,
         entries: &mut E,
         key: &LedgerKey,
+        lives: &mut Vec<Life>,
     ) -> Result<(), NoMemory>
         requires { key_format.fits key.now }
         ensures entries { OnOk result (E.own entries.new ≡ put_all_in (E.own entries.old)
             (filter (has_bytes (key_bytes key.now)) self.old)) }
         ensures pending { OnOk result (self.new ≡ filter (λ e. not (has_bytes (key_bytes key.now) e)) self.old) }
         ensures shown { E.shown entries.new ≡ E.shown entries.old }
+        ensures lives { OnOk result (KeepsLives (E.map entries.old) (E.map entries.new) lives.old.items lives.new.items) }
     {
         let bytes = encode(alloc, key)?;
-        if let Some(awaited) = self.by_key.remove(bytes.as_slice()) {
-            entries.raise(key, awaited.live_until);
+        match self.by_key.remove(bytes.as_slice()) {
+            None => Ok(()),
+            Some(awaited) => {
+                keep_life(entries, lives, key)?;
+                entries.raise(key, awaited.live_until);
+                Ok(())
+            }
         }
-        Ok(())
     }
 
     /// Returns the pending extensions in order.

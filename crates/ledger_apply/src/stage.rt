@@ -1,7 +1,8 @@
 //! Runs stages.
 
-ghost use Rattle.std.specs.Prelude.{◌≡◌, ◌<◌, ◌^◌, ◌++◌, All, IfOk, OnOk, IsTrue, length, map};
-ghost use Rattle.std.specs.List.{AllByRecursion, flat_map};
+ghost use Rattle.std.specs.Prelude.{◌≡◌, ◌<◌, ◌^◌, ◌++◌, [], All, IfOk, OnOk, IsTrue, length, map};
+ghost use Rattle.std.specs.FinMap.{get};
+ghost use Rattle.ledger_types.specs.Key.{key_format};
 ghost use Rattle.ledger_spec.specs.LedgerFile.{are_settings, has_next};
 ghost use Rattle.ledger_spec.specs.LedgerMap.{IsLedgerMap};
 ghost use Rattle.stage_runs.specs.Runs.{put_all_in, ended, run_stage as run_stage_in, clusters_in, HasNoConflict};
@@ -9,22 +10,24 @@ ghost use Rattle.stage_runs.specs.Runs.{run_clusters};
 ghost use Rattle.stage_runs.specs.Parts.{owns_back};
 ghost use Rattle.ledger_parts.specs.Cut.{runs_over};
 ghost use Rattle.ledger_parts.specs.Notes.{noted_over, noted_in_stage};
-ghost use Rattle.change_log.specs.Groups.{changes, changes_of};
+ghost use Rattle.change_log.specs.Groups.{changes};
 ghost use Rattle.apply_spec.specs.Enforced.{enforced};
 ghost use Rattle.tx_xdr.specs.Stages.{component_stage};
 ghost use Rattle.ledger_apply.specs.State.{between, pending_of, reports_of, IsKeyed};
 ghost use Rattle.ledger_apply.specs.Spelled.{IsStage, IsComponent};
 ghost use Rattle.ledger_apply.specs.Stages.{stage_of, IsSpelled};
 ghost use Rattle.ledger_apply.specs.LoggedLists.{written_sides, IsStageLog, IsWritable};
-ghost use Rattle.ledger_apply.specs.Formers.{groups_since, has_extension, AreFormersOf, IsFormer};
+ghost use Rattle.ledger_apply.specs.Lives.{before_lives, AreKeyed, Covers};
+ghost use Rattle.ledger_apply.specs.Sides.{IsListOf};
 ghost use Rattle.ledger_apply.specs.Job.{cluster_of, own_of, IsCut, AreMoved};
 
 use crate::entries::put_all;
-use crate::formers::{Former, Formers, add_extensions, changes_since, listed};
 use crate::job::Job;
+use crate::lives::{Life, keep_life};
 use crate::parts::{cut, cut_one, put_back, work_through};
 use crate::reports::Reports;
 use crate::running::ClusterDone;
+use crate::sides::lives_log;
 use crate::stages::SetStage;
 use crate::workers::Workers;
 use change_log::{Changes, LoggedStage};
@@ -32,8 +35,8 @@ use edge_io::Gate;
 use entry_map::EntryMap;
 use ledger_parts::Lent;
 use ledger_types::{Header, Verdicts};
+use stage_runs::Extension;
 use std::alloc::Global;
-use std::collections::BTreeMap;
 use std::thread::Threads;
 use tx_xdr::{Component, Stage};
 use value_types::Items;
@@ -69,37 +72,50 @@ pub fn end_stage(
     Ok(())
 }
 
-/// Lists the keys of the extensions that clusters left, and what is there.
-fn pending_formers(
+/// Keeps the lives of the entries at the keys of extensions.
+fn keep_lives(
+    entries: &EntryMap,
+    lives: &mut Vec<Life>,
+    extensions: &[Extension],
+) -> Result<(), NoMemory>
+    requires { All (λ e. key_format.fits e.key) extensions.now }
+    ensures { OnOk result (Covers entries.now extensions.now lives.old.items lives.new.items) }
+{
+    let ground = Lent { entries };
+    for extension in extensions {
+        keep_life(&ground, lives, &extension.key)?;
+    }
+    Ok(())
+}
+
+/// Returns the lives of the entries at the keys of the extensions that clusters left.
+fn pending_lives(
     alloc: Global,
     entries: &EntryMap,
     done: &[ClusterDone],
-) -> Result<Vec<Former>, NoMemory>
+) -> Result<Vec<Life>, NoMemory>
     requires { All IsKeyed done.now }
-    ensures formers { IfOk result (λ formers. AreFormersOf entries.now (has_extension (pending_of done.now)) formers.items) }
+    ensures lives { IfOk result (λ lives. Covers entries.now (pending_of done.now) [] lives.items) }
     ensures map { IsLedgerMap entries.now }
 {
     // What is known of `entries` as a map of a ledger comes from a call.
     let _count = entries.len();
-    let ground = Lent { entries };
-    let mut formers: Formers = BTreeMap::new(alloc);
+    let mut lives = Vec::new(alloc);
     for left in done {
-        add_extensions(alloc, &ground, &mut formers, &left.pending)?;
+        keep_lives(entries, &mut lives, &left.pending)?;
     }
-    let list = listed(alloc, formers)?;
-    Ok(list)
+    Ok(lives)
 }
 
-/// Returns the change log of what became of some keys of a ledger's entries.
-fn changes_in(alloc: Global, entries: &EntryMap, formers: &[Former]) -> Result<Changes, NoMemory>
-    requires { AllByRecursion IsFormer formers.now }
-    ensures list { IfOk result (λ list. list ≡ flat_map changes_of (groups_since entries.now formers.now)) }
-    ensures few { IfOk result (λ list. length list < 2 ^ 32) }
+/// Returns the change log of lives that were raised in a ledger's entries.
+fn changes_in(alloc: Global, entries: &EntryMap, lives: &[Life]) -> Result<Changes, NoMemory>
+    requires { AreKeyed lives.now }
+    ensures list { IfOk result (IsListOf (λ q. before_lives lives.now q (get entries.now q)) (get entries.now)) }
     ensures map { IsLedgerMap entries.now }
 {
     let _count = entries.len();
     let ground = Lent { entries };
-    changes_since(alloc, &ground, formers)
+    lives_log(alloc, &ground, lives)
 }
 
 /// Ends a stage, as `end_stage` does, and returns what its end changed. The merge itself takes no memory; the log does.
@@ -115,9 +131,9 @@ fn end_logged(
     ensures list { IfOk result (λ list. list ≡ changes entries.old entries.new) }
     ensures sound { IfOk result (λ _. IsWritable entries.old entries.new) }
 {
-    let formers = pending_formers(alloc, entries, &done)?;
+    let lives = pending_lives(alloc, entries, &done)?;
     end_stage(entries, reports, done)?;
-    let changes = changes_in(alloc, entries, &formers)?;
+    let changes = changes_in(alloc, entries, &lives)?;
     Ok(changes)
 }
 

@@ -1,17 +1,24 @@
 //! Runs one transaction in its cluster.
 
-ghost use Rattle.std.specs.Prelude.{◌≡◌, not, IfOk, OnOk, IsTrue, filter};
+ghost use Rattle.std.specs.Prelude.{◌≡◌, ◌∷◌, [], not, IfOk, OnOk, IsTrue, filter};
 ghost use Rattle.ledger_spec.specs.LedgerFile.{are_settings, has_next};
 ghost use Rattle.tx_xdr.specs.Envelope.{envelope_format};
 ghost use Rattle.stage_runs.specs.Runs.{after as after_in, is_written, put_all_in, run_transaction as run_transaction_in};
 ghost use Rattle.apply_spec.specs.Enforced.{enforced};
 ghost use Rattle.tx_apply.specs.Done.{effect_of, IsWithin};
+ghost use Rattle.ledger_parts.specs.Notes.{shown_note};
 ghost use Rattle.ledger_parts.specs.Shown.{shown_step};
+ghost use Rattle.ledger_apply.specs.Lives.{AreKeyed, AreLives};
+ghost use Rattle.ledger_apply.specs.LoggedLists.{written_sides, AddsLists};
+ghost use Rattle.ledger_apply.specs.Sides.{AddsList, IsMade};
 ghost use Rattle.ledger_apply.specs.State.{running_in};
 
 use crate::entries::change_all;
+use crate::lives::Life;
 use crate::pending::Pending;
 use crate::running::ClusterRun;
+use crate::sides::changes_log;
+use change_log::Changes;
 use code_cache::Cache;
 use ledger_parts::Entries;
 use ledger_types::{Header, Verdicts};
@@ -20,23 +27,48 @@ use tx_apply::{TxDone, enforce, read_write_of};
 use tx_xdr::Envelope;
 use xdr_core::NoMemory;
 
-/// Puts in the pending extensions of the keys that a transaction declares read-write.
+/// Puts in the pending extensions of the keys that a transaction declares read-write. Returns the lives before, where there were
+/// any.
 fn put_written<E: Entries>(
     alloc: Global,
     entries: &mut E,
     pending: &mut Pending,
     envelope: &Envelope,
-) -> Result<(), NoMemory>
+) -> Result<Vec<Life>, NoMemory>
     requires { envelope_format.fits envelope.now }
     ensures entries { OnOk result (E.own entries.new ≡ put_all_in (E.own entries.old)
         (filter (is_written envelope.now) pending.old)) }
     ensures pending { OnOk result (pending.new ≡ filter (λ e. not (is_written envelope.now e)) pending.old) }
     ensures shown { OnOk result (E.shown entries.new ≡ E.shown entries.old) }
+    ensures lives { IfOk result (λ lives. AreLives (E.map entries.old) (E.map entries.new) lives.items) }
 {
     let keys = read_write_of(envelope.transaction());
+    let mut lives = Vec::new(alloc);
     for key in keys {
-        pending.put_in(alloc, entries, key)?;
+        pending.put_in(alloc, entries, key, &mut lives)?;
     }
+    Ok(lives)
+}
+
+/// Adds what a transaction is going to change to the log, if one is kept.
+fn push_list<E: Entries>(
+    alloc: Global,
+    entries: &E,
+    lives: &[Life],
+    done: &TxDone,
+    logs: bool,
+    log: &mut Vec<Changes>,
+) -> Result<(), NoMemory>
+    requires keyed { AreKeyed lives.now }
+    requires within { IsWithin done.now }
+    ensures { OnOk result (AddsList logs (IsMade (E.shown entries.now) (E.own entries.now) (E.map entries.now) lives.now
+        done.now.changes) log.old.items log.new.items) }
+{
+    if !logs {
+        return Ok(());
+    }
+    let list = changes_log(alloc, entries, lives, done.changes.as_slice())?;
+    log.push(list)?;
     Ok(())
 }
 
@@ -62,6 +94,36 @@ fn after<E: Entries>(
     Ok(ClusterRun { pending, reports })
 }
 
+/// Runs a transaction in its cluster, as `run_transaction` does, and adds what it changes to the log, if one is kept. That is
+/// found before the changes are made, so that no entry is copied but into the log.
+pub(crate) fn run_next<E: Entries>(
+    alloc: Global,
+    entries: &mut E,
+    header: &Header,
+    verdicts: &Verdicts,
+    running: ClusterRun,
+    envelope: &Envelope,
+    codes: Option<&Cache<'_>>,
+    logs: bool,
+    log: &mut Vec<Changes>,
+) -> Result<ClusterRun, NoMemory>
+    requires fits { envelope_format.fits envelope.now }
+    requires settings { IsTrue (are_settings header.now.settings) }
+    requires next { IsTrue (has_next header.now) }
+    ensures run { IfOk result (λ r. running_in (E.own entries.new) r
+        ≡ run_transaction_in (shown_step (E.shown entries.old) (enforced header.now verdicts.now))
+        (running_in (E.own entries.old) running) envelope.now) }
+    ensures shown { IfOk result (λ _. E.shown entries.new ≡ E.shown entries.old) }
+    ensures log { IfOk result (λ _. AddsLists logs (shown_note (E.shown entries.old) written_sides (E.own entries.old)
+        (E.own entries.new) envelope.now ∷ []) log.old.items log.new.items) }
+{
+    let mut running = running;
+    let lives = put_written(alloc, entries, &mut running.pending, envelope)?;
+    let done = enforce(alloc, entries, header, verdicts, envelope, codes)?;
+    push_list(alloc, entries, &lives, &done, logs, log)?;
+    after(alloc, entries, running, done)
+}
+
 /// Runs a transaction in its cluster.
 ///
 /// Before it runs, the pending extensions of its read-write keys are put in, even if it fails. Its changes are made at once. Its
@@ -85,8 +147,8 @@ pub fn run_transaction<E: Entries>(
         (running_in (E.own entries.old) running) envelope.now) }
     ensures shown { IfOk result (λ _. E.shown entries.new ≡ E.shown entries.old) }
 {
-    let mut running = running;
-    put_written(alloc, entries, &mut running.pending, envelope)?;
-    let done = enforce(alloc, entries, header, verdicts, envelope, codes)?;
-    after(alloc, entries, running, done)
+    let mut log = Vec::new(alloc);
+    run_next(
+        alloc, entries, header, verdicts, running, envelope, codes, false, &mut log,
+    )
 }

@@ -6,3 +6,4 @@ mod Lists
 mod Maps
 mod Notes
 mod Seen
+mod Under

@@ -10,7 +10,8 @@ use Rattle.ledger_parts.specs.Shown.{shown_step, shown_with, PassesRead}
 use Rattle.ledger_parts.specs.Cut.{without, left_of, cut_from}
 use Rattle.ledger_parts.specs.Notes.{Note, AgreeElsewhere, IsFramedNote, noted_in, noted_in_stage, shown_note, noted_over}
 use Rattle.stage_runs.proofs.Lemmas.{apart_unwritten, cases, change_untouched, cluster_untouched, found_kept, found_over, kept_pass, left_true, never, one_true, or_else, or_none, owned_view, put_untouched, right_true, same, transaction_frame, transaction_untouched, unmoved, view, write_declared}
-use Rattle.ledger_parts.proofs.Seen.{found_shown_with, found_left}
+use Rattle.ledger_parts.specs.Sees.{found_shown_with}
+use Rattle.ledger_parts.proofs.Seen.{found_left}
 
 -- transactions that run after others note what they note on the state that these leave
 pub noted_append : {K : Type 0} (step : Step) (note : Note K) (cluster later : Cluster) (r : RunState)

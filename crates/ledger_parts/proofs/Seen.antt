@@ -9,27 +9,10 @@ use Rattle.stage_runs.specs.Maps.{Bytes, Kept, LedgerMap, laid_over}
 use Rattle.stage_runs.specs.Transactions.{Envelope, Effect, Step, declares, IsFramed}
 use Rattle.stage_runs.specs.Runs.{Cluster, Stage, RunState, before, after, start, run_transaction, run_all, run_clusters, run_stage, ended, writes_in, declares_in, AreApart, HasNoConflict}
 use Rattle.stage_runs.specs.Parts.{run_owned_all, own_parts, lent_of, is_moved, owns_back, run_owned_parts}
+use Rattle.ledger_parts.specs.Sees.{found_shown_with}
 use Rattle.ledger_parts.specs.Shown.{shown_step, shown_with, PassesRead}
 use Rattle.ledger_parts.specs.Cut.{without, left_of, cut_from, runs_over}
 use Rattle.stage_runs.proofs.Lemmas.{apart_unwritten, cases, found_kept, found_over, left_true, moved_run, never, or_else, right_true, same, write_declared}
-
--- ---- what is shown
-
-over_at : (es fs : List (Bytes × Kept)) (q : Bytes) → find (slice_cmp nat_cmp) q (es ++ fs) ≡ or_else (find (slice_cmp nat_cmp) q es) (find (slice_cmp nat_cmp) q fs)
-over_at [] fs q = refl
-over_at (e ∷ es) fs q = ap (cond (eq_by_cmp (slice_cmp nat_cmp) q e.0) (Some e.1)) (over_at es fs q) ∙ at (eq_by_cmp (slice_cmp nat_cmp) q e.0)
-  where
-    at : (b : Bool) → cond b (Some e.1) (or_else (find (slice_cmp nat_cmp) q es) (find (slice_cmp nat_cmp) q fs)) ≡ or_else (cond b (Some e.1) (find (slice_cmp nat_cmp) q es)) (find (slice_cmp nat_cmp) q fs)
-    at true = refl
-    at false = refl
-
-pub found_shown_with : (reads : Bytes → Bool) (lent own : LedgerMap) (q : Bytes) → get (shown_with reads lent own) q ≡ or_else (get own q) (cond (reads q) (get lent q) None)
-found_shown_with reads lent own q =
-    get-from_entries nat_list_cmp_total (entries own ++ filter (λ e. reads e.0) (entries lent)) q
-    ∙ over_at (entries own) (filter (λ e. reads e.0) (entries lent)) q
-    ∙ ap₂ or_else (sym (get-entries own q))
-    (find-where_key (slice_cmp nat_cmp) reads q (λ x e. ap reads (sym (slice_cmp-IsAntisymmetric nat_cmp-IsAntisymmetric q x e))) (entries lent)
-    ∙ ap (λ (o : Option Kept). cond (reads q) o None) (sym (get-entries lent q)))
 
 module _ (step : Step) (laws : IsFramed step) (reads : Bytes → Bool) (lent : LedgerMap) where
   -- one transaction sees enough

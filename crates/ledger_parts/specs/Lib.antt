@@ -1,4 +1,5 @@
 pub mod Shown
+pub mod Sees
 pub mod Cut
 pub mod Laws
 pub mod Notes

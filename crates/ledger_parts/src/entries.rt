@@ -1,15 +1,19 @@
 //! The entries that a cluster runs on.
 
 ghost use Rattle.std.specs.Prelude.{◌≡◌, ◌<◌, ◌+◌, ◌^◌, IfSome, OnOk, OnErr, refl};
-ghost use Rattle.std.specs.FinMap.{len, insert as insert_in};
+ghost use Rattle.std.specs.FinMap.{get, len, empty, insert as insert_in};
+ghost use Rattle.std.specs.Option.{option_map, option_or};
 ghost use Rattle.ledger_types.specs.Key.{key_format};
-ghost use Rattle.ledger_spec.specs.LedgerMap.{LedgerMap, IsKeptAt, key_bytes};
+ghost use Rattle.ledger_spec.specs.LedgerMap.{LedgerMap, IsKeptAt, IsLedgerMap, find as find_in, key_bytes};
 ghost use Rattle.ledger_spec.specs.Changes.{raise as raise_in};
+ghost use Rattle.entry_lookup.specs.Found.{kept_of};
+ghost use Rattle.stage_runs.specs.Maps.{Bytes};
 ghost use Rattle.stage_runs.specs.Runs.{change as change_in};
 ghost use Rattle.ledger_parts.specs.Shown.{shown as shown_by};
+ghost use Rattle.ledger_parts.specs.Sees.{sees_all, sees_lent};
 
 use crate::part::{MOST_ENTRIES, OnPart};
-use entry_lookup::Ground;
+use entry_lookup::{Found, Ground};
 use entry_map::EntryMap;
 use ledger_file::Ledger;
 use ledger_spec::Kept;
@@ -26,6 +30,17 @@ pub trait Entries: Ground {
     /// What transactions see, given the own entries.
     ghost shown: { Self → LedgerMap → LedgerMap };
 
+    /// Returns the number of own entries. It takes no memory.
+    fn len(&self) -> usize
+        ensures len { result ≡ len (own self.now) }
+        ensures map { IsLedgerMap (Self.map self.now) };
+
+    /// Finds what is lent at a key: the entry that transactions see there if there is no own one. It takes no memory.
+    fn find_lent(&self, key: &LedgerKey) -> Option<Found<'_>>
+        requires { key_format.fits key.now }
+        ensures found { option_map kept_of result ≡ find_in (shown self.now empty) key.now }
+        ensures kept { IfSome result (λ found. IsKeptAt (key_bytes key.now) (kept_of found)) };
+
     /// Makes a change to the own entries.
     fn change(&mut self, alloc: Global, change: Change) -> Result<(), NoMemory>
         requires key { key_format.fits change.key }
@@ -41,6 +56,10 @@ pub trait Entries: Ground {
 
     /// `Ground::find` finds what transactions see.
     ghost shows: { (entries : Self) → Self.map entries ≡ shown entries (own entries) };
+
+    /// At each key transactions see the own entry, or what is lent there if there is none.
+    ghost sees: { (entries : Self) (own : LedgerMap) (q : Bytes)
+        → get (shown entries own) q ≡ option_or (get own q) (get (shown entries empty) q) };
 }
 
 /// Stores an entry at its key, if a ledger has room for one more entry beside this many others.
@@ -69,6 +88,14 @@ impl Entries for Ledger {
 
     ghost shown = { λ _ entries. entries };
 
+    fn len(&self) -> usize {
+        self.entries.len()
+    }
+
+    fn find_lent(&self, _key: &LedgerKey) -> Option<Found<'_>> {
+        None
+    }
+
     fn change(&mut self, alloc: Global, change: Change) -> Result<(), NoMemory> {
         let Change { key, after } = change;
         match after {
@@ -85,6 +112,8 @@ impl Entries for Ledger {
     }
 
     ghost shows = { λ _. refl };
+
+    ghost sees = { λ _ own q. sees_all own q };
 }
 
 /// A cluster may run on its part: the entries that it declares read-write are its own.
@@ -92,6 +121,17 @@ impl<'a> Entries for OnPart<'a> {
     ghost own = { λ seen. seen.part.own };
 
     ghost shown = { λ seen own. shown_by seen.part.read_only seen.lent.now own };
+
+    fn len(&self) -> usize {
+        // What is known of `lent` as a map of a ledger comes from a call.
+        let _count = self.lent.len();
+        self.part.own.len()
+    }
+
+    fn find_lent(&self, key: &LedgerKey) -> Option<Found<'_>> {
+        let _count = self.lent.len();
+        self.lent_at(key)
+    }
 
     fn change(&mut self, alloc: Global, change: Change) -> Result<(), NoMemory> {
         let Change { key, after } = change;
@@ -110,4 +150,6 @@ impl<'a> Entries for OnPart<'a> {
     }
 
     ghost shows = { λ _. refl };
+
+    ghost sees = { λ seen own q. sees_lent seen.part.read_only seen.lent.now own q };
 }

@@ -64,7 +64,7 @@ impl<'a> OnPart<'a> {
     }
 
     /// Finds the lent entry at a key that the cluster declares read-only.
-    fn lent_at(&self, key: &LedgerKey) -> Option<Found<'_>>
+    pub(crate) fn lent_at(&self, key: &LedgerKey) -> Option<Found<'_>>
         requires { key_format.fits key.now }
         ensures { option_map kept_of result ≡ (if is_read self.now.part.read_only (key_bytes key.now)
             then find_in self.now.lent.now key.now else None) }

@@ -9,9 +9,8 @@ use Rattle.ledger_apply.specs.State.{between}
 use Rattle.ledger_apply.specs.Stages.{stage_of, clusters_of}
 use Rattle.ledger_apply.specs.declared.stages.SetStage.{SetStage}
 use Rattle.ledger_apply.proofs.Firsts.{free_at}
-use Rattle.ledger_apply.proofs.Leading.{stages_more, stages_none}
+use Rattle.ledger_apply.proofs.Leading.{all_kept, stages_more, stages_none}
 use Rattle.ledger_apply.proofs.Lists.{fold_more_of, take_all, take_one_more}
-use Rattle.ledger_apply.proofs.FormerChanges.{all_kept}
 use Rattle.ledger_apply.proofs.set.run_stages.Goals as goal
 
 pub loop-index-init : goal.loop-index-init

@@ -5,6 +5,7 @@ use Rattle.tx_xdr.specs.declared.transaction.Transaction.{Transaction}
 use Rattle.apply_spec.specs.Checks.{footprint_of}
 use Rattle.stage_runs.specs.Transactions.{declared_by}
 use Rattle.ledger_apply.proofs.Lists.{take_all}
+use Rattle.ledger_apply.proofs.Lasting.{are_lives, keeps_join, keeps_none}
 use Rattle.ledger_apply.proofs.Spelling.{written_spelled}
 use Rattle.ledger_apply.proofs.Written.{PutFor, put_for_none, put_for_more, all_written}
 use Rattle.ledger_apply.proofs.step.put_written.Goals as goal
@@ -12,6 +13,7 @@ use Rattle.ledger_apply.proofs.step.put_written.Goals as goal
 pub loop-key-init : goal.loop-key-init
 loop-key-init g c = record {
   put = put_for_none (g.E.Entries.own c.args.entries.now) c.args.pending.now;
+  lives = keeps_none (g.E.Ground.map c.args.entries.now) c.new-lives.result.items;
   shown = refl;
 }
 
@@ -29,6 +31,8 @@ loop-key-preserved g c =
       put = put_for_more c.read_write_of-keys.result.now c.loop-key.key-index c.key-item.result c.loop-key-test.true c.key-item.is
           (own c.args.entries.now) (own c.loop-key.entries) (own c.put_in.new.entries) c.args.pending.now c.loop-key.pending c.put_in.new.self
           c.loop-key.invariant.put c.in_ok-put_in.ensures.entries c.in_ok-put_in.ensures.pending;
+      lives = keeps_join (g.E.Ground.map c.args.entries.now) (g.E.Ground.map c.loop-key.entries) (g.E.Ground.map c.put_in.new.entries)
+          c.new-lives.result.items c.loop-key.lives.items c.put_in.new.lives.items c.loop-key.invariant.lives c.in_ok-put_in.ensures.lives;
       shown = c.put_in.ensures.shown ∙ c.loop-key.invariant.shown;
     }
 
@@ -40,4 +44,10 @@ returns g c =
     let whole = take_all keys c.loop-key.key-index c.loop-key-test.false (omega arith) in
     let both = all_written c.args.envelope.now keys (own c.args.entries.now) (own c.loop-key.entries) c.args.pending.now c.loop-key.pending are
     (subst (λ (ks : List LedgerKey). PutFor ks (own c.args.entries.now) (own c.loop-key.entries) c.args.pending.now c.loop-key.pending) whole c.loop-key.invariant.put) in
-    record { entries = both.0; pending = both.1; shown = c.loop-key.invariant.shown }
+    record {
+      entries = both.0;
+      pending = both.1;
+      shown = c.loop-key.invariant.shown;
+      lives = are_lives (g.E.Ground.map c.args.entries.now) (g.E.Ground.map c.loop-key.entries) c.new-lives.result.items c.loop-key.lives.items
+          c.new-lives.ensures.items c.loop-key.invariant.lives;
+    }

@@ -4,7 +4,7 @@ use Rattle.ledger_spec.specs.declared.Kept.{Kept}
 use Rattle.ledger_spec.specs.LedgerMap.{key_bytes}
 use Rattle.ledger_parts.specs.Shown.{is_read}
 use Rattle.stage_runs.proofs.Lemmas.{or_else}
-use Rattle.ledger_parts.proofs.Seen.{found_shown_with}
+use Rattle.ledger_parts.specs.Sees.{found_shown_with}
 use Rattle.ledger_parts.proofs.Maps.{shown_map}
 use Rattle.ledger_parts.proofs.part.OnPartGround.find.Goals as goal
 
