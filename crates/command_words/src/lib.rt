@@ -13,4 +13,5 @@ pub use request::{
     ApplyListRequest, ApplyRequest, BuildRequest, GenRequest, MigrateRequest, PlayRequest,
     RecordRequest, Request, ScheduleOptions, ShowKind, ShowRequest, SimulateRequest, VetRequest,
 };
+pub use values::{are_names, number_in};
 pub use words::request_of;

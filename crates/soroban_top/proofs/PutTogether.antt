@@ -17,9 +17,3 @@ pub hashed : (old name bytes hash a c : List ℕ) → hash ≡ sha256 bytes → 
 hashed old name bytes hash a c is first second =
     let all : c ≡ old ++ name ++ encode_lower (sha256 bytes) ++ codes "\n" = second ∙ ap₂ (λ l h. l ++ encode_lower h ++ codes "\n") first is in
     all ∙ ap (λ l. l ++ codes "\n") (append_assoc old name (encode_lower (sha256 bytes))) ∙ append_assoc old (name ++ encode_lower (sha256 bytes)) (codes "\n")
-
--- a line with two numbers, behind other lines
-pub two_numbers : (old a b c d e x y z : List ℕ) → x ≡ old ++ a → y ≡ x ++ b ++ c → z ≡ y ++ d ++ e → z ≡ old ++ (a ++ (b ++ (c ++ (d ++ e))))
-two_numbers old a b c d e x y z first second third =
-    third ∙ ap (λ l. l ++ d ++ e) (second ∙ ap (λ l. l ++ b ++ c) first)
-    ∙ append_assoc (((old ++ a) ++ b) ++ c) d e ∙ append_assoc ((old ++ a) ++ b) c (d ++ e) ∙ append_assoc (old ++ a) b (c ++ (d ++ e)) ∙ append_assoc old a (b ++ (c ++ (d ++ e)))

@@ -1,5 +1,5 @@
 use Rattle.std.specs.Prelude.{codes, decimal}
-use Rattle.soroban_top.proofs.PutTogether.{two_numbers}
+use Rattle.result_line.proofs.Lemmas.{two_numbers}
 use Rattle.soroban_top.proofs.listing.push_kept.Goals as goal
 
 pub returns : goal.returns

@@ -1,6 +1,6 @@
 use Rattle.std.proofs.Common.{length}
 use Rattle.std.specs.Prelude.{codes, decimal}
-use Rattle.soroban_top.proofs.PutTogether.{two_numbers}
+use Rattle.result_line.proofs.Lemmas.{two_numbers}
 use Rattle.soroban_top.proofs.simulation.push_footprint.Goals as goal
 
 pub returns : goal.returns

@@ -1,6 +1,6 @@
 use Rattle.std.specs.Prelude.{codes, decimal}
-use Rattle.soroban_top.proofs.PutTogether.{two_numbers}
-use Rattle.soroban_top.proofs.simulation.push_used.Goals as goal
+use Rattle.result_line.proofs.Lemmas.{two_numbers}
+use Rattle.result_line.proofs.push_used.Goals as goal
 
 pub returns : goal.returns
 returns c =
