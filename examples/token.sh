@@ -4,7 +4,7 @@
 # footprint that the simulation found. Each one is alone in its set, and each set makes the next ledger.
 #
 # The folder token has the contract in C, its module as hex digits, and the parts of which the transactions are made.
-# examples/run.sh builds the program and then runs this. SOROBAN names another program.
+# examples/run.sh builds the program and then runs this. SOROBAN names another program. KEEP names a folder that keeps the files.
 set -eu
 cd "$(dirname "$0")"
 program=${SOROBAN:-$PWD/../crates/soroban_cmd/out/soroban_cmd}
@@ -13,8 +13,11 @@ parts=$PWD/token
 if command -v clang >/dev/null && command -v wasm-ld >/dev/null; then
     sh build.sh token || echo 'This goes on with token.hex.'
 fi
-folder=$(mktemp -d)
-trap 'rm -rf "$folder"' EXIT
+folder=${KEEP:-}
+if [ -z "$folder" ]; then
+    folder=$(mktemp -d)
+    trap 'rm -rf "$folder"' EXIT
+fi
 cd "$folder"
 
 soroban() {

@@ -2,17 +2,33 @@
 # Shows the program within about a minute, unproved: `rt try` compiles it with checks that stop it at some faults. Nothing that
 # the README promises is known of it. examples/run.sh proves and builds the program.
 #
-# sh examples/unproved.sh                shows the program
-# sh examples/unproved.sh --keep FILE    keeps it as FILE, too
+# sh examples/unproved.sh                              shows the program
+# sh examples/unproved.sh --keep FILE [--why FILE]     keeps it as FILE, too; and soroban_why, which takes another minute
 set -eu
-keep=
-if [ $# -gt 0 ]; then
-    [ $# -eq 2 ] && [ "$1" = --keep ] || { echo "usage: $0 [--keep FILE]" >&2; exit 2; }
-    case $2 in
-        /*) keep=$2 ;;
-        *) keep=$PWD/$2 ;;
+usage() {
+    echo "usage: $0 [--keep FILE [--why FILE]]" >&2
+    exit 2
+}
+
+# Prints the path of a file that is to be kept.
+place() {
+    [ -d "$(dirname "$1")" ] || { echo "there is no folder for $1" >&2; exit 1; }
+    case $1 in
+        /*) echo "$1" ;;
+        *) echo "$PWD/$1" ;;
     esac
-    [ -d "$(dirname "$keep")" ] || { echo "there is no folder for $2" >&2; exit 1; }
+}
+
+keep=
+why=
+if [ $# -gt 0 ]; then
+    [ $# -ge 2 ] && [ "$1" = --keep ] || usage
+    keep=$(place "$2")
+    shift 2
+fi
+if [ $# -gt 0 ]; then
+    [ $# -eq 2 ] && [ "$1" = --why ] || usage
+    why=$(place "$2")
 fi
 for tool in rt xxd; do
     command -v "$tool" >/dev/null || { echo "$0 needs the command $tool" >&2; exit 1; }
@@ -54,28 +70,54 @@ catch() {
         sleep 0.05
     done
 }
-mkdir "$folder/build"
+
+# build FILE WORD ..: compiles the crate of this folder, runs it as the words say, and keeps it as FILE, if that is not empty.
+build() {
+    kept=$1
+    shift
+    rm -f "$folder/program"
+    mkdir "$folder/build"
+    if [ -n "$kept" ]; then
+        catch &
+    fi
+    TMPDIR=$folder/build rt try "$@" >"$folder/output" 2>"$folder/log" || {
+        cat "$folder/output" "$folder/log" >&2
+        exit 1
+    }
+    rm -rf "$folder/build"
+    wait
+    if [ -n "$kept" ]; then
+        [ -f "$folder/program" ] || { echo "this kit builds the program elsewhere, so it is not kept" >&2; exit 1; }
+        cp "$folder/program" "$kept"
+        chmod 755 "$kept"
+    fi
+}
+
 if [ -n "$keep" ]; then
     # The last run takes about a second, so that the file stands long enough.
     soroban gen --count 2000 --seed 1 --set set --ledger ledger --verdicts verdicts
-    catch &
 fi
-
 echo 'The program is compiled unproved, which takes about a minute.'
-TMPDIR=$folder/build rt try --data set.bin="$folder/set.bin" --data ledger.bin="$folder/ledger.bin" \
+build "$keep" --data set.bin="$folder/set.bin" --data ledger.bin="$folder/ledger.bin" \
     --data verdicts.bin="$folder/verdicts.bin" --data module.bin="$folder/module.bin" --data token.bin="$folder/token.bin" \
-    --data envelope.b64="$inputs/envelope.b64" --cases "$folder/commands" >"$folder/output" 2>"$folder/log" || {
-    cat "$folder/output" "$folder/log" >&2
-    exit 1
-}
-rm -rf "$folder/build"
-wait
+    --data envelope.b64="$inputs/envelope.b64" --cases "$folder/commands"
 sed 's/^== [0-9]* /$ /' "$folder/output"
 echo 'All of this was unproved. What apply stored is gone.'
 if [ -n "$keep" ]; then
-    [ -f "$folder/program" ] || { echo "this kit builds the program elsewhere, so it is not kept" >&2; exit 1; }
-    cp "$folder/program" "$keep"
-    chmod 755 "$keep"
     "$keep" vet --module "$folder/module.bin" >/dev/null
     echo "The program is kept as $keep, unproved."
+fi
+
+if [ -n "$why" ]; then
+    cd ../soroban_why
+    rm -r "$folder/commands"
+    mkdir "$folder/commands"
+    # So many runs take about a second.
+    for number in $(seq 300); do
+        : >"$folder/commands/$number soroban_why --version"
+        echo --version >"$folder/commands/$number soroban_why --version.args"
+    done
+    build "$why" --cases "$folder/commands"
+    "$why" --version >/dev/null
+    echo "The program soroban_why is kept as $why, unproved."
 fi

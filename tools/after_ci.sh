@@ -1,13 +1,16 @@
 #!/bin/sh
 # The checks beside proofs: that documents are in step with the code, that tools do what they say, and what the real program
-# does. `bash .ci/run` runs this after `rt ci`, which leaves the program in crates/soroban_cmd/out. Nothing is proved here.
+# does. `bash .ci/run` runs this after `rt ci`, which leaves the program in crates/soroban_cmd/out, and WHY, the program
+# soroban_why, in crates/soroban_why/out. Nothing is proved here.
 #
-# sh tools/after_ci.sh [PROGRAM]
+# sh tools/after_ci.sh [PROGRAM [WHY]]
 #
 # Each check has a line `ok NAME` or `FAILED NAME`. What a failed check printed stands above its line. The last line counts.
 program=${1:+$(realpath "$1")}
+why=${2:+$(realpath "$2")}
 cd "$(dirname "$0")/.." || exit 2
 program=${program:-$PWD/crates/soroban_cmd/out/soroban_cmd}
+why=${why:-$PWD/crates/soroban_why/out/soroban_why}
 export PYTHONDONTWRITEBYTECODE=1
 output=$(mktemp) || exit 2
 trap 'rm -f "$output"' EXIT
@@ -31,7 +34,7 @@ check() {
 # The tests of python/, over the program. A test that lacks something, such as a module of Python or a browser, has a line that
 # begins with "skipped".
 check_python() {
-    check 'tests of python/' env SOROBAN_CMD="$program" python3 -m unittest discover -v -s python
+    check 'tests of python/' env SOROBAN_CMD="$program" SOROBAN_WHY="$why" python3 -m unittest discover -v -s python
     sed -n "s/^\(.*\) \.\.\. skipped ['\"]\(.*\)['\"]$/skipped \1: \2/p" "$output"
 }
 
@@ -65,6 +68,16 @@ if [ -x "$program" ]; then
     check 'program: tools/fuzz.py finds faulty ones' python3 tools/test_fuzz.py "$program"
 else
     check "program: $program is there" false
+fi
+
+if [ -x "$why" ]; then
+    for table in tools/program_cases/why/*.txt crates/why_cases/data/*.txt; do
+        check "soroban_why: $table" python3 tools/program_cases.py "$why" "$table"
+    done
+    check 'soroban_why: the options of tools/commands.json' python3 tools/command_table.py check-other why "$why"
+    check 'soroban_why: the example of docs/CONTRACTS.md' python3 tools/readme_examples.py --why "$program" "$why"
+else
+    check "soroban_why: $why is there" false
 fi
 
 echo "$passed passed, $failed failed"

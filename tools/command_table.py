@@ -9,6 +9,7 @@ python3 tools/command_table.py check [PROGRAM]    says whether the README has th
                                                   program knows the table's options: it must reject a command if one of them
                                                   is left out, twice there, out of its range, or together with one that
                                                   it excludes. The status is 1 if not.
+python3 tools/command_table.py check-other NAME PROGRAM    says the same of a command that is a program of its own
 """
 import json
 import pathlib
@@ -26,9 +27,19 @@ def load():
     return json.loads((HERE / "commands.json").read_text(encoding="utf-8"))
 
 
+def all_commands(table):
+    """Returns the commands of the program, and those that are programs of their own."""
+    return [*table["commands"], *table["others"]]
+
+
 def find(table, name):
     """Returns the command of this name, or None."""
-    return next((command for command in table["commands"] if command["name"] == name), None)
+    return next((command for command in all_commands(table) if command["name"] == name), None)
+
+
+def name_words(command):
+    """Returns the words before a command's options: its name, or none if it is a program of its own."""
+    return [] if "program" in command else [command["name"]]
 
 
 def is_flag(option):
@@ -47,7 +58,7 @@ def shown(option):
 
 
 def usage(table, command):
-    return " ".join([table["program"], command["name"], *map(shown, command["options"])])
+    return " ".join([command.get("program", table["program"]), *name_words(command), *map(shown, command["options"])])
 
 
 def limits(option):
@@ -85,12 +96,14 @@ def help_of(table, command):
 def help_of_all(table):
     """Returns the help of the whole program."""
     text = "usage: soroban COMMAND OPTIONS\n       soroban help [COMMAND]\n       soroban version\n\n"
-    for command in table["commands"]:
-        text += f"  {command['name']:10}{command['about']}\n"
+    wide = max(len(command["name"]) for command in all_commands(table)) + 2
+    for command in all_commands(table):
+        text += f"  {command['name']:{wide}}{command['about']}\n"
     text += "\n"
     for sentence in table["description"]:
         text += wrap(sentence.split(), "", "")
-    text += f"`soroban` tests the options, the files and the close time, and then runs `{table['program']}`.\n\n"
+    others = "".join(f", or `{it['program']}` for `{it['name']}`" for it in table["others"])
+    text += f"`soroban` tests the options, the files and the close time, and then runs `{table['program']}`{others}.\n\n"
     for code, about in table["codes"]:
         text += f"  status {code}: {about}\n"
     return text
@@ -107,21 +120,26 @@ def troff(text):
 
 def man_page(table):
     lines = [f'.TH SOROBAN 1 "" "{table["program"]}" "User Commands"', ".SH NAME"]
-    lines += [f"soroban, {troff(table['program'])} \\- {troff(table['about'])}", ".SH SYNOPSIS", ".nf"]
-    for command in table["commands"]:
+    programs = ", ".join(["soroban", table["program"], *(it["program"] for it in table["others"])])
+    lines += [f"{troff(programs)} \\- {troff(table['about'])}", ".SH SYNOPSIS", ".nf"]
+    for command in all_commands(table):
         lines += [f".B soroban {command['name']}", troff(" ".join(map(shown, command["options"])))]
     lines += [".B soroban help\n[COMMAND]", ".B soroban version", ".fi", ".SH DESCRIPTION"]
     lines += map(troff, table["description"])
     lines += [".PP", ".B soroban", "tests the options, the files and the close time, and then runs"]
     lines += [f".BR {troff(table['program'])} ,", "the proved program, with the same words.", ".SH COMMANDS"]
-    for command in table["commands"]:
+    for command in all_commands(table):
         lines += [f".SS {command['name']}", troff(f"It {command['about']}.")]
+        if "program" in command:
+            lines += [f".BR {troff(command['program'])} ,", "a program of its own, takes these options without the name of the command."]
         for option in command["options"]:
             lines += [".TP", f".B {troff(shown(option).strip('[]'))}", troff(option["about"] + limits(option))]
     lines.append(".SH EXIT STATUS")
     for code, about in table["codes"]:
         lines += [".TP", f".B {code}", troff(about)]
     lines += [".SH ENVIRONMENT", ".TP", ".B SOROBAN_CMD", "names another program to run"]
+    for command in table["others"]:
+        lines += [".TP", f".B {command['program'].upper()}", f"names another program to run for {command['name']}"]
     return "\n".join(lines) + "\n"
 
 
@@ -131,9 +149,12 @@ def man_page(table):
 def bash_completions(table):
     """Returns the completions for bash. A file name is completed by bash itself."""
     names = " ".join(command["name"] for command in table["commands"])
+    others = " ".join(command["name"] for command in table["others"])
+    alone = "".join(f'    [ "${{1##*/}}" = {it["program"]} ] && command={it["name"]} first=1\n' for it in table["others"])
+    programs = " ".join(["soroban", table["program"], *(it["program"] for it in table["others"])])
     cases = ""
     values = ""
-    for command in table["commands"]:
+    for command in all_commands(table):
         options = " ".join(f"--{option['name']}" for option in command["options"])
         cases += f'        {command["name"]}) words="{options}" ;;\n'
         for option in command["options"]:
@@ -144,18 +165,18 @@ def bash_completions(table):
             elif not is_flag(option):
                 values += f'        {command["name"]}--{option["name"]}) COMPREPLY=($(compgen -f -- "$word")) && return ;;\n'
     return f"""\
-# Completions of soroban and {table['program']} for bash. tools/command_table.py made this file.
+# Completions of {programs} for bash. tools/command_table.py made this file.
 _soroban() {{
-    local word=${{COMP_WORDS[COMP_CWORD]}} command=${{COMP_WORDS[1]}} before=${{COMP_WORDS[COMP_CWORD - 1]}} words= it
+    local word=${{COMP_WORDS[COMP_CWORD]}} command=${{COMP_WORDS[1]}} before=${{COMP_WORDS[COMP_CWORD - 1]}} words= first=2 it
     COMPREPLY=()
-    if [ "$COMP_CWORD" -eq 1 ]; then
+{alone}    if [ "$COMP_CWORD" -lt "$first" ]; then
         words="{names}"
-        [ "${{1##*/}}" = soroban ] && words="$words help version"
+        [ "${{1##*/}}" = soroban ] && words="$words {others} help version"
         COMPREPLY=($(compgen -W "$words" -- "$word"))
         return
     fi
     case $command$before in
-        helphelp) words="{names}" ;;
+        helphelp) words="{names} {others}" ;;
 {values}    esac
     if [ -n "$words" ]; then
         COMPREPLY=($(compgen -W "$words" -- "$word"))
@@ -164,13 +185,13 @@ _soroban() {{
     case $command in
 {cases}    esac
     # Each option stands once.
-    for it in "${{COMP_WORDS[@]:2:COMP_CWORD-2}}"; do
+    for it in "${{COMP_WORDS[@]:first:COMP_CWORD-first}}"; do
         words=" $words "
         words=${{words/ $it / }}
     done
     COMPREPLY=($(compgen -W "$words" -- "$word"))
 }}
-complete -F _soroban soroban {table['program']}
+complete -F _soroban {programs}
 """
 
 
@@ -188,16 +209,23 @@ def zsh_action(option):
 
 
 def zsh_completions(table):
-    text = f"#compdef soroban {table['program']}\n# tools/command_table.py made this file.\n\n_soroban() {{\n"
-    text += "    local -a commands\n    commands=(\n"
-    for command in table["commands"]:
-        text += f"        {zsh_quoted(command['name'] + ':' + command['about'])}\n"
-    text += "    )\n    if (( CURRENT == 2 )); then\n"
-    text += "        [[ ${words[1]:t} == soroban ]] && commands+=('help:prints help' 'version:prints what is installed')\n"
+    programs = " ".join(["soroban", table["program"], *(it["program"] for it in table["others"])])
+    text = f"#compdef {programs}\n# tools/command_table.py made this file.\n\n_soroban() {{\n"
+    for command in table["others"]:
+        text += f"    [[ ${{words[1]:t}} == {command['program']} ]] && "
+        text += f"words=(soroban {command['name']} \"${{(@)words[2,-1]}}\") && (( CURRENT++ ))\n"
+    text += "    local -a commands others\n"
+    for name, listed in (("commands", table["commands"]), ("others", table["others"])):
+        text += f"    {name}=(\n"
+        for command in listed:
+            text += f"        {zsh_quoted(command['name'] + ':' + command['about'])}\n"
+        text += "    )\n"
+    text += "    if (( CURRENT == 2 )); then\n"
+    text += "        [[ ${words[1]:t} == soroban ]] && commands+=($others 'help:prints help' 'version:prints what is installed')\n"
     text += "        _describe command commands\n        return\n    fi\n    local command=$words[2]\n"
     text += "    shift words\n    (( CURRENT-- ))\n    case $command in\n"
-    text += "        help) _describe command commands ;;\n"
-    for command in table["commands"]:
+    text += "        help) commands+=($others) && _describe command commands ;;\n"
+    for command in all_commands(table):
         text += f"        {command['name']})\n            _arguments \\\n"
         rows = [zsh_quoted(f"--{it['name']}[{it['about']}]{zsh_action(it)}") for it in command["options"]]
         text += " \\\n".join(" " * 16 + row for row in rows) + "\n            ;;\n"
@@ -233,70 +261,90 @@ def excluding(command):
 
 def wrong_words(command, options, right):
     """Returns commands that the program has to reject, made of a right one: (what is wrong, words)."""
-    rows = [("an option that is not there", [command["name"], *sum(right, []), "--no-such-option"])]
+    before = name_words(command)
+    rows = [("an option that is not there", [*before, *sum(right, []), "--no-such-option"])]
     for i, option in enumerate(options):
         others = [words for j, words in enumerate(right) if j != i]
         name = f"--{option['name']}"
-        rows.append((f"{name} twice", [command["name"], *sum(right, []), *right[i]]))
+        rows.append((f"{name} twice", [*before, *sum(right, []), *right[i]]))
         if is_flag(option):
             continue
         bad = ["x" * 9] if "words" in option else [""]
         if "least" in option:
             bad += [str(option["greatest"] + 1), "x"] + ([str(option["least"] - 1)] if option["least"] else [])
         if not is_optional(option) or any(it.get("needs") == option["name"] for it in options):
-            rows.append((f"no {name}", [command["name"], *sum(others, [])]))
-        rows += [(f"{name} {value!r}", [command["name"], *sum(others, []), f"{name}={value}"]) for value in bad]
+            rows.append((f"no {name}", [*before, *sum(others, [])]))
+        rows += [(f"{name} {value!r}", [*before, *sum(others, []), f"{name}={value}"]) for value in bad]
     return rows
+
+
+def is_usage(program, words):
+    """Says whether a program rejects these words. It does so at once; a larger `gen` takes longer, so its words are right."""
+
+    def end_soon():
+        resource.setrlimit(resource.RLIMIT_CPU, (1, 1))
+
+    ran = subprocess.run([program, *words], stdout=subprocess.PIPE, stderr=subprocess.DEVNULL, preexec_fn=end_soon, check=False)
+    return ran.stdout == b"usage\n"
+
+
+def check_options(command, given, program, folder):
+    """Returns what a program does otherwise than the table says of a command, where these of its options stand together."""
+    faults, before = [], name_words(command)
+    options = [it for it in given if not is_flag(it)]
+    right = [[f"--{it['name']}", sample(it, folder, number)] for number, it in enumerate(options)]
+    flags = [[f"--{it['name']}"] for it in given if is_flag(it)]
+    for option, words in zip(options, right):
+        # Numbers at both ends of their range, and each of an option's words.
+        values = option.get("words") or ([str(option["least"]), str(option["greatest"])] if "least" in option else [])
+        for value in values:
+            others = [it for it in right if it is not words]
+            if is_usage(program, [*before, *sum(others, []), f"--{option['name']}={value}"]):
+                faults.append(f"{command['name']}: the program rejects --{option['name']} {value}")
+    if is_usage(program, [*before, *sum(right + flags, [])]):
+        faults.append(f"{command['name']}: the program rejects all options together")
+    if is_usage(program, [*before, *sum((words for it, words in zip(options, right) if not is_optional(it)), [])]):
+        faults.append(f"{command['name']}: the program rejects the options that are needed")
+    ordered = [[f"--{it['name']}", sample(it, folder, n)] if not is_flag(it) else [f"--{it['name']}"] for n, it in enumerate(given)]
+    for what, words in wrong_words(command, given, ordered):
+        if not is_usage(program, words):
+            faults.append(f"{command['name']}: the program accepts {what}")
+    for option, other in excluding(command):
+        both = [*before, *sum(ordered, []), f"--{other['name']}", sample(other, folder, 99)]
+        if option in given and not is_usage(program, both):
+            faults.append(f"{command['name']}: the program accepts --{option['name']} together with --{other['name']}")
+    return faults
+
+
+def check_commands(commands, wrong, program):
+    """Returns what a program does otherwise than the table says of its commands, or with these wrong words."""
+    faults = []
+    with tempfile.TemporaryDirectory() as folder:
+        for command in commands:
+            for given in together(command):
+                faults += check_options(command, given, program, folder)
+        for words in wrong:
+            if not is_usage(program, words):
+                faults.append(f"the program accepts {' '.join(words) or 'no words'}")
+    return faults
 
 
 def check_program(table, program):
     """Returns what the program does otherwise than the table says."""
-    faults = []
+    return check_commands(table["commands"], ([], ["help"], ["version"], ["--help"]), program)
 
-    def is_usage(words):
-        # Wrong words are rejected at once. A large `gen` takes longer, so its words are right.
-        def end_soon():
-            resource.setrlimit(resource.RLIMIT_CPU, (1, 1))
 
-        ran = subprocess.run([program, *words], stdout=subprocess.PIPE, stderr=subprocess.DEVNULL, preexec_fn=end_soon, check=False)
-        return ran.stdout == b"usage\n"
-
-    with tempfile.TemporaryDirectory() as folder:
-        for command, given in ((command, given) for command in table["commands"] for given in together(command)):
-            options = [it for it in given if not is_flag(it)]
-            right = [[f"--{it['name']}", sample(it, folder, number)] for number, it in enumerate(options)]
-            flags = [[f"--{it['name']}"] for it in given if is_flag(it)]
-            for option, words in zip(options, right):
-                # Numbers at both ends of their range, and each of an option's words.
-                values = option.get("words") or ([str(option["least"]), str(option["greatest"])] if "least" in option else [])
-                for value in values:
-                    others = [it for it in right if it is not words]
-                    if is_usage([command["name"], *sum(others, []), f"--{option['name']}={value}"]):
-                        faults.append(f"{command['name']}: the program rejects --{option['name']} {value}")
-            if is_usage([command["name"], *sum(right + flags, [])]):
-                faults.append(f"{command['name']}: the program rejects all options together")
-            if is_usage([command["name"], *sum((words for it, words in zip(options, right) if not is_optional(it)), [])]):
-                faults.append(f"{command['name']}: the program rejects the options that are needed")
-            ordered = [[f"--{it['name']}", sample(it, folder, n)] if not is_flag(it) else [f"--{it['name']}"]
-                       for n, it in enumerate(given)]
-            for what, words in wrong_words(command, given, ordered):
-                if not is_usage(words):
-                    faults.append(f"{command['name']}: the program accepts {what}")
-            for option, other in excluding(command):
-                both = [command["name"], *sum(ordered, []), f"--{other['name']}", sample(other, folder, 99)]
-                if option in given and not is_usage(both):
-                    faults.append(f"{command['name']}: the program accepts --{option['name']} together with --{other['name']}")
-        for words in ([], ["help"], ["version"], ["--help"]):
-            if not is_usage(words):
-                faults.append(f"the program accepts {' '.join(words) or 'no words'}")
-    return faults
+def check_other(command, program):
+    """Returns what a command that is a program of its own does otherwise than the table says."""
+    return check_commands([command], ([], ["help"], [command["name"]]), program)
 
 
 def check_readme(table):
     """Returns what the README has otherwise than the table."""
     text = README.read_text(encoding="utf-8")
-    lines = [line for line in text.split("\n") if line.startswith(table["program"] + " ")]
-    wanted = [usage(table, command) for command in table["commands"]]
+    programs = tuple(f"{name} " for name in (table["program"], *(it["program"] for it in table["others"])))
+    lines = [line for line in text.split("\n") if line.startswith(programs)]
+    wanted = [usage(table, command) for command in all_commands(table)]
     return [f"README.md has no line: {line}" for line in wanted if line not in lines] + [
         f"README.md has a line that tools/commands.json does not have: {line}" for line in lines if line not in wanted
     ]
@@ -322,6 +370,11 @@ def main(words):
         sys.stdout.write({"man": man_page, "bash": bash_completions, "zsh": zsh_completions}[words[0]](table))
     elif words[:1] == ["check"] and len(words) <= 2:
         check(table, words[1:])
+    elif words[:1] == ["check-other"] and len(words) == 3 and "program" in (find(table, words[1]) or {}):
+        faults = check_other(find(table, words[1]), words[2])
+        if faults:
+            sys.exit("\n".join(faults))
+        print(f"tools/commands.json agrees with {words[2]}: {words[1]}")
     else:
         sys.exit(__doc__)
 

@@ -222,6 +222,9 @@ def expected_outcome(names, lines):
     # At a fault, the name of the faulty file stands in quotes. A program says it in its line alone.
     quoted = re.match(r"'([^']*)'(?: |$)", rest) if rest and code == 4 else None
     faulty, rest = (quoted[1], rest[quoted.end() :]) if quoted else ("", rest)
+    # The tables of soroban_why have no quotes: its line alone names the file.
+    if code == 4 and rest and not quoted and rest.startswith("fault on "):
+        faulty = rest[len("fault on ") :]
     said, stored, reasons = b"", [], None
     for line in [rest, *lines[1:]] if rest else lines[1:]:
         word, _, more = line.partition(" ")
@@ -237,6 +240,12 @@ def expected_outcome(names, lines):
         else:
             said += with_digits(names, line).encode() + b"\n"
     return Outcome(code, said[:-6] if said.endswith(b"[cut]\n") else said, stored, reasons, faulty)
+
+
+def spelled_outcome(names, lines):
+    """Returns the outcome of a case `said`: an exit code, and the bytes of what is said."""
+    code, _, digits = lines[0].partition(" ")
+    return Outcome(int(code), spelled(names, digits), [], [])
 
 
 class Table:
@@ -342,7 +351,7 @@ class Table:
         case, arrow, outcome = without_remark(line).partition(" => ")
         kind, _, rest = case.partition(" ")
         expected = ([outcome] if arrow else []) + [without_remark(it) for it in below]
-        if kind != "run":
+        if kind not in ("run", "said"):
             if expected:
                 raise Unclear("a case that has an outcome")
             self.prepare(kind, rest)
@@ -353,7 +362,8 @@ class Table:
             self.left_out += 1
             return []
         outcome, modes = self.run(words_of(self.names, rest))
-        lines = outcome.differs(expected_outcome(self.names, expected)) + modes
+        wanted = (expected_outcome if kind == "run" else spelled_outcome)(self.names, expected)
+        lines = outcome.differs(wanted) + modes
         self.held += not lines
         return lines
 
@@ -363,7 +373,7 @@ class Table:
             self.define(kind, rest, below)
             return []
         lines = self.judge(line, below)
-        if kind == "run":
+        if kind in ("run", "said"):
             self.forget()
         return lines
 

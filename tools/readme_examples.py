@@ -1,7 +1,8 @@
 #!/usr/bin/env python3
-"""Runs examples/run.sh with a program that is built, and compares what it prints with the README.
+"""Runs examples with programs that are built, and compares what they print with the documents.
 
-python3 tools/readme_examples.py PROGRAM
+python3 tools/readme_examples.py PROGRAM          examples/run.sh and README.md
+python3 tools/readme_examples.py --why PROGRAM WHY    examples/why.sh and docs/CONTRACTS.md; WHY is soroban_why
 
 The README has the first example whole, and the end of the second one. The status is 1 if the output has other lines.
 """
@@ -16,6 +17,8 @@ import tempfile
 TOP = pathlib.Path(__file__).resolve().parent.parent
 # The sentences of the README above the two blocks.
 FIRST, SECOND = "the first command prints\n", "This ends with\n"
+# That of docs/CONTRACTS.md.
+WHY = "`sh examples/why.sh` prints\n"
 # What the examples use of xxd, for machines without it.
 XXD = """#!{python}
 import sys
@@ -28,14 +31,14 @@ else:
 """
 
 
-def block_below(sentence):
-    """Returns the lines of the first block below a sentence of the README."""
-    text = (TOP / "README.md").read_text(encoding="utf-8")
+def block_below(sentence, page="README.md"):
+    """Returns the lines of the first block below a sentence of a document."""
+    text = (TOP / page).read_text(encoding="utf-8")
     return text.partition(sentence)[2].partition("```text\n")[2].partition("```")[0].split("\n")[:-1]
 
 
-def run_examples(program):
-    """Returns the lines that the examples print."""
+def run_examples(script, programs):
+    """Returns the lines that a script of examples/ prints. The programs are variables of its environment."""
     with tempfile.TemporaryDirectory() as folder:
         path = os.environ.get("PATH", "/usr/bin:/bin")
         if not shutil.which("xxd"):
@@ -43,25 +46,34 @@ def run_examples(program):
             tool.write_text(XXD.format(python=sys.executable), encoding="utf-8")
             tool.chmod(0o755)
             path = folder + os.pathsep + path
-        how = {"env": {**os.environ, "PATH": path, "SOROBAN": program}, "stdin": subprocess.DEVNULL, "cwd": TOP}
-        ran = subprocess.run(["sh", "examples/run.sh"], stdout=subprocess.PIPE, stderr=subprocess.STDOUT, text=True, **how)
+        how = {"env": {**os.environ, "PATH": path, **programs}, "stdin": subprocess.DEVNULL, "cwd": TOP}
+        ran = subprocess.run(["sh", script], stdout=subprocess.PIPE, stderr=subprocess.STDOUT, text=True, **how)
     if ran.returncode:
-        sys.exit(ran.stdout + f"examples/run.sh ends with status {ran.returncode}")
+        sys.exit(ran.stdout + f"{script} ends with status {ran.returncode}")
     return ran.stdout.split("\n")[:-1]
 
 
+def compare(page, script, pairs):
+    """Prints what differs between the lines of a document and those that came. Returns the status."""
+    for wanted, came in pairs:
+        if not wanted or wanted != came:
+            print(*difflib.unified_diff(wanted, came, page, script, lineterm=""), sep="\n")
+            return 1
+    print(f"{script} prints what {page} has")
+    return 0
+
+
 def main():
-    if len(sys.argv) != 2:
+    programs = [os.path.abspath(word) for word in sys.argv[1:] if word != "--why"]
+    if sys.argv[1:2] == ["--why"] and len(programs) == 2:
+        lines = run_examples("examples/why.sh", {"SOROBAN": programs[0], "SOROBAN_WHY": programs[1]})
+        return compare("docs/CONTRACTS.md", "examples/why.sh", [(block_below(WHY, "docs/CONTRACTS.md"), lines)])
+    if len(sys.argv) != 2 or len(programs) != 1:
         sys.exit(__doc__)
-    lines = run_examples(os.path.abspath(sys.argv[1]))
+    lines = run_examples("examples/run.sh", {"SOROBAN": programs[0]})
     first, second = block_below(FIRST), block_below(SECOND)
     at = lines.index(first[0]) if first and first[0] in lines else 0
-    for wanted, came in ((first, lines[at : at + len(first)]), (second, lines[-len(second) :])):
-        if not wanted or wanted != came:
-            print(*difflib.unified_diff(wanted, came, "README.md", "examples/run.sh", lineterm=""), sep="\n")
-            return 1
-    print("examples/run.sh prints what the README has")
-    return 0
+    return compare("README.md", "examples/run.sh", [(first, lines[at : at + len(first)]), (second, lines[-len(second) :])])
 
 
 if __name__ == "__main__":

@@ -1,10 +1,11 @@
 #!/usr/bin/env python3
-"""soroban: tests a command, and then runs soroban_cmd with the same words.
+"""soroban: tests a command, and then runs soroban_cmd with the same words, or soroban_why for `soroban why`.
 
-The program itself says only `usage` to wrong words, and takes names of files as text. So this says which word is wrong,
+The programs themselves say only `usage` to wrong words, and take names of files as text. So this says which word is wrong,
 rejects two names of one file, input files that cannot be read, and a close time before the ledger's.
 
-tools/install.sh installs this. Here in the repository it runs the program that the build left, and SOROBAN_CMD names another.
+tools/install.sh installs this. Here in the repository it runs the programs that the build left. SOROBAN_CMD and SOROBAN_WHY
+name others.
 """
 import difflib
 import hashlib
@@ -20,7 +21,6 @@ import command_table
 
 HERE = pathlib.Path(__file__).resolve().parent
 INSTALLED = HERE / "installed.json"
-BUILT = HERE.parent / "crates" / "soroban_cmd" / "out" / "soroban_cmd"
 REJECTED = 9
 
 
@@ -35,28 +35,34 @@ def near(name, names):
     return f"; is {close[0]} meant?" if close else ""
 
 
-def program():
-    """Returns the program's path."""
-    if "SOROBAN_CMD" in os.environ:
-        return pathlib.Path(os.environ["SOROBAN_CMD"])
+def program(name):
+    """Returns the path of a program."""
+    if name.upper() in os.environ:
+        return pathlib.Path(os.environ[name.upper()])
     if INSTALLED.exists():
-        return HERE.parent.parent / "bin" / "soroban_cmd"
-    return BUILT
+        return HERE.parent.parent / "bin" / name
+    return HERE.parent / "crates" / name / "out" / name
+
+
+def version_of(name, facts):
+    """Returns the lines of a program that is there. The facts are those of the installation, or none."""
+    path = program(name)
+    digest = hashlib.sha256(path.read_bytes()).hexdigest()
+    if not facts or path != HERE.parent.parent / "bin" / name:
+        return f"{name}, not installed by tools/install.sh\nprogram {path}\nsha256 {digest}\n"
+    if digest != facts["sha256"].get(name):
+        reject(f"{path} is not the program that was installed, which has sha256 {facts['sha256'].get(name)}")
+    return f"{name}, {facts['proof']}\nprogram {path}\nsha256 {digest}\n"
 
 
 def version(table):
-    """Returns what is installed: the program with the kit that built it, its hash, and the text of the repository."""
-    path = program()
-    if not path.exists():
-        reject(f"there is no program {path}")
-    digest = hashlib.sha256(path.read_bytes()).hexdigest()
-    if path != HERE.parent.parent / "bin" / "soroban_cmd" or not INSTALLED.exists():
-        return f"{table['program']}, not installed by tools/install.sh\nprogram {path}\nsha256 {digest}\n"
-    facts = json.loads(INSTALLED.read_text(encoding="utf-8"))
-    text = f"{table['program']}, {facts['proof']}\nprogram {path}\nsha256 {digest}\ncommit {facts['commit']}\n"
-    if digest != facts["sha256"]:
-        reject(f"{path} is not the program that was installed, which has sha256 {facts['sha256']}")
-    return text
+    """Returns what is installed: each program with the kit that built it, and its hash, and the text of the repository."""
+    if not program(table["program"]).exists():
+        reject(f"there is no program {program(table['program'])}")
+    facts = json.loads(INSTALLED.read_text(encoding="utf-8")) if INSTALLED.exists() else {}
+    names = [table["program"], *(it["program"] for it in table["others"] if program(it["program"]).exists())]
+    text = "".join(version_of(name, facts) for name in names)
+    return text + (f"commit {facts['commit']}\n" if facts else "")
 
 
 def read_options(command, words):
@@ -178,7 +184,7 @@ def help_text(table, names):
         return command_table.help_of_all(table)
     command = command_table.find(table, names[0])
     if command is None or len(names) > 1:
-        reject(f"there is no command {' '.join(names)}" + near(names[0], [it["name"] for it in table["commands"]]))
+        reject(f"there is no command {' '.join(names)}" + near(names[0], [it["name"] for it in command_table.all_commands(table)]))
     return command_table.help_of(table, command)
 
 
@@ -195,7 +201,7 @@ def main(words):
         sys.exit(REJECTED)
     command = command_table.find(table, words[0])
     if command is None:
-        names = [it["name"] for it in table["commands"]] + ["help", "version"]
+        names = [it["name"] for it in command_table.all_commands(table)] + ["help", "version"]
         reject(f"there is no command {words[0]}" + near(words[0], names))
     if words[1:] in (["--help"], ["-h"]):
         sys.stdout.write(command_table.help_of(table, command))
@@ -206,10 +212,11 @@ def main(words):
             check_value(option, values[option["name"]])
     check_files(command["options"], values)
     check_times(values)
+    path = program(command.get("program", table["program"]))
     try:
-        os.execv(program(), [str(program()), *words])
+        os.execv(path, [str(path), *command_table.name_words(command), *words[1:]])
     except OSError as error:
-        reject(f"{program()} does not run: {error.strerror}")
+        reject(f"{path} does not run: {error.strerror}")
 
 
 if __name__ == "__main__":

@@ -1,6 +1,7 @@
 """Runs the built program over files in a folder of their own."""
 from __future__ import annotations
 
+import json
 import os
 import re
 import subprocess
@@ -10,14 +11,10 @@ from typing import Dict, List, NamedTuple, Optional
 from . import schema
 from .xdr import Json
 
-VARIABLE = "SOROBAN_CMD"
-BUILT = os.path.join(
-    os.path.dirname(os.path.dirname(os.path.dirname(os.path.abspath(__file__)))),
-    "crates",
-    "soroban_cmd",
-    "out",
-    "soroban_cmd",
-)
+VARIABLE, VARIABLE_WHY = "SOROBAN_CMD", "SOROBAN_WHY"
+CRATES = os.path.join(os.path.dirname(os.path.dirname(os.path.dirname(os.path.abspath(__file__)))), "crates")
+BUILT = os.path.join(CRATES, "soroban_cmd", "out", "soroban_cmd")
+BUILT_WHY = os.path.join(CRATES, "soroban_why", "out", "soroban_why")
 
 
 class NoProgram(RuntimeError):
@@ -86,6 +83,16 @@ def is_there(path: Optional[str] = None) -> bool:
     return os.access(path_of(path), os.X_OK)
 
 
+def why_path() -> str:
+    """Returns the path of the program that tells why: that of the variable SOROBAN_WHY, or that of the repository's build."""
+    return os.path.abspath(os.environ.get(VARIABLE_WHY) or BUILT_WHY)
+
+
+def can_tell_why() -> bool:
+    """Says whether there is a program that tells why."""
+    return os.access(why_path(), os.X_OK)
+
+
 class Program:
     """The built program. Each run has a folder of its own."""
 
@@ -96,22 +103,22 @@ class Program:
                 f"there is no program at {self.path}: build it with examples/run.sh, or name it in {VARIABLE}"
             )
 
-    def run(self, words: List[str], files: Dict[str, bytes]) -> Ran:
-        """Runs the program with these words in a folder with these files."""
+    def run(self, words: List[str], files: Dict[str, bytes], path: Optional[str] = None) -> Ran:
+        """Runs the program, or the one at another path, with these words in a folder with these files."""
         with tempfile.TemporaryDirectory() as folder:
             for name, data in files.items():
                 with open(os.path.join(folder, name), "wb") as file:
                     file.write(data)
-            done = subprocess.run([self.path, *words], cwd=folder, stdout=subprocess.PIPE, check=False)
+            done = subprocess.run([path or self.path, *words], cwd=folder, stdout=subprocess.PIPE, check=False)
             left = {}
             for name in os.listdir(folder):
                 with open(os.path.join(folder, name), "rb") as file:
                     left[name] = file.read()
         return Ran(done.returncode, done.stdout.decode("utf-8", "replace"), left)
 
-    def done(self, words: List[str], files: Dict[str, bytes]) -> Ran:
+    def done(self, words: List[str], files: Dict[str, bytes], path: Optional[str] = None) -> Ran:
         """Runs the program, which finds its files by the names of their options. Raises `Refused` unless the command is done."""
-        ran = self.run([*words, *(word for name in files for word in (f"--{name}", name))], files)
+        ran = self.run([*words, *(word for name in files for word in (f"--{name}", name))], files, path)
         if ran.code:
             raise Refused(ran.code, ran.said)
         return ran
@@ -130,6 +137,28 @@ class Program:
         words = ["record", "--close-time", str(close_time), "--nonce", str(nonce), "--expiration", str(until), "--out", "out"]
         ran = self.done(words, {"tx": envelope, "ledger": ledger})
         return Recorded(schema.read(schema.ENTRIES, ran.files["out"]), "caught 1" in ran.said)
+
+    def why(
+        self,
+        envelope: bytes,
+        ledger: bytes,
+        verdicts: bytes,
+        close_time: int,
+        is_declared: bool = False,
+        is_json: bool = False,
+    ) -> str:
+        """Returns what soroban_why says of the run of an envelope: its trace, as lines or as a JSON document, and its result.
+
+        The footprint is the one that the run needs, or the declared one. Raises `NoProgram` if soroban_why is not there.
+        """
+        if not can_tell_why():
+            raise NoProgram(f"there is no program at {why_path()}: build it, or name it in {VARIABLE_WHY}")
+        words = ["--close-time", str(close_time)] + ["--record"] * (not is_declared) + ["--json"] * is_json
+        return self.done(words, {"tx": envelope, "ledger": ledger, "verdicts": verdicts}, why_path()).said
+
+    def trace(self, envelope: bytes, ledger: bytes, verdicts: bytes, close_time: int, is_declared: bool = False) -> Json:
+        """Returns the document of `why`, decoded."""
+        return json.loads(self.why(envelope, ledger, verdicts, close_time, is_declared, is_json=True).split("\n")[0])
 
     def apply(
         self,

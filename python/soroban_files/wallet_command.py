@@ -10,7 +10,7 @@ from typing import Any, List, Optional
 
 from . import envelopes, hashes, ledgers, results, schema, strkey, values, wallet
 from .files import from_json
-from .program import Program
+from .program import Program, can_tell_why
 from .xdr import Json
 
 KEY_HELP = "a seed (S..), a file that holds one, or name:TEXT for a test key that anybody can make"
@@ -165,6 +165,9 @@ def do_fill(words: argparse.Namespace) -> int:
     filled, simulated = wallet.filled(Program(words.program), envelope, ledger, verdicts, time, words.margin)
     outcome = results.word(simulated.result)
     if outcome != "success":
+        if can_tell_why():
+            files = (envelopes.xdr(envelope), schema.write(schema.LEDGER, ledger), schema.write(schema.VERDICTS, verdicts))
+            print(Program(words.program).why(*files, time), end="", file=sys.stderr)
         raise ValueError(f"the simulation ends with {outcome}; nothing is written")
     command.write_envelope(words.out, filled)
     return 0

@@ -32,7 +32,7 @@ from typing import Any, Callable, Dict, List, NamedTuple, Optional, Sequence, Tu
 
 from . import asking, envelopes, hashes, results, schema, strkey, values, wallet
 from . import ledgers as ledger_files
-from .program import Program, Simulated, is_there, path_of
+from .program import Program, Simulated, can_tell_why, is_there, path_of
 from .results import Event
 from .xdr import Json
 
@@ -59,7 +59,7 @@ class Failed(AssertionError):
     """A transaction failed that had to succeed. `outcome` says how."""
 
     def __init__(self, outcome: "Outcome") -> None:
-        super().__init__(outcome.line)
+        super().__init__("\n".join([outcome.line, outcome.why]).strip())
         self.outcome = outcome
 
 
@@ -134,8 +134,9 @@ class Outcome:
         success: Optional[Json],
         simulated: Optional[Simulated] = None,
         ask: Optional[Callable[[], Optional[Json]]] = None,
+        tell: Optional[Callable[[], str]] = None,
     ) -> None:
-        self.result, self.success, self.simulated, self.ask = result, success, simulated, ask
+        self.result, self.success, self.simulated, self.ask, self.tell = result, success, simulated, ask, tell
         self.code = results.word(result)
         self.ok = self.code == "success"
         self.value: Optional[Json] = success["return_value"] if success else None
@@ -156,6 +157,14 @@ class Outcome:
         contract's own error comes as `{"error": {"context": "invalid_action"}}`.
         """
         return self.ask() if self.ask and self.code == "trapped" else None
+
+    @property
+    def why(self) -> str:
+        """What the transaction did on the ledger as it was, with the footprint that it needs: the lines of soroban_why.
+
+        The empty text if soroban_why is not there.
+        """
+        return self.tell() if self.tell else ""
 
     @property
     def line(self) -> str:
@@ -419,7 +428,7 @@ class World:
         """Simulates a host function; the ledger stays. `how` is that of `envelope`."""
         envelope = self.envelope(host_function, **how)
         found = self.simulated(envelope)
-        return Outcome(found.result, found.success, found, self.asker(envelope))
+        return Outcome(found.result, found.success, found, self.asker(envelope), self.teller(envelope))
 
     def prepare(self, host_function: Json, **how: Any) -> Json:
         """Returns the envelope of a host function with its footprint and its limits, signed by its source, for `close`."""
@@ -442,7 +451,7 @@ class World:
         """
         envelope = self.envelope(host_function, **how)
         found = self.simulated(envelope)
-        outcome = Outcome(found.result, found.success, found, self.asker(envelope))
+        outcome = Outcome(found.result, found.success, found, self.asker(envelope), self.teller(envelope))
         if not outcome.ok:
             return outcome
         # The limits of this run are known: it is alone on the same ledger. `prepare` measures them for sets of several.
@@ -486,9 +495,9 @@ class World:
 
     def closed_with(self, sent: Sequence[Json], report: Json, after: bytes) -> List[Outcome]:
         """Goes on to the ledger after, and returns the outcomes of what was sent."""
-        asks = [self.asker(envelope) for envelope in sent]
+        asks = [(self.asker(envelope), self.teller(envelope)) for envelope in sent]
         self.file = after
-        return [Outcome(pair["result"], pair["success"], None, ask) for pair, ask in zip(report, asks)]
+        return [Outcome(pair["result"], pair["success"], None, *ask) for pair, ask in zip(report, asks)]
 
     def verdicts(self, sent: Sequence[Json]) -> bytes:
         """Returns the verdicts' file on the entries of some envelopes."""
@@ -516,6 +525,17 @@ class World:
             return asking.error_in(found.success)
 
         return ask
+
+    def teller(self, envelope: Json) -> Callable[[], str]:
+        """Returns what tells what an envelope does on the ledger as it is now."""
+        ledger, close_time = self.file, self.now + SECONDS_A_LEDGER
+
+        def tell() -> str:
+            if not can_tell_why():
+                return ""
+            return self.program.why(envelopes.xdr(envelope), ledger, self.verdicts([envelope]), close_time)
+
+        return tell
 
 
 def new_ledger(network: str, seq: int, close_time: int) -> Json:

@@ -12,7 +12,7 @@ from types import ModuleType
 from typing import Dict, List, Tuple
 
 from soroban_files import schema
-from soroban_files.program import is_there, path_of
+from soroban_files.program import can_tell_why, is_there, path_of, why_path
 from soroban_files.world import NETWORK, new_ledger
 from soroban_files.hashes import network_id
 from tests.tables import REPOSITORY
@@ -51,6 +51,11 @@ class TableTest(unittest.TestCase):
             self.skipTest(f"there is no program at {path_of()}")
         self.assertEqual(self.pages.check_program(self.table, path_of()), [])
 
+    def test_other_program(self) -> None:
+        if not can_tell_why():
+            self.skipTest(f"there is no program at {why_path()}")
+        self.assertEqual(self.pages.check_other(self.pages.find(self.table, "why"), why_path()), [])
+
     def test_man_page(self) -> None:
         if not shutil.which("man"):
             self.skipTest("the command man is missing")
@@ -60,7 +65,7 @@ class TableTest(unittest.TestCase):
                 file.write(self.pages.man_page(self.table))
             status, said, faults = run(["man", "--warnings", "-l", page], MANPAGER="cat", MANROFFSEQ="")
         self.assertEqual((status, faults), (0, ""))
-        for command in self.table["commands"]:
+        for command in self.pages.all_commands(self.table):
             self.assertIn(command["about"].split()[0], said)
 
     def complete(self, *words: str) -> List[str]:
@@ -75,12 +80,17 @@ class TableTest(unittest.TestCase):
         if not shutil.which("bash"):
             self.skipTest("the command bash is missing")
         names = [command["name"] for command in self.table["commands"]]
-        self.assertEqual(self.complete("soroban", ""), [*names, "help", "version"])
+        self.assertEqual(self.complete("soroban", ""), [*names, "why", "help", "version"])
+        self.assertEqual(self.complete("soroban_cmd", ""), names)
         self.assertEqual(self.complete("soroban_cmd", "s"), ["simulate", "show"])
         self.assertEqual(self.complete("soroban", "vet", "--"), ["--module"])
         self.assertEqual(self.complete("soroban", "show", "--kind", "e"), ["envelope"])
         self.assertEqual(self.complete("soroban", "show", "--kind", "set", "--"), ["--file", "--base64"])
         self.assertEqual(self.complete("soroban", "help", "m"), ["migrate"])
+        options = ["--tx", "--ledger", "--verdicts", "--close-time", "--record", "--lines", "--json", "--base64"]
+        self.assertEqual(self.complete("soroban", "why", "--"), options)
+        self.assertEqual(self.complete("soroban_why", "--"), options)
+        self.assertEqual(self.complete("soroban_why", "--record", "--"), [it for it in options if it != "--record"])
 
     def test_zsh(self) -> None:
         if not shutil.which("zsh"):
@@ -105,7 +115,8 @@ class WrapperTest(unittest.TestCase):
 
     def soroban(self, *words: str) -> Tuple[int, str, str]:
         script = f'cd "{self.folder}" && exec "{sys.executable}" "{TOOLS}/soroban.py" "$@"'
-        return run(["sh", "-c", script, "sh", *words], SOROBAN_CMD=shutil.which("echo") or "/bin/echo")
+        echo = shutil.which("echo") or "/bin/echo"
+        return run(["sh", "-c", script, "sh", *words], SOROBAN_CMD=echo, SOROBAN_WHY=echo)
 
     def apply(self, **options: str) -> List[str]:
         right = {
@@ -129,6 +140,12 @@ class WrapperTest(unittest.TestCase):
         for words in (self.apply(), self.apply(schedule="order"), self.apply(schedule="order", steps="0")):
             self.assertEqual(self.soroban(*words), (0, " ".join(words) + "\n", ""))
         self.assertEqual(self.soroban("show", "--kind", "set", "--file", "set", "--base64")[0], 0)
+
+    def test_why(self) -> None:
+        words = ["--tx", "set", "--ledger", "ledger", "--verdicts", "verdicts", "--close-time", "1000", "--json"]
+        self.assertEqual(self.soroban("why", *words), (0, " ".join(words) + "\n", ""))
+        self.assert_rejected(["why", *words[2:]], "why needs --tx FILE")
+        self.assert_rejected(["why", *words, "--out", "o"], "why has no option --out")
 
     def test_help(self) -> None:
         self.assertIn("--close-time SECONDS", self.soroban("help", "apply")[1])
@@ -171,11 +188,13 @@ class InstallTest(unittest.TestCase):
         if not is_there():
             self.skipTest(f"there is no program at {path_of()}")
         with tempfile.TemporaryDirectory() as folder:
-            status, said, faults = run(["sh", f"{TOOLS}/install.sh", "--prefix", folder, "--program", path_of()])
+            words = ["sh", f"{TOOLS}/install.sh", "--prefix", folder, "--program", path_of()]
+            status, said, faults = run(words + ["--why", why_path()] * can_tell_why())
             self.assertEqual((status, faults), (0, ""))
             self.assertIn("soroban_cmd, not proved by this installation", said)
             installed = [f"bin/{name}" for name in ("soroban", "soroban_cmd", "soroban-files")]
-            installed += ["share/man/man1/soroban.1", "share/man/man1/soroban_cmd.1"]
+            installed += ["bin/soroban_why"] * can_tell_why()
+            installed += [f"share/man/man1/{name}.1" for name in ("soroban", "soroban_cmd", "soroban_why")]
             installed += ["share/bash-completion/completions/soroban", "share/zsh/site-functions/_soroban"]
             for name in installed:
                 self.assertTrue(os.path.exists(os.path.join(folder, name)), name)

@@ -4,7 +4,7 @@ from __future__ import annotations
 import os
 
 from soroban_files import envelopes, schema, strkey, values, wallet
-from soroban_files.program import Refused
+from soroban_files.program import Refused, can_tell_why, why_path
 from soroban_files.values import error, symbol, u64, vec
 from soroban_files.world import Contract, Failed, WorldTest
 from tests.tables import REPOSITORY
@@ -52,6 +52,19 @@ class TokenTest(WorldTest):
             self.token.call("transfer", self.alice, self.bob, u64(101), by=self.alice)
         self.assertEqual(caught.exception.outcome.code, "trapped")
         self.assertEqual(self.world.seq, seq)
+
+    def test_why(self) -> None:
+        if not can_tell_why():
+            self.skipTest(f"there is no program at {why_path()}")
+        with self.assertRaises(Failed) as caught:
+            self.token.call("transfer", self.alice, self.bob, u64(101), by=self.alice)
+        self.assertIn(f"\n  fail CONTRACT {NOT_ENOUGH}, ", str(caught.exception))
+        self.assertTrue(caught.exception.outcome.why.endswith("\nresult -1 -2\n"))
+        envelope = envelopes.xdr(self.world.envelope(envelopes.call(self.token, "balance", [self.bob])))
+        files = (envelope, self.world.file, self.world.verdicts([]), self.world.now + 5)
+        self.assertEqual(self.world.program.trace(*files)["calls"][0]["end"], {"return": "u64:0"})
+        undeclared = self.world.program.trace(*files, is_declared=True)["calls"][0]
+        self.assertEqual((undeclared["ran"], list(undeclared["end"]["fail"])), (False, ["undeclared"]))
 
     def test_signed_entries(self) -> None:
         self.needs_keys()
