@@ -1,5 +1,5 @@
 -- The node that a recorder finds gives the place of the new node.
-use Rattle.std.proofs.Common.{◌≡◌, ◌≢◌, ℕ, zero, suc, ◌+◌, ◌<◌, ◌≤◌, ◌^◌, Bool, true, false, cond, ◌&&◌, ◌||◌, eqb, List, [], ◌∷◌, ◌++◌, length, filter, fold, Option, Some, None, option_map, slice_get, nat_lt, length-append, ◌⊎◌, inl, inr, refl, sym, ap, ◌∙◌, subst, arith}
+use Rattle.std.proofs.Common.{◌≡◌, ◌≢◌, ℕ, zero, suc, ◌+◌, ◌<◌, ◌≤◌, ◌^◌, Bool, true, false, cond, ◌&&◌, eqb, List, [], ◌∷◌, ◌++◌, length, filter, fold, Option, Some, None, option_map, slice_get, nat_lt, length-append, ◌⊎◌, inl, inr, refl, sym, ap, ◌∙◌, subst, arith}
 use Rattle.std.specs.List.{AllByRecursion}
 use Rattle.std.specs.Option.{option_or, unwrap_or}
 use Rattle.std.proofs.lemmas.Option.{same_Some}
@@ -7,15 +7,17 @@ use Rattle.std.proofs.lemmas.List.Folds.{fold-map}
 use Rattle.std.proofs.lemmas.List.Elements.{filter-append}
 use Rattle.std.proofs.lemmas.List.{length-map}
 use Rattle.auth_notes.specs.declared.noted.Noted.{Noted}
-use Rattle.std.proofs.lemmas.Bool.Decides.{Decides-eqb, Decides-ltb}
+use Rattle.std.proofs.lemmas.Bool.{cond_both, le-ltb, lt-ltb}
+use Rattle.std.proofs.lemmas.Bool.Decides.{Decides-eqb}
+use Rattle.value_types.specs.Equality.{is_same_decides}
 use Rattle.value_types.specs.declared.address.ScAddress.{ScAddress}
 use Rattle.invoke_types.specs.declared.function.Function.{Function}
 use Rattle.auth_trees.specs.Pairs.{Pair, is_below, deeper, deepest}
-use Rattle.auth_trees.specs.Demands.{same_address, first_from, is_root, ByNote, ByNothing}
+use Rattle.auth_trees.specs.Demands.{coded_address, same_address, first_from, is_root, ByNote, ByNothing}
 use Rattle.auth_trees.specs.Noted.{Note, MOST_LEVELS, pairs_in, roots_in, last_child, below_noted, new_place, noted_at}
 use Rattle.auth_notes.specs.Recording.{note_of, notes_of, HasRoot, AreTrees, stays, better, best_of, best, place_by, note_by, new_note, trees_with}
 use Rattle.auth_trees.proofs.Lemmas.{get_left, get_right, all_push, all_same, same_or_not}
-use Rattle.auth_notes.proofs.Addresses.{same_is}
+use Rattle.auth_notes.proofs.Joining.{stays_by, yields_by}
 
 -- ---- a fold over a filtered list
 
@@ -62,71 +64,31 @@ deep_other p t o apart =
       | inr s ↦ ap (λ b. cond (b && true) (deeper o p) o) s.0
     ]
 
-less_true : (m n : ℕ) → m < n → nat_lt m n ≡ true
-less_true m n h = (Decides-ltb m n).1 h
-
-less_false : (m n : ℕ) → n < m + 1 → nat_lt m n ≡ false
-less_false m n h =
-    let go : (b : Bool) → nat_lt m n ≡ b → nat_lt m n ≡ false =
-    λ b. elim b as (λ b. nat_lt m n ≡ b → nat_lt m n ≡ false) [
-      | true ↦ λ e. absurd (let less : m < n = (Decides-ltb m n).0 e in omega (arith, less, h))
-      | false ↦ λ e. e
-    ] in
-    go (nat_lt m n) refl
-
-equal_false : (m n : ℕ) → m ≢ n → eqb m n ≡ false
-equal_false m n apart = elim (same_or_not m n) [ inl s ↦ absurd (apart s.1) | inr s ↦ s.0 ]
-
 better_none : (A : ℕ → Bool) (D : ℕ → Option Pair) (p : Pair) → A p.entry ≡ true → ((t : ℕ) → A t ≡ true → D t ≡ None) → IsBest A (λ t. deep_by true p t (D t)) (Some p)
 better_none A D p a h =
     (a, deep_on p (D p.entry) ∙ ap (λ o. deeper o p) (h p.entry a), λ t lt at. let apart : p.entry ≢ t = omega (arith, lt) in deep_other p t (D t) apart ∙ h t at)
 
 better_some : (A : ℕ → Bool) (D : ℕ → Option Pair) (q p : Pair) → A p.entry ≡ true → IsBest A D (Some q) → IsBest A (λ t. deep_by true p t (D t)) (better (Some q) p)
 better_some A D q p a h =
-    let E : ℕ → Option Pair = λ t. deep_by true p t (D t) in
-    let longer = nat_lt (length p.path) (length q.path) in
-    let goal : Bool → Type 0 = λ b. IsBest A E (cond b (Some q) (Some p)) in
-    let earlier : q.entry < p.entry → IsBest A E (Some q) = λ lt. (
-      h.0,
-      let apart : p.entry ≢ q.entry = omega (arith, lt) in deep_other p q.entry (D q.entry) apart ∙ h.1,
-      λ t less at. let apart : p.entry ≢ t = omega (arith, lt, less) in deep_other p t (D t) apart ∙ h.2 t less at,
-    ) in
-    let later : p.entry < q.entry → IsBest A E (Some p) = λ lt. (
-      a,
-      deep_on p (D p.entry) ∙ ap (λ o. deeper o p) (h.2 p.entry lt a),
-      λ t less at. let apart : p.entry ≢ t = omega (arith, less) in let far : t < q.entry = omega (arith, less, lt) in deep_other p t (D t) apart ∙ h.2 t far at,
-    ) in
-    let same : (b : Bool) → longer ≡ b → q.entry ≡ p.entry → IsBest A E (cond b (Some q) (Some p)) =
-    λ b. elim b as (λ b. longer ≡ b → q.entry ≡ p.entry → IsBest A E (cond b (Some q) (Some p))) [
-      | true ↦ λ l e. (
-        h.0,
-        ap (λ t. deep_by true p t (D q.entry)) e ∙ deep_on p (D q.entry) ∙ ap (λ o. deeper o p) h.1 ∙ ap (λ b. cond b (Some q) (Some p)) l,
-        λ t less at. let apart : p.entry ≢ t = omega (arith, less, e) in deep_other p t (D t) apart ∙ h.2 t less at,
-      )
-      | false ↦ λ l e. (
-        a,
-        deep_on p (D p.entry) ∙ ap (λ o. deeper o p) (ap D (sym e) ∙ h.1) ∙ ap (λ b. cond b (Some q) (Some p)) l,
-        λ t less at. let apart : p.entry ≢ t = omega (arith, less) in let far : t < q.entry = omega (arith, less, e) in deep_other p t (D t) apart ∙ h.2 t far at,
-      )
+    cond_both (stays q p) (Some q) (Some p) (IsBest A (λ t. deep_by true p t (D t))) (λ s.
+    let first = stays_by q p s in
+    let deep : deep_by true p q.entry (D q.entry) ≡ Some q = elim (same_or_not q.entry p.entry) [
+      | inl e ↦
+          ap (λ t. deep_by true p t (D q.entry)) e.1 ∙ deep_on p (D q.entry) ∙ ap (λ o. deeper o p) h.1
+          ∙ ap (λ b. cond b (Some q) (Some p)) (lt-ltb (length p.path) (length q.path) (first.1 e.1))
+      | inr e ↦ deep_other p q.entry (D q.entry) (λ f. e.1 (sym f)) ∙ h.1
     ] in
-    elim (same_or_not q.entry p.entry) [
-      | inl s ↦
-          let e : stays q p ≡ longer =
-          ap (λ b. b || (eqb q.entry p.entry && longer)) (let le : p.entry < q.entry + 1 = omega (arith, s.1) in less_false q.entry p.entry le) ∙ ap (λ b. b && longer) s.0 in
-          subst goal (sym e) (same longer refl s.1)
-      | inr s ↦
-          let go : (b : Bool) → nat_lt q.entry p.entry ≡ b → goal (stays q p) =
-          λ b. elim b as (λ b. nat_lt q.entry p.entry ≡ b → goal (stays q p)) [
-            | true ↦ λ l. subst goal (sym (ap (λ b. b || (eqb q.entry p.entry && longer)) l)) (earlier ((Decides-ltb q.entry p.entry).0 l))
-            | false ↦ λ l.
-                let e : stays q p ≡ false = ap (λ b. b || (eqb q.entry p.entry && longer)) l ∙ ap (λ b. b && longer) s.0 in
-                let not_less : q.entry < p.entry → ⊥ = λ lt. absurd (let t : nat_lt q.entry p.entry ≡ true = less_true q.entry p.entry lt in cc) in
-                let apart : q.entry ≢ p.entry = s.1 in
-                let lt : p.entry < q.entry = omega (arith, not_less, apart) in
-                subst goal (sym e) (later lt)
-          ] in
-          go (nat_lt q.entry p.entry) refl
-    ]
+    (h.0, deep, λ t less at. let apart : p.entry ≢ t = omega (arith, less, first.0) in deep_other p t (D t) apart ∙ h.2 t less at))
+    (λ s.
+    let first = yields_by q p s in
+    let deep : deeper (D p.entry) p ≡ Some p = elim (same_or_not q.entry p.entry) [
+      | inl e ↦ ap (λ o. deeper o p) (ap D (sym e.1) ∙ h.1) ∙ ap (λ b. cond b (Some q) (Some p)) (le-ltb (length p.path) (length q.path) (first.1 e.1))
+      | inr e ↦ let apart : q.entry ≢ p.entry = e.1 in let less : p.entry < q.entry = omega (arith, first.0, apart) in ap (λ o. deeper o p) (h.2 p.entry less a)
+    ] in (
+      a,
+      deep_on p (D p.entry) ∙ deep,
+      λ t less at. let apart : p.entry ≢ t = omega (arith, less) in let far : t < q.entry = omega (arith, less, first.0) in deep_other p t (D t) apart ∙ h.2 t far at,
+    ))
 
 step_by : (a b : Bool) (A : ℕ → Bool) (D : ℕ → Option Pair) (o : Option Pair) (p : Pair) → a ≡ A p.entry → IsBest A D o
     → IsBest A (λ t. deep_by b p t (D t)) (cond (a && b) (better o p) o)
@@ -206,12 +168,8 @@ some_first f i (z ∷ xs) (suc k) x v at e h =
 below_none : (notes : List Note) (path : List ℕ) (address : ScAddress) (t : ℕ) (r : Note) → (same_address r.address address ≡ true → deepest (pairs_in notes) path t ≡ None)
     → below_noted notes path address t r ≡ None
 below_none notes path address t r h =
-    let go : (b : Bool) → (b ≡ true → deepest (pairs_in notes) path t ≡ None) → cond b (option_map (last_child notes) (deepest (pairs_in notes) path t)) None ≡ None =
-    λ b. elim b as (λ b. (b ≡ true → deepest (pairs_in notes) path t ≡ None) → cond b (option_map (last_child notes) (deepest (pairs_in notes) path t)) None ≡ None) [
-      | true ↦ λ h. ap (option_map (last_child notes)) (h refl)
-      | false ↦ λ h. refl
-    ] in
-    go (same_address r.address address) h
+    let found = option_map (last_child notes) (deepest (pairs_in notes) path t) in
+    cond_both (same_address r.address address) found None (λ o. o ≡ None) (λ e. ap (option_map (last_child notes)) (h e)) (λ e. refl)
 
 place_is : (notes : List Note) (path : List ℕ) (address : ScAddress) (o : Option Pair) → IsBest (tree_of notes address) (deepest (pairs_in notes) path) o
     → new_place notes path address ≡ place_by notes o
@@ -250,7 +208,7 @@ fits_by : (notes : List Note) (path : List ℕ) (address : ScAddress) (o : Optio
 fits_by notes path address None h = inl refl
 fits_by notes path address (Some p) h =
     let r = of_root address (slice_get (roots_in notes) p.entry) h.0 in
-    inr (not_root p.node _, ap (option_map (λ (r : Note). r.address)) r.1 ∙ ap Some (same_is r.0.address address r.2))
+    inr (not_root p.node _, ap (option_map (λ (r : Note). r.address)) r.1 ∙ ap Some ((is_same_decides coded_address r.0.address address).0 r.2))
 
 fits : (notes : List Note) (trees : ℕ) (path : List ℕ) (address : ScAddress) → AreTrees notes trees → Fits notes address (new_place notes path address)
 fits notes trees path address h =
@@ -288,23 +246,18 @@ trees_at notes trees n h fit =
           }
     ]
 
--- the choice for a demand that is noted, and its node
-noted_choice : (path : List ℕ) (address : ScAddress) (function : Function) (place : ℕ × List ℕ) (n : Note) → note_by path address function (noted_at place) ≡ Some n
-    → (noted_at place ≡ ByNote place.0 place.1) × (n ≡ record { address = address; function = function; pair = record { entry = place.0; node = place.1; path = path } })
-noted_choice path address function place n e =
-    let go : (b : Bool) → note_by path address function (cond b (ByNote place.0 place.1) ByNothing) ≡ Some n
-    → (cond b (ByNote place.0 place.1) ByNothing ≡ ByNote place.0 place.1) × (n ≡ record { address = address; function = function; pair = record { entry = place.0; node = place.1; path = path } }) =
-    λ b. elim b as (λ b. note_by path address function (cond b (ByNote place.0 place.1) ByNothing) ≡ Some n
-    → (cond b (ByNote place.0 place.1) ByNothing ≡ ByNote place.0 place.1) × (n ≡ record { address = address; function = function; pair = record { entry = place.0; node = place.1; path = path } })) [
-      | true ↦ λ e. (refl, sym (same_Some _ n e))
-      | false ↦ λ e. absurd cc
-    ] in
-    go (nat_lt (length place.1) MOST_LEVELS) e
+-- the node of a demand that is noted
+noted_is : (path : List ℕ) (address : ScAddress) (function : Function) (place : ℕ × List ℕ) (n : Note) → note_by path address function (noted_at place) ≡ Some n
+    → n ≡ record { address = address; function = function; pair = record { entry = place.0; node = place.1; path = path } }
+noted_is path address function place n =
+    let made : Note = record { address = address; function = function; pair = record { entry = place.0; node = place.1; path = path } } in
+    cond_both (nat_lt (length place.1) MOST_LEVELS) (ByNote place.0 place.1) ByNothing (λ c. note_by path address function c ≡ Some n → n ≡ made)
+    (λ t e. sym (same_Some made n e)) (λ f e. absurd cc)
 
 pub trees_more : (notes : List Note) (trees : ℕ) (path : List ℕ) (address : ScAddress) (function : Function) (n : Note) → AreTrees notes trees → new_note notes path address function ≡ Some n
     → AreTrees (notes ++ n ∷ []) (trees_with trees n)
 trees_more notes trees path address function n h e =
-    let is = (noted_choice path address function (new_place notes path address) n e).1 in
+    let is = noted_is path address function (new_place notes path address) n e in
     trees_at notes trees n h (subst (λ (m : Note). Fits notes m.address (m.pair.entry, m.pair.node)) (sym is) (fits notes trees path address h))
 
 -- ---- the place by what was found
@@ -331,4 +284,4 @@ few_trees ns trees most h long few =
     omega (arith, h.count, few_roots (notes_of ns), same, long, few)
 
 pub note_address : (notes : List Note) (path : List ℕ) (address : ScAddress) (function : Function) (n : Note) → new_note notes path address function ≡ Some n → n.address ≡ address
-note_address notes path address function n e = ap (λ (m : Note). m.address) (noted_choice path address function (new_place notes path address) n e).1
+note_address notes path address function n e = ap (λ (m : Note). m.address) (noted_is path address function (new_place notes path address) n e)

@@ -10,10 +10,11 @@ use Rattle.auth_notes.specs.Indices.{joined}
 -- ---- two nodes, and three
 
 -- the first node stays: its tree is not later, and in the same tree its path is longer
-stays_by : (x y : Pair) → stays x y ≡ true → (x.entry ≤ y.entry) × (x.entry ≡ y.entry → length y.path < length x.path)
+pub stays_by : (x y : Pair) → stays x y ≡ true → (x.entry ≤ y.entry) × (x.entry ≡ y.entry → length y.path < length x.path)
 stays_by x y h = (grind (arith, nat_tests), λ e. grind (arith, nat_tests))
 
-yields_by : (x y : Pair) → stays x y ≡ false → (y.entry ≤ x.entry) × (x.entry ≡ y.entry → length x.path ≤ length y.path)
+-- the first node does not stay
+pub yields_by : (x y : Pair) → stays x y ≡ false → (y.entry ≤ x.entry) × (x.entry ≡ y.entry → length x.path ≤ length y.path)
 yields_by x y h = (grind (arith, nat_tests), λ e. grind (arith, nat_tests))
 
 stays_twice : (x y z : Pair) → stays x y ≡ true → stays y z ≡ true → stays x z ≡ true

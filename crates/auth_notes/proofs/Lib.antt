@@ -1,6 +1,6 @@
-mod Addresses
 mod Counting
 mod Finding
 mod Joining
+pub mod Lemmas
 mod Prefixes
 mod Spelling

@@ -1,15 +1,14 @@
 //! The nodes that were noted, and what finds them.
 
-ghost use Rattle.std.specs.Prelude.{◌≡◌, ◌<◌, ◌+◌, ◌^◌, ◌++◌, ◌∷◌, ℕ, List, [], true, false, Some, IfOk, vec_len, vec_capacity};
-ghost use Rattle.std.specs.Prelude.{if◌then◌else◌};
+ghost use Rattle.std.specs.Prelude.{◌≡◌, ◌<◌, ◌^◌, ◌++◌, ◌∷◌, [], true, false, Some, IfOk, vec_len, vec_capacity};
 ghost use Rattle.std.specs.Option.{option_map, is_some};
 ghost use Rattle.value_types.specs.declared.address.ScAddress.TheVariants.{Account};
 ghost use Rattle.auth_trees.specs.Noted.{last_child, new_place};
 ghost use Rattle.auth_notes.specs.Recording.{pair_of, note_of, notes_of, keeps, best, pair_at, place_of, new_note, trees_with};
 ghost use Rattle.auth_notes.specs.Recording.{AreTrees};
-ghost use Rattle.auth_notes.specs.Indices.{same_key, number_at, count_at, spelled, joined, AreBest, IsForest, AreKeys};
+ghost use Rattle.auth_notes.specs.Indices.{number_at, count_at, HaveSame, HasOneMore, spelled, row_of, joined, AreBest, IsForest};
 
-use crate::keys::{Keys, account_key, keys_of, place_key};
+use crate::keys::{account_key, place_key, row_key, spell};
 use crate::noted::{Noted, Place, may_stand, stays, trees_with};
 use crate::numbers::{count_at, number_at, put};
 use invoke_types::Function;
@@ -168,13 +167,16 @@ pub(crate) fn new_note(
 // ---- one node more
 
 /// Gives a key the number 0 if it has none. Returns whether there was memory for it.
-fn begin_count(children: &mut BTreeMap<Vec<u64>, usize>, key: Vec<u64>) -> bool
-    ensures same { (q : List ℕ) → count_at children.new.entries q ≡ count_at children.old.entries q }
-    ensures there { result ≡ true → is_some (number_at children.new.entries key.items) ≡ true }
+fn begin_count(alloc: Global, children: &mut BTreeMap<Vec<u64>, usize>, key: &[u64]) -> bool
+    ensures same { HaveSame children.old.entries children.new.entries }
+    ensures there { result ≡ true → is_some (number_at children.new.entries key.now) ≡ true }
 {
-    match number_at(children, key.as_slice()) {
-        None => put(children, key, 0),
+    match number_at(children, key) {
         Some(_) => true,
+        None => match Vec::from_slice(alloc, key) {
+            Err(_) => false,
+            Ok(key) => put(children, key, 0),
+        },
     }
 }
 
@@ -182,8 +184,7 @@ fn begin_count(children: &mut BTreeMap<Vec<u64>, usize>, key: Vec<u64>) -> bool
 fn count_up(children: &mut BTreeMap<Vec<u64>, usize>, key: Vec<u64>)
     requires there { is_some (number_at children.old.entries key.items) ≡ true }
     requires few { count_at children.old.entries key.items < 2 ^ 63 }
-    ensures { (q : List ℕ) → count_at children.new.entries q
-        ≡ count_at children.old.entries q + (if same_key q key.items then 1 else 0) }
+    ensures { HasOneMore children.old.entries key.items children.new.entries }
 {
     let count = count_at(children, key.as_slice());
     let counted = put(children, key, count + 1);
@@ -217,24 +218,25 @@ fn push_note(notes: &mut Vec<Noted>, note: Noted)
     drop(added);
 }
 
-/// Adds a node with its keys. Returns whether there was memory for it; without, nothing changes.
-fn grow_by(forest: &mut Forest, keys: Keys, note: Noted) -> bool
+/// Adds a node with the key under which it is found and the key under which it is counted. Returns whether there was memory for
+/// it; without, nothing changes.
+fn grow_by(alloc: Global, forest: &mut Forest, key: Vec<u64>, row: Vec<u64>, note: Noted) -> bool
     requires ready { IsForest forest.old }
-    requires keys { AreKeys (note_of note) keys }
+    requires key { key.items ≡ spelled note.address note.path.items }
+    requires row { row.items ≡ row_of (pair_of note) }
     requires trees { AreTrees (notes_of forest.old.notes.items ++ note_of note ∷ [])
         (trees_with forest.old.trees (note_of note)) }
     ensures ready { IsForest forest.new }
     ensures added { result ≡ true → forest.new.notes.items ≡ forest.old.notes.items ++ note ∷ [] }
     ensures refused { result ≡ false → forest.new.notes.items ≡ forest.old.notes.items }
 {
-    let Keys { best, row, spare } = keys;
     if forest.notes.reserve(1).is_err() {
         return false;
     }
-    if !begin_count(&mut forest.children, spare) {
+    if !begin_count(alloc, &mut forest.children, row.as_slice()) {
         return false;
     }
-    if !put_best(&mut forest.best, best, forest.notes.as_slice(), &note) {
+    if !put_best(&mut forest.best, key, forest.notes.as_slice(), &note) {
         return false;
     }
     count_up(&mut forest.children, row);
@@ -253,8 +255,11 @@ pub(crate) fn grow(alloc: Global, forest: &mut Forest, account: AccountId, note:
     ensures added { result ≡ true → forest.new.notes.items ≡ forest.old.notes.items ++ note ∷ [] }
     ensures refused { result ≡ false → forest.new.notes.items ≡ forest.old.notes.items }
 {
-    match keys_of(alloc, account, &note) {
-        Err(_) => false,
-        Ok(keys) => grow_by(forest, keys, note),
-    }
+    let Ok(key) = spell(alloc, account, note.path.as_slice()) else {
+        return false;
+    };
+    let Ok(row) = row_key(alloc, &note) else {
+        return false;
+    };
+    grow_by(alloc, forest, key, row, note)
 }

@@ -7,5 +7,6 @@ mod noted;
 mod numbers;
 mod recorder;
 
-pub use noted::{Noted, is_child};
+pub use keys::{place_key, row_key};
+pub use noted::Noted;
 pub use recorder::Recorder;

@@ -2,7 +2,7 @@
 
 ghost use Rattle.std.specs.Prelude.{◌≡◌, ◌+◌, ◌<◌, ◌^◌, nat_lt, is_some, IfSome};
 ghost use Rattle.value_types.specs.declared.address.ScAddress.TheVariants.{Account};
-ghost use Rattle.auth_trees.specs.Noted.{is_account, is_child, MOST_LEVELS};
+ghost use Rattle.auth_trees.specs.Noted.{is_account, MOST_LEVELS};
 ghost use Rattle.auth_notes.specs.Recording.{pair_of, note_of, stays, trees_with};
 
 use invoke_types::Function;
@@ -44,15 +44,6 @@ pub(crate) fn stays(best: &Noted, later: &Noted) -> bool
     ensures { result ≡ stays (pair_of best.now) (pair_of later.now) }
 {
     best.tree < later.tree || (best.tree == later.tree && later.path.len() < best.path.len())
-}
-
-/// Whether the second node is a child of the first.
-pub fn is_child(parent: &Noted, child: &Noted) -> bool
-    ensures { result ≡ is_child (pair_of parent.now) (pair_of child.now) }
-{
-    child.tree == parent.tree
-        && child.place.as_slice().starts_with(parent.place.as_slice())
-        && child.place.len() == parent.place.len() + 1
 }
 
 /// Whether a tree may have a node this far below its root.

@@ -1,15 +1,18 @@
 -- What is tested of each item of a row holds of the row.
-use Rattle.std.proofs.Common.{◌≡◌, ℕ, zero, suc, ◌+◌, ◌-◌, ◌<◌, ◌≤◌, ◌^◌, ◌≢◌, ◌==◌, Bool, true, false, ◌&&◌, List, [], ◌∷◌, length, get_or, take, refl, sym, ap, subst, arith}
-use Rattle.std.proofs.lemmas.Bool.{eqb-true}
+use Rattle.std.proofs.Common.{◌≡◌, ℕ, zero, suc, ◌+◌, ◌-◌, ◌<◌, ◌≤◌, ◌^◌, ◌≢◌, ◌==◌, Bool, true, ◌&&◌, List, [], ◌∷◌, length, get_or, take, refl, sym, ap, ◌∙◌, subst, arith}
 use Rattle.std.specs.List.{AllByRecursion}
+use Rattle.std.proofs.lemmas.Bool.{and_parts, eqb-true}
+use Rattle.std.proofs.lemmas.List.{length-map, nil_from_length, take_all}
+use Rattle.std.proofs.lemmas.List.Elements.{All-from_recursion, All-more, recursion_from_All}
 use Rattle.xdr_spec.specs.Format.{Format, list}
 use Rattle.value_types.specs.Datum.{items_of, members_of, list_of_items, list_of_members, vec, map}
-use Rattle.value_types.specs.Views.{datum, datums, datum_pairs}
+use Rattle.value_types.specs.Views.{datum, datums, datum_pair, datum_pairs}
+use Rattle.value_types.proofs.Lemmas.{items_there, members_there}
 use Rattle.value_types.specs.declared.value.ScVal.{ScVal}
 use Rattle.value_types.specs.declared.value.Entry.{Entry}
 use Rattle.value_xdr.specs.Bytes.{IsBounded, AreItemsBounded, AreMembersBounded}
 use Rattle.auth_types.specs.Tree.{Tree}
-use Rattle.auth_types.specs.Views.{forest_of}
+use Rattle.auth_types.specs.Views.{tree_of as tree_in, forest_of}
 use Rattle.auth_types.specs.Invocation.{one_level, tree_format, subs_format}
 use Rattle.auth_types.specs.InvocationLaws.{invocation_of-tree}
 use Rattle.auth_types.specs.declared.invocation.Invocation.{Invocation}
@@ -17,21 +20,12 @@ use Rattle.auth_types.specs.declared.invocation.Invocation.{Invocation}
 -- ---- rows
 
 -- one item more
-pub row_more : {A : Type 0} (P : A → Type 0) (xs : List A) (k : ℕ) (x : A) (good : Bool) → k < length xs → x ≡ get_or xs k x → AllByRecursion P (take k xs) → (good ≡ true → P x) → good ≡ true
-    → AllByRecursion P (take (k + 1) xs)
-row_more P [] k x good lt is so_far test e = absurd (omega arith)
-row_more {A} P (y ∷ ys) zero x good lt is so_far test e =
-    let one : suc zero ≡ zero + 1 = omega arith in
-    subst (λ (n : ℕ). AllByRecursion P (take n (y ∷ ys))) one (subst P is (test e), tt)
-row_more {A} P (y ∷ ys) (suc k) x good lt is so_far test e =
-    let next : suc (k + 1) ≡ suc k + 1 = omega arith in
-    subst (λ (n : ℕ). AllByRecursion P (take n (y ∷ ys))) next (so_far.0, row_more P ys k x good (omega arith) is so_far.1 test e)
+pub row_more : {A : Type 0} (P : A → Type 0) (xs : List A) (k : ℕ) (x : A) → k < length xs → x ≡ get_or xs k x → AllByRecursion P (take k xs) → P x → AllByRecursion P (take (k + 1) xs)
+row_more P xs k x lt is so_far good = recursion_from_All P (take (k + 1) xs) (All-more P xs k x lt (All-from_recursion P (take k xs) so_far) (subst P is good))
 
 -- all items
 pub row_whole : {A : Type 0} (P : A → Type 0) (xs : List A) (k : ℕ) → length xs ≤ k → AllByRecursion P (take k xs) → AllByRecursion P xs
-row_whole P [] k le h = tt
-row_whole P (x ∷ xs) zero le h = absurd (omega arith)
-row_whole P (x ∷ xs) (suc k) le h = (h.0, row_whole P xs k (omega arith) h.1)
+row_whole P xs k le h = subst (AllByRecursion P) (take_all k xs le) h
 
 pub row_fits : {A : Type 0} (F : Format A) (xs : List A) → length xs < 2 ^ 32 → AllByRecursion F.fits xs → (list 4294967295 F).fits xs
 unfolding list
@@ -46,13 +40,10 @@ abbrev pub IsGoodPair : Entry → Type 0
 IsGoodPair e = IsBounded (datum e.key) × IsBounded (datum e.val)
 
 pub both_good : (e : Entry) (key val : Bool) → (key ≡ true → IsBounded (datum e.key)) → (val ≡ true → IsBounded (datum e.val)) → key && val ≡ true → IsGoodPair e
-both_good e true true k v h = (k refl, v refl)
-both_good e true false k v h = absurd cc
-both_good e false val k v h = absurd cc
+both_good e key val k v h = let both = and_parts key val h in (k both.0, v both.1)
 
 items_length : (vs : List ScVal) → length (list_of_items (items_of (datums vs))) ≡ length vs
-items_length [] = refl
-items_length (v ∷ vs) = omega (arith, items_length vs)
+items_length vs = ap length (items_there (datums vs)) ∙ length-map vs datum
 
 each_item : (vs : List ScVal) → AllByRecursion IsGood vs → AreItemsBounded (items_of (datums vs))
 each_item [] h = tt
@@ -62,8 +53,7 @@ pub items_bounded : (vs : List ScVal) → length vs < 2 ^ 32 → AllByRecursion 
 items_bounded vs few h = (omega (arith, items_length vs), each_item vs h)
 
 members_length : (es : List Entry) → length (list_of_members (members_of (datum_pairs es))) ≡ length es
-members_length [] = refl
-members_length (e ∷ es) = omega (arith, members_length es)
+members_length es = ap length (members_there (datum_pairs es)) ∙ length-map es datum_pair
 
 each_member : (es : List Entry) → AllByRecursion IsGoodPair es → AreMembersBounded (members_of (datum_pairs es))
 each_member [] h = tt
@@ -73,10 +63,6 @@ pub entries_bounded : (es : List Entry) → length es < 2 ^ 32 → AllByRecursio
 entries_bounded es few h = (omega (arith, members_length es), each_member es h)
 
 -- ---- trees
-
-forest_length : (is : List Invocation) → length (forest_of is) ≡ length is
-forest_length [] = refl
-forest_length (i ∷ is) = omega (arith, forest_length is)
 
 each_tree : (subs : Format (List Tree)) (is : List Invocation) → AllByRecursion (one_level subs).fits is → AllByRecursion (tree_format subs).fits (forest_of is)
 each_tree subs [] h = tt
@@ -88,12 +74,11 @@ unfolding subs_format
 trees_fit zero is more few h = absurd (more refl)
 trees_fit (suc n) is more few h =
     let below : suc n - 1 ≡ n = omega arith in
-    (omega (arith, forest_length is), each_tree (subs_format n) is (subst (λ (m : ℕ). AllByRecursion (one_level (subs_format m)).fits is) below h))
+    (omega (arith, length-map is tree_in), each_tree (subs_format n) is (subst (λ (m : ℕ). AllByRecursion (one_level (subs_format m)).fits is) below h))
 
 -- a row without items is empty
 pub none_in : (is : List Invocation) → (length is == 0) ≡ true → is ≡ []
-none_in [] e = refl
-none_in (i ∷ is) e = absurd (omega (arith, eqb-true (length (i ∷ is)) 0 e))
+none_in is e = nil_from_length is (eqb-true (length is) 0 e)
 
 -- at the last level there are none
 pub no_trees_fit : (levels : ℕ) (is : List Invocation) → levels ≡ 0 → is ≡ [] → (subs_format levels).fits (forest_of is)

@@ -1,9 +1,8 @@
 -- The trees and the entries grow note by note.
-use Rattle.std.proofs.Common.{◌≡◌, ◌≢◌, ℕ, zero, suc, ◌+◌, ◌-◌, ◌<◌, ◌≤◌, true, false, cond, List, [], ◌∷◌, ◌++◌, length, map, take, get_or, refl, sym, ap, ap₂, ◌∙◌, arith}
-use Rattle.std.proofs.lemmas.List.{map_push, take_more, append-nil}
+use Rattle.std.proofs.Common.{◌≡◌, ℕ, ◌+◌, ◌-◌, ◌<◌, ◌≤◌, true, false, cond, List, [], ◌∷◌, ◌++◌, length, take, get_or, refl, sym, ap, ap₂, ◌∙◌}
+use Rattle.std.proofs.lemmas.List.{map_push, take_all, take_more, append-nil}
 use Rattle.std.proofs.lemmas.List.Elements.{filter-append}
 use Rattle.value_types.specs.declared.account_id.AccountId.{AccountId}
-use Rattle.auth_types.specs.Tree.{Tree, node, trees_of}
 use Rattle.auth_types.specs.Views.{tree_of as tree_in, forest_of, invocation_of}
 use Rattle.auth_types.specs.InvocationLaws.{invocation_of-tree}
 use Rattle.auth_types.specs.declared.credentials.Credentials.{Credentials}
@@ -11,9 +10,9 @@ use Rattle.auth_types.specs.declared.invocation.Invocation.{Invocation}
 use Rattle.auth_types.specs.declared.auth_entry.AuthEntry.{AuthEntry}
 use Rattle.auth_notes.specs.declared.noted.Noted.{Noted}
 use Rattle.auth_trees.specs.Demands.{is_root}
-use Rattle.auth_trees.specs.Noted.{Note, MOST_LEVELS, is_child, roots_in}
+use Rattle.auth_trees.specs.Noted.{Note, MOST_LEVELS, roots_in}
 use Rattle.auth_notes.specs.Recording.{note_of, notes_of}
-use Rattle.record_spec.specs.Trees.{Terms, tree_of, tree_below, children_of, trees_below, credentials_by, next_terms, entry_of, entries_from, terms_after}
+use Rattle.record_spec.specs.Trees.{Terms, tree_of, tree_below, credentials_by, next_terms, entry_of, entries_from, terms_after}
 
 -- the notes up to the next one
 pub notes_more : (ns : List Noted) (k : ℕ) (n : Noted) → k < length ns → n ≡ get_or ns k n → notes_of (take (k + 1) ns) ≡ notes_of (take k ns) ++ note_of n ∷ []
@@ -71,17 +70,10 @@ module _ (terms : Terms) (source : AccountId) (ns : List Noted) (k : ℕ) (entri
 
 -- ---- the end
 
--- as many elements as there are, or more, are all
-pub whole : {A : Type 0} (xs : List A) (k : ℕ) → length xs ≤ k → take k xs ≡ xs
-whole [] zero le = refl
-whole [] (suc k) le = refl
-whole (x ∷ xs) zero le = absurd (omega arith)
-whole {A} (x ∷ xs) (suc k) le = ap (λ (rest : List A). x ∷ rest) (whole xs k (omega arith))
-
 -- the entries of all trees
 pub entries_whole : (terms : Terms) (source : AccountId) (ns : List Noted) (k : ℕ) (entries : List AuthEntry) (now : Terms) → AreMade terms source ns k entries now → length ns ≤ k
     → entries ≡ entries_from terms source (notes_of ns) (roots_in (notes_of ns))
-entries_whole terms source ns k entries now h le = h.made ∙ ap (λ (x : List Noted). entries_from terms source (notes_of ns) (roots_in (notes_of x))) (whole ns k le)
+entries_whole terms source ns k entries now h le = h.made ∙ ap (λ (x : List Noted). entries_from terms source (notes_of ns) (roots_in (notes_of x))) (take_all k ns le)
 
 -- ---- an entry
 

@@ -1,8 +1,7 @@
 -- What a host has noted at the end of a run is what the recording run noted.
-use Rattle.std.proofs.Common.{◌≡◌, ℕ, zero, suc, ◌+◌, ◌<◌, ◌-◌, ◌^◌, Bool, true, false, cond, ◌&&◌, List, [], reverse, Option, Some, None, Result, Ok, Err, IfOk, ◌≢◌, nat_le, nat_lt, refl, sym, ap, ap₂, ◌∙◌, subst, arith}
+use Rattle.std.proofs.Common.{◌≡◌, ℕ, zero, suc, ◌+◌, ◌-◌, ◌^◌, Bool, true, false, cond, ◌&&◌, List, [], reverse, Option, Some, None, Result, Ok, Err, IfOk, ◌≢◌, nat_le, nat_lt, refl, sym, ap, ap₂, ◌∙◌, subst, arith}
 use Rattle.std.specs.Option.{option_map}
-use Rattle.std.proofs.lemmas.Bool.{ltb-false}
-use Rattle.std.proofs.lemmas.Bool.Decides.{Decides-ltb}
+use Rattle.std.proofs.lemmas.Bool.{lt-ltb, ltb-false}
 use Rattle.budget_meter.specs.Meter.{Meter, used_after}
 use Rattle.budget_meter.specs.declared.kind.Kind.TheVariants.{ValSer}
 use Rattle.value_types.specs.Datum.{Datum}
@@ -43,14 +42,11 @@ use Rattle.auth_record.specs.Views.{recorded_in, recorded_with, has_failed, valu
 
 -- ---- a run that fails is undone, which is no caught failure
 
-less : (m n : ℕ) → m < n → nat_lt m n ≡ true
-less m n h = (Decides-ltb m n).1 h
-
 not_first : (b : Bool) (u : ℕ) → nat_lt u (2 ^ 64 - 1) ≡ b → nat_lt 1 (cond b (u + 1) u) ≡ nat_lt 0 u
 not_first true zero e = refl
 not_first false zero e = refl
-not_first true (suc u) e = less 1 (suc u + 1) (omega arith) ∙ sym (less 0 (suc u) (omega arith))
-not_first false (suc u) e = less 1 (suc u) (omega (arith, ltb-false (suc u) (2 ^ 64 - 1) e)) ∙ sym (less 0 (suc u) (omega arith))
+not_first true (suc u) e = lt-ltb 1 (suc u + 1) (omega arith) ∙ sym (lt-ltb 0 (suc u) (omega arith))
+not_first false (suc u) e = lt-ltb 1 (suc u) (omega (arith, ltb-false (suc u) (2 ^ 64 - 1) e)) ∙ sym (lt-ltb 0 (suc u) (omega arith))
 
 module _ (terms : Terms) (source : AccountId) where
   same_notes : (b : Bool) (n : Notes) → nat_lt 0 n.demands ≡ b

@@ -6,13 +6,12 @@ ghost use Rattle.auth_types.specs.Views.{tree_of as tree_in};
 ghost use Rattle.auth_types.specs.Tree.{node as tree_with, no_trees, trees_of};
 ghost use Rattle.auth_types.specs.Views.{forest_of};
 ghost use Rattle.auth_trees.specs.Demands.{same_address, is_root};
-ghost use Rattle.auth_notes.specs.Indices.{place_key, row_of};
-ghost use Rattle.auth_notes.specs.Recording.{pair_of, note_of, notes_of};
+ghost use Rattle.auth_notes.specs.Recording.{note_of, notes_of};
 ghost use Rattle.record_spec.specs.Trees.{tree_below, credentials_by, entry_of, entries_of, next_terms};
 ghost use Rattle.auth_record.specs.Children.{list_at, HasAdded, AreChildren};
 ghost use Rattle.auth_record.specs.Given.{terms_in};
 
-use auth_notes::Noted;
+use auth_notes::{Noted, place_key, row_key};
 use auth_types::{AddressCredentials, AuthEntry, Credentials, Invocation, Invocations};
 use std::alloc::Global;
 use std::collections::BTreeMap;
@@ -30,27 +29,6 @@ pub(crate) struct Terms {
 
 /// By the key of a place, the indices of the notes that stand right below it, in their order.
 type Children = BTreeMap<Vec<u64>, Vec<usize>>;
-
-/// The key of the children of a place.
-fn place_key(alloc: Global, tree: usize, node: &[usize]) -> Result<Vec<u64>, NoMemory>
-    ensures { IfOk result (λ key. key.items ≡ place_key tree node.now) }
-{
-    let mut key = Vec::new(alloc);
-    key.push(tree as u64)?;
-    for index in node {
-        key.push(*index as u64)?;
-    }
-    Ok(key)
-}
-
-/// The key of the place above a node. That of a root is empty, and no place has it.
-fn row_key(alloc: Global, note: &Noted) -> Result<Vec<u64>, NoMemory>
-    ensures { IfOk result (λ key. key.items ≡ row_of (pair_of note.now)) }
-{
-    let mut key = place_key(alloc, note.tree, note.place.as_slice())?;
-    key.truncate(note.place.len());
-    Ok(key)
-}
 
 /// Adds an index to the list at a key, in O(log n) comparisons.
 fn add(alloc: Global, children: &mut Children, key: Vec<u64>, index: usize) -> Result<(), NoMemory>

@@ -4,7 +4,7 @@ use Rattle.std.proofs.Common.{filter, fold, Option, Some, None, option_map, slic
 use Rattle.std.proofs.Common.{◌∙◌, subst, append_assoc, arith}
 use Rattle.std.specs.List.{starts_with}
 use Rattle.std.specs.Option.{unwrap_or}
-use Rattle.std.proofs.lemmas.Option.{same_Some}
+use Rattle.std.proofs.lemmas.Option.{same_Some, slice_get_within}
 use Rattle.std.proofs.lemmas.Bool.{and_parts, and_from}
 use Rattle.std.proofs.lemmas.Bool.Decides.{Decides-eqb, Decides-ltb}
 use Rattle.std.proofs.lemmas.List.{append-nil, length_push, take_at}
@@ -18,7 +18,7 @@ use Rattle.auth_trees.specs.Demands.{same_address, creates_asset, is_caller, is_
 use Rattle.auth_trees.specs.Noted.{Note, MOST_LEVELS, pairs_in, roots_in, is_child, last_child, below_noted, new_place, noted_at}
 use Rattle.auth_trees.specs.Noted.{noting, is_account, with_note}
 use Rattle.auth_trees.proofs.Lemmas.{get_left, get_right}
-use Rattle.record_spec.proofs.Lists.{split_at, get_below, mapped, filter_here, kept_at, First, fails, finds, search_first}
+use Rattle.record_spec.proofs.Lists.{split_at, mapped, filter_here, kept_at, First, fails, finds, search_first}
 use Rattle.record_spec.proofs.Lists.{first_is, nothing_first}
 
 -- ---- what it is
@@ -273,8 +273,8 @@ entry_below ns m i grown at =
     let same : length (roots_in (h.before ++ m ∷ h.after)) ≡ length (roots_in ns) = ap (λ xs. length (roots_in xs)) (sym h.whole) in
     let below : m.pair.entry < length (roots_in (h.before ++ m ∷ h.after)) =
     elim (stood h.before m (grown_at ns h.before h.after m grown h.whole)) [
-      | inl r ↦ get_below (roots_in (h.before ++ m ∷ h.after)) m.pair.entry m (root_here h.before h.after m r)
-      | inr c ↦ get_below (roots_in (h.before ++ m ∷ h.after)) m.pair.entry c.root (root_still h.before h.after m c.root m.pair.entry c.tree)
+      | inl r ↦ slice_get_within (roots_in (h.before ++ m ∷ h.after)) m.pair.entry m (root_here h.before h.after m r)
+      | inr c ↦ slice_get_within (roots_in (h.before ++ m ∷ h.after)) m.pair.entry c.root (root_still h.before h.after m c.root m.pair.entry c.tree)
     ] in
     omega (arith, same, below)
 

@@ -1,10 +1,11 @@
 -- Laws of lists: an item by its index, what a filter keeps, and the first result of a search.
-use Rattle.std.proofs.Common.{◌≡◌, ℕ, zero, suc, ◌+◌, ◌<◌, Bool, true, false, cond, ◌||◌, List, [], ◌∷◌, ◌++◌, length, map}
-use Rattle.std.proofs.Common.{filter, Option, Some, None, slice_get, refl, sym, ap, ◌∙◌, subst, arith}
+use Rattle.std.proofs.Common.{◌≡◌, ℕ, zero, suc, ◌+◌, ◌<◌, Bool, true, false, cond, List, [], ◌∷◌, ◌++◌, length, map, filter}
+use Rattle.std.proofs.Common.{Option, Some, None, option_map, slice_get, inl, inr, refl, sym, ap, ◌∙◌, subst, arith}
 use Rattle.std.specs.List.{AllByRecursion, list_any}
 use Rattle.std.specs.Option.{option_or}
-use Rattle.std.proofs.lemmas.Option.{same_Some}
-use Rattle.std.proofs.lemmas.List.Elements.{filter-append}
+use Rattle.std.proofs.lemmas.Bool.{cond_both, or_cases}
+use Rattle.std.proofs.lemmas.Option.{same_Some, slice_get-map}
+use Rattle.std.proofs.lemmas.List.Elements.{All-filter, All-from_recursion, filter-append, recursion_from_All}
 use Rattle.auth_trees.specs.Demands.{first_from}
 use Rattle.auth_trees.proofs.Lemmas.{get_right}
 
@@ -30,12 +31,6 @@ pub get_here : {A : Type 0} (before after : List A) (x : A) → slice_get (befor
 get_here before after x =
     let none_more : length before ≡ length before + 0 = omega arith in get_right before (x ∷ after) (length before) 0 none_more
 
--- an index with an item is below the length
-pub get_below : {A : Type 0} (xs : List A) (i : ℕ) (x : A) → slice_get xs i ≡ Some x → i < length xs
-get_below [] i x e = absurd cc
-get_below (y ∷ xs) zero x e = omega arith
-get_below (y ∷ xs) (suc i) x e = let rest = get_below xs i x e in omega (arith, rest)
-
 -- an item within the first of two lists is one of that list
 pub get_first : {A : Type 0} (xs ys : List A) (i : ℕ) (x : A) → i < length xs → slice_get (xs ++ ys) i ≡ Some x → slice_get xs i ≡ Some x
 get_first [] ys i x lt e = absurd (omega arith)
@@ -44,9 +39,7 @@ get_first (z ∷ xs) ys (suc i) x lt e = get_first xs ys i x (omega arith) e
 
 -- an item of a map
 pub get_map : {A B : Type 0} (f : A → B) (xs : List A) (i : ℕ) (x : A) → slice_get xs i ≡ Some x → slice_get (map f xs) i ≡ Some (f x)
-get_map f [] i x e = absurd cc
-get_map f (z ∷ xs) zero x e = ap Some (ap f (same_Some z x e))
-get_map f (z ∷ xs) (suc i) x e = get_map f xs i x e
+get_map f xs i x e = slice_get-map f xs i ∙ ap (option_map f) e
 
 -- the item that was mapped
 pub record Mapped {A B : Type 0} (f : A → B) (xs : List A) (i : ℕ) (y : B) : Type 0 where
@@ -107,28 +100,17 @@ passed_no p y xs i x e h = record {
 pub kept_at : {A : Type 0} (p : A → Bool) (xs : List A) (i : ℕ) (x : A) → slice_get (filter p xs) i ≡ Some x → Passed p xs i x
 kept_at p [] i x e = absurd cc
 kept_at p (y ∷ xs) zero x e =
-    let go : (b : Bool) → p y ≡ b → slice_get (cond b (y ∷ filter p xs) (filter p xs)) zero ≡ Some x → Passed p (y ∷ xs) zero x =
-    λ b. elim b as (λ b. p y ≡ b → slice_get (cond b (y ∷ filter p xs) (filter p xs)) zero ≡ Some x → Passed p (y ∷ xs) zero x) [
-      | true ↦ λ t e.
-          let same = same_Some y x e in
-          record { before = []; after = xs; whole = ap (λ z. z ∷ xs) same; index = refl; passes = ap p (sym same) ∙ t }
-      | false ↦ λ f e. passed_no p y xs zero x f (kept_at p xs zero x e)
-    ] in
-    go (p y) refl e
+    cond_both (p y) (y ∷ filter p xs) (filter p xs) (λ ys. slice_get ys zero ≡ Some x → Passed p (y ∷ xs) zero x) (λ t e.
+    let same = same_Some y x e in
+    record { before = []; after = xs; whole = ap (λ z. z ∷ xs) same; index = refl; passes = ap p (sym same) ∙ t })
+    (λ f e. passed_no p y xs zero x f (kept_at p xs zero x e)) e
 kept_at p (y ∷ xs) (suc i) x e =
-    let go : (b : Bool) → p y ≡ b → slice_get (cond b (y ∷ filter p xs) (filter p xs)) (suc i) ≡ Some x → Passed p (y ∷ xs) (suc i) x =
-    λ b. elim b as (λ b. p y ≡ b → slice_get (cond b (y ∷ filter p xs) (filter p xs)) (suc i) ≡ Some x → Passed p (y ∷ xs) (suc i) x) [
-      | true ↦ λ t e. passed_yes p y xs i x t (kept_at p xs i x e)
-      | false ↦ λ f e. passed_no p y xs (suc i) x f (kept_at p xs (suc i) x e)
-    ] in
-    go (p y) refl e
+    cond_both (p y) (y ∷ filter p xs) (filter p xs) (λ ys. slice_get ys (suc i) ≡ Some x → Passed p (y ∷ xs) (suc i) x)
+    (λ t e. passed_yes p y xs i x t (kept_at p xs i x e)) (λ f e. passed_no p y xs (suc i) x f (kept_at p xs (suc i) x e)) e
 
 -- what is true of all items is true of those that pass
 pub all_kept : {A : Type 0} (P : A → Type 0) (p : A → Bool) (xs : List A) → AllByRecursion P xs → AllByRecursion P (filter p xs)
-all_kept P p [] h = tt
-all_kept P p (x ∷ xs) h =
-    let rest = all_kept P p xs h.1 in
-    elim (p x) as (λ b. AllByRecursion P (cond b (x ∷ filter p xs) (filter p xs))) [ true ↦ (h.0, rest) | false ↦ rest ]
+all_kept P p xs h = recursion_from_All P (filter p xs) (All-filter p P xs (All-from_recursion P xs h))
 
 -- ---- whether any item passes
 
@@ -143,22 +125,10 @@ pub record Found {A : Type 0} (p : A → Bool) (xs : List A) : Type 0 where
 pub any_found : {A : Type 0} (p : A → Bool) (xs : List A) → list_any p xs ≡ true → Found p xs
 any_found p [] e = absurd cc
 any_found p (x ∷ xs) e =
-    let go : (b : Bool) → p x ≡ b → (b || list_any p xs) ≡ true → Found p (x ∷ xs) =
-    λ b. elim b as (λ b. p x ≡ b → (b || list_any p xs) ≡ true → Found p (x ∷ xs)) [
-      | true ↦ λ t e. record { index = 0; item = x; here = refl; passes = t }
-      | false ↦ λ f e. let h = any_found p xs e in record { index = suc h.index; item = h.item; here = h.here; passes = h.passes }
-    ] in
-    go (p x) refl e
-
-or_true : (b : Bool) → (b || true) ≡ true
-or_true true = refl
-or_true false = refl
-
--- if an item passes, any does
-pub any_here : {A : Type 0} (p : A → Bool) (xs : List A) (i : ℕ) (x : A) → slice_get xs i ≡ Some x → p x ≡ true → list_any p xs ≡ true
-any_here p [] i x e t = absurd cc
-any_here p (y ∷ xs) zero x e t = ap (λ b. b || list_any p xs) (ap p (same_Some y x e) ∙ t)
-any_here p (y ∷ xs) (suc i) x e t = ap (λ b. p y || b) (any_here p xs i x e t) ∙ or_true (p y)
+    elim (or_cases (p x) (list_any p xs) e) [
+      | inl t ↦ record { index = 0; item = x; here = refl; passes = t }
+      | inr r ↦ let h = any_found p xs r in record { index = suc h.index; item = h.item; here = h.here; passes = h.passes }
+    ]
 
 -- ---- the first result of a search
 

@@ -8,7 +8,8 @@ use Rattle.std.proofs.lemmas.List.{append-nil, length_push}
 use Rattle.value_types.specs.declared.account_id.AccountId.{AccountId}
 use Rattle.value_types.specs.declared.address.ScAddress.{ScAddress}
 use Rattle.value_types.specs.declared.address.ScAddress.TheVariants.{Account}
-use Rattle.auth_types.specs.Tree.{Tree, Trees, node, no_trees, trees, trees_of, list_of_trees}
+use Rattle.auth_types.specs.InvocationLaws.{trees_there, tree_of-invocation}
+use Rattle.auth_types.specs.Tree.{Tree, node, trees_of}
 use Rattle.auth_types.specs.Views.{tree_of as viewed, invocation_of}
 use Rattle.auth_types.specs.declared.credentials.Credentials.TheVariants.{SourceAccount}
 use Rattle.auth_types.specs.declared.auth_entry.AuthEntry.{AuthEntry}
@@ -25,25 +26,13 @@ use Rattle.record_spec.proofs.Grown.{is_child_of}
 
 -- ---- trees and their rows
 
-list_back : (ts : List Tree) → list_of_trees (trees_of ts) ≡ ts
-list_back [] = refl
-list_back (t ∷ ts) = ap (λ us. t ∷ us) (list_back ts)
-
-trees_back : (ts : Trees) → trees_of (list_of_trees ts) ≡ ts
-trees_back no_trees = refl
-trees_back (trees t ts) = ap (trees t) (trees_back ts)
-
--- the invocation of a tree is viewed as the tree
-pub tree_viewed : (t : Tree) → viewed (invocation_of t) ≡ t
-tree_viewed (node f ts) = ap (node f) (trees_back ts)
-
 root_function : (t : Tree) → (invocation_of t).function ≡ function_of t
 root_function (node f ts) = refl
 
 -- the children of a node are the nodes that were made so
 pub below_children : (levels : ℕ) (notes : List Note) (n : Note)
     → children (tree_below (suc levels) notes n) ≡ map (tree_below levels notes) (children_of notes n)
-below_children levels notes n = list_back (map (tree_below levels notes) (children_of notes n))
+below_children levels notes n = trees_there (map (tree_below levels notes) (children_of notes n))
 
 -- the function of a node is its note's
 pub below_function : (levels : ℕ) (notes : List Note) (n : Note) → function_of (tree_below levels notes n) ≡ n.function
@@ -124,7 +113,7 @@ pub authorised : (terms : Terms) (source : AccountId) (notes : List Note) (k : �
     → authorises source address (entry_of notes (credentials_by terms source root.address) root) ≡ same_address root.address address
 authorised terms source notes k root address grown at =
     let none : has_asset (viewed (invocation_of (tree_of notes root))) ≡ false =
-    ap has_asset (tree_viewed (tree_of notes root)) ∙ root_plain notes k root grown at in
+    ap has_asset (tree_of-invocation (tree_of notes root)) ∙ root_plain notes k root grown at in
     ap₂ (λ (b : Bool) (a : ScAddress). not b && same_address a address) none (signed terms source root.address)
 
 -- the root of an entry

@@ -3,28 +3,31 @@ use Rattle.std.proofs.Common.{◌≡◌, ℕ, suc, ◌+◌, ◌-◌, ◌<◌, Bo
 use Rattle.std.proofs.Common.{take, filter, Option, Some, None, option_map, slice_get, bytes_eq, inl, inr, refl, sym, ap, ap₂}
 use Rattle.std.proofs.Common.{◌∙◌, subst, arith}
 use Rattle.std.specs.Option.{option_and_then, option_or}
-use Rattle.std.proofs.lemmas.Bool.{and_parts, and_from}
+use Rattle.std.proofs.lemmas.Bool.{and_parts, and_from, false_from_ne_true}
 use Rattle.std.proofs.lemmas.Bool.Decides.{Decides-eqb}
-use Rattle.std.proofs.lemmas.List.{append_cancel_left, length_push}
+use Rattle.std.proofs.lemmas.List.{length_push, same_from_push}
 use Rattle.std.proofs.lemmas.List.Elements.{filter-append}
+use Rattle.std.proofs.lemmas.Map.Keys.{any_passes_from_place}
+use Rattle.std.proofs.lemmas.Option.{slice_get_within}
 use Rattle.std.proofs.lemmas.Slice.Eq.{bytes_eq-Decides}
 use Rattle.value_types.specs.declared.account_id.AccountId.{AccountId}
 use Rattle.value_types.specs.declared.address.ScAddress.{ScAddress}
 use Rattle.invoke_types.specs.declared.function.Function.{Function}
+use Rattle.auth_types.specs.InvocationLaws.{tree_of-invocation}
 use Rattle.auth_types.specs.Tree.{Tree}
 use Rattle.auth_types.specs.declared.auth_entry.AuthEntry.{AuthEntry}
 use Rattle.auth_trees.specs.Pairs.{Pair, has_pair, is_paired, deepest}
 use Rattle.auth_trees.specs.Demands.{same_address, same_function, function_of, children, Marked, first_from}
 use Rattle.auth_trees.specs.Demands.{open_child, open_below, by_child, by_root, chosen}
-use Rattle.auth_trees.specs.Noted.{Note, MOST_LEVELS, pairs_in, roots_in, is_child, is_account}
-use Rattle.auth_trees.proofs.Lemmas.{get_left, true_or_false}
+use Rattle.auth_trees.specs.Noted.{Note, MOST_LEVELS, pairs_in, roots_in, is_child}
+use Rattle.auth_trees.proofs.Lemmas.{get_left}
 use Rattle.record_spec.specs.Trees.{Terms, children_of, tree_below, tree_of, credentials_by, entry_of, entries_of, terms_after}
-use Rattle.record_spec.proofs.Lists.{split_at, get_here, get_below, get_first, get_map, mapped, filter_here, kept_at, any_found}
-use Rattle.record_spec.proofs.Lists.{any_here, first_is, nothing_first}
-use Rattle.record_spec.proofs.Same.{address_is, own_address, own_function}
+use Rattle.record_spec.proofs.Lists.{split_at, get_here, get_first, get_map, mapped, filter_here, kept_at, any_found}
+use Rattle.record_spec.proofs.Lists.{first_is, nothing_first}
+use Rattle.record_spec.proofs.Same.{own_address, own_function}
 use Rattle.record_spec.proofs.Grown.{Grown, IsNewRoot, IsNewChild, NoneAbove, child_count, grown_before, grown_at, deepest_is, stood}
 use Rattle.record_spec.proofs.Grown.{roots_append, root_here, root_still, entry_below, root_at, child_parts, is_child_of, child_at}
-use Rattle.record_spec.proofs.Placed.{tree_viewed, below_children, below_function, invoked, root_account, authorised, entry_is}
+use Rattle.record_spec.proofs.Placed.{below_children, below_function, invoked, authorised, entry_is}
 use Rattle.record_spec.proofs.Placed.{root_entry, node_of_tree}
 
 -- ---- nodes with pairs
@@ -37,7 +40,7 @@ is_of tree place pair = eqb pair.entry tree && bytes_eq pair.node place
 is_noted : (ns : List Note) (i : ℕ) (m : Note) (tree : ℕ) (place : List ℕ) → slice_get ns i ≡ Some m → m.pair.entry ≡ tree
     → m.pair.node ≡ place → is_paired (pairs_in ns) tree place ≡ true
 is_noted ns i m tree place at entry node =
-    any_here (is_of tree place) (pairs_in ns) i m.pair (get_map (λ (n : Note). n.pair) ns i m at)
+    any_passes_from_place (is_of tree place) (pairs_in ns) i m.pair (get_map (λ (n : Note). n.pair) ns i m at)
     (and_from (eqb m.pair.entry tree) (bytes_eq m.pair.node place) ((Decides-eqb m.pair.entry tree).1 entry)
     ((bytes_eq-Decides m.pair.node place).1 node))
 
@@ -52,9 +55,6 @@ child_paired ns p j m grown at =
     ap (λ xs. slice_get xs (length h.before)) h.whole ∙ get_here h.before h.after m in
     is_noted ns (length h.before) m p.entry (p.node ++ j ∷ []) here (child_parts p m.pair h.passes).entry node
 
-same_last : (xs : List ℕ) (j k : ℕ) → xs ++ j ∷ [] ≡ xs ++ k ∷ [] → j ≡ k
-same_last xs j k e = let last : (j ∷ []) ≡ (k ∷ []) = append_cancel_left xs (j ∷ []) (k ∷ []) e in cc
-
 -- no node stands where the next child will
 none_there : (ns : List Note) (p : Pair) (m : Note) (i : ℕ) → Grown ns → slice_get ns i ≡ Some m → m.pair.entry ≡ p.entry
     → m.pair.node ≡ p.node ++ child_count ns p ∷ [] → ⊥
@@ -63,9 +63,9 @@ none_there ns p m i grown here entry node =
     let child : is_child p m.pair ≡ true = is_child_of p m.pair (child_count ns p) entry node in
     let s = split_at ns i m here in
     let its : m.pair.node ≡ p.node ++ child_count s.before p ∷ [] = child_at ns s.before s.after m p grown s.whole child in
-    let same : child_count ns p ≡ child_count s.before p = same_last p.node (child_count ns p) (child_count s.before p) (sym node ∙ its) in
+    let same : child_count ns p ≡ child_count s.before p = (same_from_push p.node p.node (child_count ns p) (child_count s.before p) (sym node ∙ its)).1 in
     let less : child_count s.before p < child_count (s.before ++ m ∷ s.after) p =
-    get_below (filter test (s.before ++ m ∷ s.after)) (child_count s.before p) m (filter_here test s.before s.after m child) in
+    slice_get_within (filter test (s.before ++ m ∷ s.after)) (child_count s.before p) m (filter_here test s.before s.after m child) in
     let whole : child_count (s.before ++ m ∷ s.after) p ≡ child_count ns p = ap (λ (xs : List Note). child_count xs p) (sym s.whole) in
     omega (arith, same, less, whole)
 
@@ -73,16 +73,13 @@ none_there ns p m i grown here entry node =
 child_unpaired : (ns : List Note) (p : Pair) → Grown ns → is_paired (pairs_in ns) p.entry (p.node ++ child_count ns p ∷ []) ≡ false
 child_unpaired ns p grown =
     let place = p.node ++ child_count ns p ∷ [] in
-    elim (true_or_false (is_paired (pairs_in ns) p.entry place)) [
-      | inl t ↦ absurd (
-          let f = any_found (is_of p.entry place) (pairs_in ns) t in
-          let m = mapped (λ (n : Note). n.pair) ns f.index f.item f.here in
-          let parts = and_parts (eqb f.item.entry p.entry) (bytes_eq f.item.node place) f.passes in
-          let entry = (Decides-eqb f.item.entry p.entry).0 parts.0 in
-          let node = (bytes_eq-Decides f.item.node place).0 parts.1 in
-          none_there ns p m.item f.index grown m.here (ap (λ (q : Pair). q.entry) m.is ∙ entry) (ap (λ (q : Pair). q.node) m.is ∙ node))
-      | inr f ↦ f
-    ]
+    false_from_ne_true (is_paired (pairs_in ns) p.entry place) (λ t.
+    let f = any_found (is_of p.entry place) (pairs_in ns) t in
+    let m = mapped (λ (n : Note). n.pair) ns f.index f.item f.here in
+    let parts = and_parts (eqb f.item.entry p.entry) (bytes_eq f.item.node place) f.passes in
+    let entry = (Decides-eqb f.item.entry p.entry).0 parts.0 in
+    let node = (bytes_eq-Decides f.item.node place).0 parts.1 in
+    none_there ns p m.item f.index grown m.here (ap (λ (q : Pair). q.entry) m.is ∙ entry) (ap (λ (q : Pair). q.node) m.is ∙ node))
 
 -- ---- open children
 
@@ -193,7 +190,7 @@ child_search : (terms other : Terms) (source : AccountId) (final : List Note) (p
     ≡ found_below (same_address root.address address) (open_below pairs function (tree_of final root)) (deepest pairs path index) index
 child_search terms other source final pairs path address function k index root grown at =
     ap₂ (λ (b : Bool) (t : Tree). found_below b (open_below pairs function t) (deepest pairs path index) index)
-    (authorised other source final k root address grown at) (tree_viewed (tree_of final root))
+    (authorised other source final k root address grown at) (tree_of-invocation (tree_of final root))
 
 -- no node of a tree is above the path, if none is above it among the first trees, and the others have no nodes yet
 deepest_none : (ns rest : List Note) (path : List ℕ) (address : ScAddress) (first k : ℕ) (root : Note) → Grown ns
@@ -251,22 +248,19 @@ root_paired ns root k grown at =
     let h = kept_at _ ns k root at in
     let here : slice_get ns (length h.before) ≡ Some root =
     ap (λ xs. slice_get xs (length h.before)) h.whole ∙ get_here h.before h.after root in
-    any_here (λ (p : Pair). eqb p.entry k) (pairs_in ns) (length h.before) root.pair (get_map (λ (n : Note). n.pair) ns (length h.before) root here)
+    any_passes_from_place (λ (p : Pair). eqb p.entry k) (pairs_in ns) (length h.before) root.pair (get_map (λ (n : Note). n.pair) ns (length h.before) root here)
     ((Decides-eqb root.pair.entry k).1 (root_at ns root k grown at).0)
 
 -- the next tree has none
 root_unpaired : (ns : List Note) → Grown ns → has_pair (pairs_in ns) (length (roots_in ns)) ≡ false
 root_unpaired ns grown =
     let k = length (roots_in ns) in
-    elim (true_or_false (has_pair (pairs_in ns) k)) [
-      | inl t ↦ absurd (
-          let f = any_found (λ (p : Pair). eqb p.entry k) (pairs_in ns) t in
-          let m = mapped (λ (n : Note). n.pair) ns f.index f.item f.here in
-          let entry : m.item.pair.entry ≡ k = ap (λ (q : Pair). q.entry) m.is ∙ (Decides-eqb f.item.entry k).0 f.passes in
-          let below : m.item.pair.entry < k = entry_below ns m.item f.index grown m.here in
-          omega (arith, entry, below))
-      | inr f ↦ f
-    ]
+    false_from_ne_true (has_pair (pairs_in ns) k) (λ t.
+    let f = any_found (λ (p : Pair). eqb p.entry k) (pairs_in ns) t in
+    let m = mapped (λ (n : Note). n.pair) ns f.index f.item f.here in
+    let entry : m.item.pair.entry ≡ k = ap (λ (q : Pair). q.entry) m.is ∙ (Decides-eqb f.item.entry k).0 f.passes in
+    let below : m.item.pair.entry < k = entry_below ns m.item f.index grown m.here in
+    omega (arith, entry, below))
 
 -- a tree that has a pair gives no root
 root_fails : (terms : Terms) (source : AccountId) (final : List Note) (pairs : List Pair) (address : ScAddress) (function : Function) (k : ℕ)
@@ -400,41 +394,3 @@ none_is_chosen terms source final path address function grown =
     (nothing_first (by_root marked address function) auth (λ k entry at.
     let h = entry_is terms source final (roots_in final) k entry at in
     root_fails terms source final (pairs_in final) address function k entry grown at (root_paired final h.root k grown h.here)))
-
-unsigned : (b used same : Bool) (index : ℕ) → b ≡ false → found_root used b same index ≡ None
-unsigned b used same index e =
-    ap (λ b. found_root used b same index) e
-    ∙ elim used as (λ used. found_root used false same index ≡ None) [ true ↦ refl | false ↦ refl ]
-
--- a root is not of another address than an account's
-other_address : (final : List Note) (k : ℕ) (root : Note) (address : ScAddress) → Grown final → slice_get (roots_in final) k ≡ Some root
-    → is_account address ≡ false → same_address root.address address ≡ false
-other_address final k root address grown at other =
-    elim (true_or_false (same_address root.address address)) [
-      | inl t ↦ absurd (
-          let yes : is_account address ≡ true =
-          ap is_account (sym (address_is root.address address t)) ∙ root_account final k root grown at in
-          cc)
-      | inr f ↦ f
-    ]
-
--- nothing is chosen for another address than an account's
-pub account_is_chosen : (terms : Terms) (source : AccountId) (final : List Note) (pairs : List Pair) (path : List ℕ) (address : ScAddress)
-    (function : Function) → Grown final → is_account address ≡ false
-    → chosen (record { entries = entries_of terms source final; source = source; pairs = pairs }) path address function ≡ None
-account_is_chosen terms source final pairs path address function grown other =
-    let marked = marked_by terms source final pairs in
-    let auth = entries_of terms source final in
-    ap₂ (λ (a b : Option (ℕ × List ℕ)). option_or a b)
-    (nothing_first (by_child marked path address function) auth (λ k entry at.
-    let h = entry_is terms source final (roots_in final) k entry at in
-    let no = other_address final k h.root address grown h.here other in
-    ap (by_child marked path address function k) h.is
-    ∙ child_search terms h.terms source final pairs path address function k k h.root grown h.here
-    ∙ ap (λ b. found_below b (open_below pairs function (tree_of final h.root)) (deepest pairs path k) k) no))
-    (nothing_first (by_root marked address function) auth (λ k entry at.
-    let h = entry_is terms source final (roots_in final) k entry at in
-    ap (by_root marked address function k) h.is
-    ∙ root_search terms h.terms source final pairs address function k k h.root grown h.here
-    ∙ unsigned (same_address h.root.address address) (has_pair pairs k) (same_function h.root.function function) k
-    (other_address final k h.root address grown h.here other)))

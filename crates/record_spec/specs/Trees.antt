@@ -66,12 +66,6 @@ entries_from terms source notes (root ∷ roots) =
 abbrev pub entries_of : Terms → AccountId → List Note → List AuthEntry
 entries_of terms source notes = entries_from terms source notes (roots_in notes)
 
--- ---- as the program goes through the notes
-
--- the trees of the children of a node that are among these notes
-abbrev pub trees_below : ℕ → List Note → Note → List Note → List Tree
-trees_below levels notes n some = map (tree_below levels notes) (children_of some n)
-
 -- the terms after these roots
 abbrev pub terms_after : Terms → AccountId → List Note → Terms
 terms_after terms source [] = terms

@@ -13,7 +13,7 @@ count_up-requires-clause-few c =
     let f = c.args.forest.now in
     few_counted f.notes.items c.begin_count.new.children.entries f.notes.cap
     (counts_same (notes_of f.notes.items) f.children.entries c.begin_count.new.children.entries c.begin_count.ensures.same c.requires.ready.counted)
-    (omega (arith, f.notes.ok)) f.notes.small c.args.keys.row.items
+    (omega (arith, f.notes.ok)) f.notes.small c.args.row
 
 pub trees_with-forest-requires : goal.trees_with-forest-requires
 trees_with-forest-requires c =
@@ -27,12 +27,12 @@ returns-clause-ready c =
     let note = c.args.note in
     let items : c.push_note.new.notes.items ≡ old ++ note ∷ [] = c.push_note.ensures ∙ ap (λ (ns : List Noted). ns ++ note ∷ []) c.reserve.ensures.items in
     let notes : notes_of c.push_note.new.notes.items ≡ notes_of old ++ note_of note ∷ [] = ap notes_of items ∙ map_push note_of old note in
-    let lent : c.as_slice.result.now ≡ old = c.as_slice.ensures.value ∙ c.reserve.ensures.items in
+    let lent : c.as_slice-2.result.now ≡ old = c.as_slice-2.ensures.value ∙ c.reserve.ensures.items in
     record {
       made = subst (λ (ns : List Note). AreTrees ns c.trees_with-forest.result) (sym notes) (subst (λ (n : ℕ). AreTrees (notes_of old ++ note_of note ∷ []) n) (sym c.trees_with-forest.ensures) c.requires.trees);
       indexed = subst (λ (ns : List Noted). AreBest ns c.put_best.new.best.entries) (ap (λ (ns : List Noted). ns ++ note ∷ []) lent ∙ sym items)
           (c.put_best.ensures.put c.if-not-put_best.false);
       counted = subst (λ (ns : List Note). AreCounts ns c.count_up.new.children.entries) (sym notes)
-          (counts_more (notes_of old) (note_of note) c.begin_count.new.children.entries c.count_up.new.children.entries c.args.keys.row.items c.requires.keys.row-is c.count_up.ensures
+          (counts_more (notes_of old) (note_of note) c.begin_count.new.children.entries c.count_up.new.children.entries c.args.row.items c.requires.row c.count_up.ensures
           (counts_same (notes_of old) f.children.entries c.begin_count.new.children.entries c.begin_count.ensures.same c.requires.ready.counted));
     }

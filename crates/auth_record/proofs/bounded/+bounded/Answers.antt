@@ -1,4 +1,4 @@
-use Rattle.std.proofs.Common.{◌+◌, ◌≤◌, ◌&&◌, arith, rules}
+use Rattle.std.proofs.Common.{◌+◌, ◌≤◌, arith, rules}
 use Rattle.value_types.specs.Datum.{size, data_size, pairs_size}
 use Rattle.value_types.specs.Views.{datum, datums, datum_pairs}
 use Rattle.value_types.proofs.Lemmas.{pair_size_at, size_at}
@@ -12,7 +12,7 @@ items_are_bounded-is_bounded-good-requires t c =
 
 pub items_are_bounded-loop-item-preserved : goal.items_are_bounded-loop-item-preserved
 items_are_bounded-loop-item-preserved t c =
-    row_more IsGood c.args.items.now c.loop-item.item-index c.item-item.result c.is_bounded-good.result c.loop-item-test.true c.item-item.is c.loop-item.invariant c.is_bounded-good.ensures (search rules)
+    row_more IsGood c.args.items.now c.loop-item.item-index c.item-item.result c.loop-item-test.true c.item-item.is c.loop-item.invariant (c.is_bounded-good.ensures (search rules))
 
 pub items_are_bounded-returns : goal.items_are_bounded-returns
 items_are_bounded-returns t c _ = items_bounded c.args.items.now (omega arith) (row_whole IsGood c.args.items.now c.loop-item.item-index (omega arith) c.loop-item.invariant)
@@ -29,9 +29,8 @@ entries_are_bounded-is_bounded-val-requires t c =
 
 pub entries_are_bounded-loop-entry-preserved : goal.entries_are_bounded-loop-entry-preserved
 entries_are_bounded-loop-entry-preserved t c =
-    let both = c.is_bounded-key.result && c.is_bounded-val.result in
-    row_more IsGoodPair c.args.entries.now c.loop-entry.entry-index c.entry-item.result both c.loop-entry-test.true c.entry-item.is c.loop-entry.invariant
-    (both_good c.entry-item.result c.is_bounded-key.result c.is_bounded-val.result c.is_bounded-key.ensures c.is_bounded-val.ensures) (search rules)
+    row_more IsGoodPair c.args.entries.now c.loop-entry.entry-index c.entry-item.result c.loop-entry-test.true c.entry-item.is c.loop-entry.invariant
+    (both_good c.entry-item.result c.is_bounded-key.result c.is_bounded-val.result c.is_bounded-key.ensures c.is_bounded-val.ensures (search rules))
 
 pub entries_are_bounded-returns : goal.entries_are_bounded-returns
 entries_are_bounded-returns t c _ = entries_bounded c.args.entries.now (omega arith) (row_whole IsGoodPair c.args.entries.now c.loop-entry.entry-index (omega arith) c.loop-entry.invariant)

@@ -9,8 +9,8 @@ subs_fit-returns-then-levels-eq0 t c empty =
 
 pub subs_fit-loop-item-preserved : goal.subs_fit-loop-item-preserved
 subs_fit-loop-item-preserved t c =
-    row_more (one_level (subs_format (c.args.levels - 1))).fits c.args.items.now c.loop-item.item-index c.item-item.result c.tree_fits-good.result c.loop-item-test.true c.item-item.is c.loop-item.invariant
-    c.tree_fits-good.ensures (search rules)
+    row_more (one_level (subs_format (c.args.levels - 1))).fits c.args.items.now c.loop-item.item-index c.item-item.result c.loop-item-test.true c.item-item.is c.loop-item.invariant
+    (c.tree_fits-good.ensures (search rules))
 
 pub subs_fit-returns : goal.subs_fit-returns
 subs_fit-returns t c _ =

@@ -1,6 +1,5 @@
 use Rattle.std.proofs.Common.{◌≡◌, List, [], ◌∷◌, ◌++◌, sym, ap, ◌∙◌}
-use Rattle.std.specs.Prelude.{ℕ, Option}
-use Rattle.std.specs.Global.{Vec}
+use Rattle.std.specs.Prelude.{ℕ}
 use Rattle.auth_record.specs.Children.{items_of}
 use Rattle.auth_record.proofs.Children.{added_is}
 use Rattle.auth_record.proofs.trees.add.Goals as goal

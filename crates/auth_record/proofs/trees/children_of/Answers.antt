@@ -1,5 +1,5 @@
 use Rattle.std.proofs.Common.{◌+◌, ap}
-use Rattle.auth_record.proofs.Children.{children_more, children_whole}
+use Rattle.auth_record.proofs.Children.{children_more}
 use Rattle.auth_record.proofs.trees.children_of.Goals as goal
 
 pub loop-note-preserved : goal.loop-note-preserved
