@@ -6,8 +6,8 @@ python3 tools/quick_rt.py WORD..
 `rt` tells by a sum whether a library is built from the text that is there. The sum of a crate has the sums of all crates that
 it names, and rattle-kit-13b makes each of them anew each time: 546,000 sums for `soroban_top`, at about a millisecond each,
 and several times in one command. It lists the crates below a crate in the same way. Here each sum and each list is made once
-and kept until the command ends, so no text may change meanwhile: tools/prove.py calls this in copies of the repository. What is proved, and how, stays the same. An `rt` that has other parts
-than these runs as it is.
+and kept until the command ends, so no text may change meanwhile: tools/prove.py calls this in copies of the repository. What is
+proved, and how, stays the same. An `rt` that has other parts than these runs as it is.
 """
 import importlib.machinery
 import importlib.util

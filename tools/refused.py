@@ -4,10 +4,10 @@
 python3 tools/refused.py PROGRAM [--most N] [--only WORD] (needs a C compiler; takes minutes, so it is no check of the gate)
 
 A case is a command that ends well. Its calls of one kind are counted, and it runs once for each, which is refused: memory, a
-thread, an open, a read, a seek, a write, a close. Then a refusal of memory or of a thread may be answered by `no memory`, or by
-what the case answers without one; that of a file by `fault on` its name. Nothing but the names that the command stores changes,
-in their order, each whole, but for the one at fault: it holds its old bytes or a prefix of the new ones, which may be all of them,
-as when the folder of a new file cannot be synced.
+thread, an open, a read, a seek, a write, a sync, a renaming, a close. Then a refusal of memory or of a thread may be answered
+by `no memory`, or by what the case answers without one; that of a file by `fault on` its name. Nothing but the names that the
+command stores changes, in their order, each whole, but for the one at fault: it holds its old bytes or a prefix of the new
+ones, which may be all of them, as when the folder of a new file cannot be synced.
 
 --most N refuses at most so many calls of a kind and a case, evenly chosen; --only WORD takes the cases whose name has the word.
 Prints a line for each case and kind with the counts of answers. The status is 1 if an answer was wrong.

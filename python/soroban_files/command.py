@@ -1,7 +1,8 @@
 """The command `soroban-files`.
 
 Its status is that of the program where both speak of the same: 1 for refused bytes and modules, 2 for wrong words, 3 for a
-ledger, verdicts or schedule that are refused, 4 for a file that cannot be read or written, 8 for a change log that does not fit.
+ledger, verdicts or schedule that are refused, 4 for a file that cannot be read or written, 6 for one of more than
+2^30 bytes, 8 for a change log that does not fit.
 """
 from __future__ import annotations
 

@@ -332,7 +332,10 @@ def own_changes(found: Difference, most: int) -> str:
 
 # When extensions take effect, for readers of a log.
 END = "Extensions that are still pending are put in at the end of the stage."
-PENDING = "An extension is pending until the end of the stage, or until a later transaction of the cluster writes the entry."
+PENDING = (
+    "An extension is pending until the end of the stage, or until a later transaction of the cluster declares its key"
+    " read-write."
+)
 PUT_IN = "Extensions of earlier transactions were put in before this one ran. It changed nothing itself."
 
 
