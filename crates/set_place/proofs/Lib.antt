@@ -1,0 +1,4 @@
+mod Growing
+pub mod Lemmas
+mod Placed
+mod Reaching

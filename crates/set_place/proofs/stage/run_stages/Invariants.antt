@@ -1,0 +1,10 @@
+use Rattle.std.proofs.Common.{◌≡◌, take}
+use Rattle.stage_runs.specs.Runs.{run_set, start}
+use Rattle.apply_spec.specs.Enforced.{enforced}
+use Rattle.ledger_apply.specs.State.{between}
+use Rattle.ledger_apply.specs.Stages.{clusters_of}
+use Rattle.set_place.proofs.stage.run_stages.Given as goal
+
+abbrev pub invariant-loop-stage : goal.invariant-loop-stage
+invariant-loop-stage l =
+    between l.ledger.entries l.reports ≡ run_set (enforced l.header l.verdicts) (start l.initial.ledger.entries) (clusters_of (take l.stage-index l.stages))
