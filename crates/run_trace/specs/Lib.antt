@@ -1,3 +1,6 @@
+pub mod Calls
 pub mod Endings
 pub mod Lines
+pub mod Shown
+pub mod Summed
 pub mod Telling

@@ -5,6 +5,8 @@ use crate::names::{access_name, code_name, outcome_name, type_name};
 use crate::short::{
     code_of, push_address, push_function, push_key, push_met, push_text, push_value,
 };
+use crate::summary::{Bytes, Summary};
+use crate::tested::Tested;
 use budget_meter::Used;
 use contract_storage::{Access, Met, Outcome};
 use invoke_types::{ContractEvent, Function};
@@ -51,23 +53,41 @@ impl Tree {
     }
 }
 
-/// The document of a run: its calls, how many lines are left out, what it took, and the codes of its result. Numbers of 64 bits
-/// are text, but for the count of lines.
+/// The document of a run: its calls, how many lines are left out, and what is said after them. Numbers of 64 bits are text, but
+/// for the count of lines.
 pub fn document(
     alloc: Global,
     lines: &[Line],
     left_out: u64,
-    used: Used,
-    codes: &[u8],
+    summary: Summary<'_>,
 ) -> Result<String, AllocError> {
     let mut document = Map::new(alloc);
     put(&mut document, alloc, "calls", items_of(alloc, lines)?)?;
     put(&mut document, alloc, "left_out", Value::from(left_out))?;
-    let mut sums = Map::new(alloc);
-    put_sums(alloc, &mut sums, used)?;
-    put(&mut document, alloc, "used", Value::Object(sums))?;
-    put(&mut document, alloc, "result", text_value(alloc, codes)?)?;
+    put_summary(alloc, &mut document, summary)?;
     Value::Object(document).to_string(alloc)
+}
+
+/// Puts what is said after the lines.
+fn put_summary(
+    alloc: Global,
+    document: &mut Members,
+    summary: Summary<'_>,
+) -> Result<(), AllocError> {
+    let archived = keys_value(alloc, summary.archived)?;
+    put(document, alloc, "archived", archived)?;
+    put(
+        document,
+        alloc,
+        "events",
+        events_value(alloc, summary.events)?,
+    )?;
+    put(document, alloc, "bytes", bytes_value(alloc, summary.bytes)?)?;
+    let mut sums = Map::new(alloc);
+    put_sums(alloc, &mut sums, summary.used)?;
+    put(document, alloc, "used", Value::Object(sums))?;
+    put(document, alloc, "result", text_value(alloc, summary.codes)?)?;
+    Ok(())
 }
 
 /// What happened outside of all calls, in order: mostly one call, with all the others inside. Values, keys, addresses and
@@ -77,8 +97,10 @@ fn items_of(alloc: Global, lines: &[Line]) -> Result<Value, AllocError> {
         open: Vec::new(alloc),
         items: Vec::new(alloc),
     };
+    let mut tested = Tested::new();
     for line in lines {
-        add_line(alloc, &mut tree, &line.what)?;
+        tested.see(&line.what);
+        add_line(alloc, &mut tree, &line.what, tested)?;
     }
     for _ in 0..tree.open.len() {
         if let Some(call) = tree.open.pop() {
@@ -89,7 +111,7 @@ fn items_of(alloc: Global, lines: &[Line]) -> Result<Value, AllocError> {
     Ok(Value::Array(items))
 }
 
-fn add_line(alloc: Global, tree: &mut Tree, what: &What) -> Result<(), AllocError> {
+fn add_line(alloc: Global, tree: &mut Tree, what: &What, tested: Tested) -> Result<(), AllocError> {
     match what {
         What::Called {
             address,
@@ -118,7 +140,8 @@ fn add_line(alloc: Global, tree: &mut Tree, what: &What) -> Result<(), AllocErro
             manner,
         } => {
             if let Some(mut open) = tree.open.pop() {
-                put_end(alloc, &mut open.call, ending, *took, *manner)?;
+                put_end(alloc, &mut open.call, ending, *took)?;
+                put_manner(alloc, &mut open.call, *manner, tested.reason(ending))?;
                 tree.close(alloc, open)?;
             }
             Ok(())
@@ -148,18 +171,31 @@ fn call_object(
     Ok(object)
 }
 
-/// Puts how a call ended, and whether its frame began.
+/// Puts how a call ended, and what it took.
 fn put_end(
     alloc: Global,
     call: &mut Members,
     ending: &Ending,
     took: Used,
-    manner: Manner,
 ) -> Result<(), AllocError> {
-    let ran = Value::Bool(manner != Manner::NotRun);
-    put(call, alloc, "ran", ran)?;
     put(call, alloc, "end", ending_value(alloc, ending)?)?;
     put_sums(alloc, call, took)
+}
+
+/// Puts whether a call ran, and why if it did not.
+fn put_manner(
+    alloc: Global,
+    call: &mut Members,
+    manner: Manner,
+    reason: &str,
+) -> Result<(), AllocError> {
+    let ran = manner != Manner::NotRun;
+    put(call, alloc, "ran", Value::Bool(ran))?;
+    if !ran {
+        let reason = Value::try_from_str(alloc, reason)?;
+        put(call, alloc, "reason", reason)?;
+    }
+    Ok(())
 }
 
 fn ending_value(alloc: Global, ending: &Ending) -> Result<Value, AllocError> {
@@ -238,6 +274,15 @@ fn event_object(alloc: Global, event: &ContractEvent) -> Result<Value, AllocErro
     Ok(Value::Object(object))
 }
 
+/// Events, each as an object.
+fn events_value(alloc: Global, events: &[ContractEvent]) -> Result<Value, AllocError> {
+    let mut list = Vec::new(alloc);
+    for event in events {
+        list.push(event_object(alloc, event)?)?;
+    }
+    Ok(Value::Array(list))
+}
+
 // ---- members
 
 /// An object that says what it is.
@@ -273,6 +318,24 @@ fn number_value(alloc: Global, number: u64) -> Result<Value, AllocError> {
     Ok(Value::String(format!(in alloc; "{number}")?))
 }
 
+/// The bytes of a call beside their limits. Other operations have none.
+fn bytes_value(alloc: Global, bytes: Option<Bytes>) -> Result<Value, AllocError> {
+    match bytes {
+        None => Ok(Value::Null),
+        Some(bytes) => {
+            let mut object = Map::new(alloc);
+            put(&mut object, alloc, "read", number_value(alloc, bytes.read)?)?;
+            let most_read = Value::from(bytes.most_read);
+            put(&mut object, alloc, "most_read", most_read)?;
+            let written = number_value(alloc, bytes.written)?;
+            put(&mut object, alloc, "written", written)?;
+            let most_written = Value::from(bytes.most_written);
+            put(&mut object, alloc, "most_written", most_written)?;
+            Ok(Value::Object(object))
+        }
+    }
+}
+
 fn address_value(alloc: Global, address: &ScAddress) -> Result<Value, AllocError> {
     let mut text = Vec::new(alloc);
     push_address(alloc, &mut text, address)?;
@@ -283,6 +346,15 @@ fn key_value(alloc: Global, key: &LedgerKey) -> Result<Value, AllocError> {
     let mut text = Vec::new(alloc);
     push_key(alloc, &mut text, key)?;
     text_value(alloc, &text)
+}
+
+/// Keys, each as text.
+fn keys_value(alloc: Global, keys: &[LedgerKey]) -> Result<Value, AllocError> {
+    let mut list = Vec::new(alloc);
+    for key in keys {
+        list.push(key_value(alloc, key)?)?;
+    }
+    Ok(Value::Array(list))
 }
 
 fn value_value(alloc: Global, value: &ScVal) -> Result<Value, AllocError> {

@@ -5,6 +5,7 @@ use crate::names::{access_name, outcome_name};
 use crate::short::{
     push_address, push_call, push_error, push_function, push_key, push_met, push_value, push_values,
 };
+use crate::tested::Tested;
 use budget_meter::Used;
 use contract_storage::{Access, Met, Outcome};
 use invoke_types::{ContractEvent, Function};
@@ -20,12 +21,41 @@ pub fn push_lines(
     lines: &[Line],
     left_out: u64,
 ) -> Result<(), AllocError> {
+    let mut tested = Tested::new();
     for line in lines {
-        push_line(alloc, out, line)?;
+        tested.see(&line.what);
+        push_line(alloc, out, line, tested)?;
     }
     if left_out > 0 {
         out.extend_from_slice(b"left out ")?;
         push_number(out, left_out, b" lines\n")?;
+    }
+    Ok(())
+}
+
+/// Appends a line for each key of an archived entry.
+pub fn push_archived(
+    alloc: Global,
+    out: &mut Vec<u8>,
+    keys: &[LedgerKey],
+) -> Result<(), AllocError> {
+    for key in keys {
+        out.extend_from_slice(b"archived ")?;
+        push_key(alloc, out, key)?;
+        out.extend_from_slice(b"\n")?;
+    }
+    Ok(())
+}
+
+/// Appends a line for each event.
+pub fn push_events(
+    alloc: Global,
+    out: &mut Vec<u8>,
+    events: &[ContractEvent],
+) -> Result<(), AllocError> {
+    for event in events {
+        push_event(alloc, out, event)?;
+        out.extend_from_slice(b"\n")?;
     }
     Ok(())
 }
@@ -37,7 +67,12 @@ fn push_indent(out: &mut Vec<u8>, depth: usize) -> Result<(), AllocError> {
     Ok(())
 }
 
-fn push_line(alloc: Global, out: &mut Vec<u8>, line: &Line) -> Result<(), AllocError> {
+fn push_line(
+    alloc: Global,
+    out: &mut Vec<u8>,
+    line: &Line,
+    tested: Tested,
+) -> Result<(), AllocError> {
     push_indent(out, line.depth)?;
     match &line.what {
         What::Called {
@@ -64,7 +99,7 @@ fn push_line(alloc: Global, out: &mut Vec<u8>, line: &Line) -> Result<(), AllocE
             took,
             manner,
         } => {
-            push_manner(out, line.depth, *manner)?;
+            push_manner(out, line.depth, *manner, tested.reason(ending))?;
             push_end(alloc, out, ending, *took)?;
         }
     }
@@ -112,13 +147,20 @@ fn push_event(alloc: Global, out: &mut Vec<u8>, event: &ContractEvent) -> Result
     push_value(alloc, out, &event.data)
 }
 
-/// What stands before the end of a call: a line if it did not run, a word if it is the frame of a constructor.
-fn push_manner(out: &mut Vec<u8>, depth: usize, manner: Manner) -> Result<(), AllocError> {
+/// What stands before the end of a call: why it did not run, or a word if it is the frame of a constructor.
+fn push_manner(
+    out: &mut Vec<u8>,
+    depth: usize,
+    manner: Manner,
+    reason: &str,
+) -> Result<(), AllocError> {
     match manner {
         Manner::Run => Ok(()),
         Manner::Constructor => out.extend_from_slice(b"frame "),
         Manner::NotRun => {
-            out.extend_from_slice(b"not run: the call failed before its frame began\n")?;
+            out.extend_from_slice(b"not run: ")?;
+            out.extend_from_slice(reason.as_bytes())?;
+            out.extend_from_slice(b"\n")?;
             push_indent(out, depth)
         }
     }
