@@ -6,9 +6,10 @@ ghost use Rattle.why_top.specs.declared.error.WhyErr.TheVariants.{NoMemory as Ou
 use edge_io::Word;
 use ledger_file::LedgerErr;
 use ledger_spec::LedgerWhy;
+use set_place::Place;
 use std::alloc::{AllocError, AllocFailed, Global};
-use text_lines::push_number;
-use xdr_core::NoMemory;
+use text_lines::{push_hex, push_number};
+use xdr_core::{NoMemory, ReadXdr};
 use xdr_spec::Why;
 
 /// Why there is no trace.
@@ -17,17 +18,44 @@ pub enum WhyErr {
     /// The words are wrong.
     Usage,
     /// The words ask for this text: the help or the version.
-    Shown { text: String },
+    Shown {
+        text: String,
+    },
     /// A call for this file failed.
-    Fault { name: Word },
+    Fault {
+        name: Word,
+    },
     /// This file has more than 2^30 bytes.
-    TooLong { name: Word },
-    Ledger { why: LedgerWhy, at: u64 },
-    Verdicts { at: u64 },
+    TooLong {
+        name: Word,
+    },
+    Ledger {
+        why: LedgerWhy,
+        at: u64,
+    },
+    Verdicts {
+        at: u64,
+    },
     /// The text of this file is no base64.
-    NotBase64 { name: Word },
-    /// The envelope's bytes are no spelling.
-    Malformed { at: u64, why: Why },
+    NotBase64 {
+        name: Word,
+    },
+    /// The bytes are no spelling of an envelope or of a set.
+    Malformed {
+        at: u64,
+        why: Why,
+    },
+    /// Two clusters of a stage of the set conflict on the key with these XDR bytes. It is the set's first conflict.
+    Conflict {
+        stage: u64,
+        a: u64,
+        b: u64,
+        key: Vec<u8>,
+    },
+    /// The set has no transaction at this place.
+    NoPlace {
+        place: Place,
+    },
     NoMemory,
 }
 
@@ -36,12 +64,13 @@ impl WhyErr {
     pub fn code(&self) -> u8 {
         match self {
             WhyErr::Shown { .. } => 0,
-            WhyErr::Malformed { .. } | WhyErr::NotBase64 { .. } => 1,
+            WhyErr::Malformed { .. } | WhyErr::NotBase64 { .. } | WhyErr::Conflict { .. } => 1,
             WhyErr::Usage => 2,
             WhyErr::Ledger { .. } | WhyErr::Verdicts { .. } => 3,
             WhyErr::Fault { .. } => 4,
             WhyErr::NoMemory => 5,
             WhyErr::TooLong { .. } => 6,
+            WhyErr::NoPlace { .. } => 7,
         }
     }
 
@@ -67,10 +96,31 @@ impl WhyErr {
                 line.extend_from_slice(b"refused at ")?;
                 push_number(&mut line, *at, name_of(*why))?;
             }
+            WhyErr::Conflict { stage, a, b, key } => {
+                push_clusters(&mut line, *stage, *a, *b)?;
+                push_hex(alloc, &mut line, key, b"\n")?;
+            }
+            WhyErr::NoPlace { place } => push_place(&mut line, *place)?,
             WhyErr::NoMemory => line.extend_from_slice(b"no memory\n")?,
         }
         Ok(line)
     }
+}
+
+/// The line of a conflict, up to the key.
+fn push_clusters(line: &mut Vec<u8>, stage: u64, a: u64, b: u64) -> Result<(), AllocError> {
+    line.extend_from_slice(b"conflict: stage ")?;
+    push_number(line, stage, b", clusters ")?;
+    push_number(line, a, b" and ")?;
+    push_number(line, b, b", key ")
+}
+
+/// The line of a place that a set does not have.
+fn push_place(line: &mut Vec<u8>, place: Place) -> Result<(), AllocError> {
+    line.extend_from_slice(b"no such place: stage ")?;
+    push_number(line, place.stage as u64, b", cluster ")?;
+    push_number(line, place.cluster as u64, b", place ")?;
+    push_number(line, place.transaction as u64, b"\n")
 }
 
 fn push_name(line: &mut Vec<u8>, before: &[u8], name: &Word) -> Result<(), AllocError> {
@@ -125,6 +175,18 @@ impl From<NoMemory> for WhyErr {
 
     fn from(_: NoMemory) -> WhyErr {
         WhyErr::NoMemory
+    }
+}
+
+impl From<ReadXdr> for WhyErr {
+    fn from(error: ReadXdr) -> WhyErr {
+        match error {
+            ReadXdr::Bad(error) => WhyErr::Malformed {
+                at: error.at,
+                why: error.why,
+            },
+            ReadXdr::NoMemory => WhyErr::NoMemory,
+        }
     }
 }
 

@@ -3,18 +3,23 @@
 
 ghost use Rattle.std.specs.Prelude.{◌≡◌};
 
+mod counted;
 mod error;
 mod explaining;
+mod over_files;
+mod placing;
 mod reading;
 mod words;
 
+pub use counted::{archived_of, bytes_of, events_of};
 use edge_io::{EdgeErr, Files, Say, Word};
-use error::WhyErr;
-pub use explaining::explain;
-use reading::{read_envelope, read_ledger, read_verdicts};
+pub use error::WhyErr;
+pub use explaining::{Run, explain, explain_over, watched};
+pub use over_files::explain_files;
+pub use placing::explain_place;
 use std::alloc::Global;
-pub use words::Form;
 use words::request_of;
+pub use words::{Form, Request, Target};
 
 /// Runs the program of these words, and prints its lines, or the line of its refusal. Returns the exit code. It stores no file.
 pub fn why<F: Files, S: Say>(alloc: Global, words: &[Word], files: &mut F, say: &mut S) -> u8
@@ -45,16 +50,5 @@ fn lines<F: Files>(alloc: Global, words: &[Word], files: &mut F) -> Result<Vec<u
     ensures { F.contents files.new ≡ F.contents files.old }
 {
     let request = request_of(alloc, words)?;
-    let ledger = read_ledger(alloc, files, &request.ledger)?;
-    let verdicts = read_verdicts(alloc, files, &request.verdicts)?;
-    let envelope = read_envelope(alloc, files, &request.tx, request.base64)?;
-    let lines = explain(
-        alloc,
-        &ledger,
-        &verdicts,
-        &envelope,
-        request.close_time,
-        request.form,
-    )?;
-    Ok(lines)
+    explain_files(alloc, files, &request)
 }

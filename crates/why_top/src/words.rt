@@ -2,9 +2,10 @@
 
 use crate::error::WhyErr;
 use clap::error::ErrorKind;
-use clap::{Arg, ArgAction, ArgMatches, Command, Error};
+use clap::{Arg, ArgAction, ArgGroup, ArgMatches, Command, Error};
 use command_words::{are_names, number_in};
 use edge_io::Word;
+use set_place::Place;
 use std::alloc::{AllocError, Global};
 
 /// How many lines of a trace are kept at most, if the words do not say.
@@ -21,14 +22,24 @@ pub struct Form {
     pub lines: usize,
 }
 
+/// What is run.
+#[derive(Clone, Copy, Debug)]
+pub enum Target {
+    /// The transaction of an envelope, on the ledger as it is.
+    Envelope,
+    /// The transaction at a place of a set, on the ledger that it meets there.
+    InSet(Place),
+}
+
 /// What the words ask for.
 #[derive(Debug, Drop)]
 pub struct Request {
-    /// The file of the transaction's envelope.
-    pub tx: Word,
+    pub target: Target,
+    /// The file of the envelope or of the set.
+    pub file: Word,
     /// Whether that file is base64 text.
     pub base64: bool,
-    /// The file of the ledger before the transaction.
+    /// The file of the ledger before the transaction, or before the set.
     pub ledger: Word,
     pub verdicts: Word,
     /// The close time of the ledger that is made, in seconds since 1970.
@@ -47,7 +58,7 @@ pub(crate) fn request_of(alloc: Global, words: &[Word]) -> Result<Request, WhyEr
 
 /// A request for files with different names.
 fn checked(request: Request) -> Result<Request, WhyErr> {
-    if are_names(&[&request.tx, &request.ledger, &request.verdicts]) {
+    if are_names(&[&request.file, &request.ledger, &request.verdicts]) {
         Ok(request)
     } else {
         Err(WhyErr::Usage)
@@ -76,19 +87,54 @@ fn command<'a>(alloc: Global) -> Result<Command<'a>, AllocError> {
         .version("1.0.0")
         .about("Runs a transaction, and shows what it did and why a call failed")
         .no_binary_name(true);
+    let command = with_targets(alloc, command)?;
     let command = with_files(alloc, command)?;
     with_forms(alloc, command)
 }
 
+/// Adds the options that say what is run: an envelope, or a place of a set.
+fn with_targets<'a>(alloc: Global, command: Command<'a>) -> Result<Command<'a>, AllocError> {
+    let tx = option(alloc, "tx", "FILE", "The transaction's envelope");
+    let set = option(alloc, "set", "FILE", "The set that has the transaction");
+    let stage = option(alloc, "stage", "NUMBER", "Its stage in the set, from 0");
+    let cluster = option(
+        alloc,
+        "cluster",
+        "NUMBER",
+        "Its cluster in the stage, from 0",
+    );
+    let place = option(alloc, "place", "NUMBER", "Its place in the cluster, from 0");
+    let set = set
+        .requires_arg("stage")?
+        .requires_arg("cluster")?
+        .requires_arg("place")?;
+    let target = ArgGroup::new(alloc, "target").arg("tx")?.arg("set")?;
+    command
+        .arg(tx)?
+        .arg(set)?
+        .arg(of_set(stage)?)?
+        .arg(of_set(cluster)?)?
+        .arg(of_set(place)?)?
+        .group(target.required(true))
+}
+
+/// An option that only a set has.
+fn of_set<'a>(option: Arg<'a>) -> Result<Arg<'a>, AllocError> {
+    option.requires_arg("set")?.conflicts_with("tx")
+}
+
 /// Adds the options of which each run has one.
 fn with_files<'a>(alloc: Global, command: Command<'a>) -> Result<Command<'a>, AllocError> {
-    let tx = option(alloc, "tx", "FILE", "The transaction's envelope");
-    let ledger = option(alloc, "ledger", "FILE", "The ledger before the transaction");
+    let ledger = option(
+        alloc,
+        "ledger",
+        "FILE",
+        "The ledger before the transaction, or the set",
+    );
     let verdicts = option(alloc, "verdicts", "FILE", "The verdicts on signatures");
     let time = "The close time of the ledger that is made";
     let close_time = option(alloc, "close-time", "SECONDS", time);
     command
-        .arg(tx.required(true))?
         .arg(ledger.required(true))?
         .arg(verdicts.required(true))?
         .arg(close_time.required(true))
@@ -97,7 +143,7 @@ fn with_files<'a>(alloc: Global, command: Command<'a>) -> Result<Command<'a>, Al
 /// Adds the options that change how a run is made and shown.
 fn with_forms<'a>(alloc: Global, command: Command<'a>) -> Result<Command<'a>, AllocError> {
     let record = flag(alloc, "record", "Take the footprint that the run needs");
-    let base64 = flag(alloc, "base64", "The envelope is base64 text");
+    let base64 = flag(alloc, "base64", "The envelope, or the set, is base64 text");
     let json = flag(alloc, "json", "Print the trace as a JSON document");
     let lines = option(
         alloc,
@@ -106,7 +152,7 @@ fn with_forms<'a>(alloc: Global, command: Command<'a>) -> Result<Command<'a>, Al
         "The most lines that are kept of the trace",
     );
     command
-        .arg(record)?
+        .arg(record.conflicts_with("set")?)?
         .arg(base64)?
         .arg(json)?
         .arg(lines.default_value(MOST_LINES))
@@ -128,8 +174,10 @@ fn flag<'a>(alloc: Global, name: &'a str, help: &'a str) -> Arg<'a> {
 }
 
 fn request_from(alloc: Global, matches: &ArgMatches<'_>) -> Result<Request, WhyErr> {
+    let (target, file) = target_from(alloc, matches)?;
     Ok(Request {
-        tx: word_of(alloc, matches, "tx")?,
+        target,
+        file,
         base64: is_set(matches, "base64"),
         ledger: word_of(alloc, matches, "ledger")?,
         verdicts: word_of(alloc, matches, "verdicts")?,
@@ -137,9 +185,22 @@ fn request_from(alloc: Global, matches: &ArgMatches<'_>) -> Result<Request, WhyE
         form: Form {
             recorded: is_set(matches, "record"),
             json: is_set(matches, "json"),
-            lines: number_of(matches, "lines")? as usize,
+            lines: index_of(matches, "lines")?,
         },
     })
+}
+
+/// What is run, and the file of it.
+fn target_from(alloc: Global, matches: &ArgMatches<'_>) -> Result<(Target, Word), WhyErr> {
+    if !matches.contains_id("set") {
+        return Ok((Target::Envelope, word_of(alloc, matches, "tx")?));
+    }
+    let place = Place {
+        stage: index_of(matches, "stage")?,
+        cluster: index_of(matches, "cluster")?,
+        transaction: index_of(matches, "place")?,
+    };
+    Ok((Target::InSet(place), word_of(alloc, matches, "set")?))
 }
 
 fn text_of<'m>(matches: &'m ArgMatches<'_>, id: &str) -> Result<&'m str, WhyErr> {
@@ -153,6 +214,11 @@ fn word_of(alloc: Global, matches: &ArgMatches<'_>, id: &str) -> Result<Word, Wh
 
 fn number_of(matches: &ArgMatches<'_>, id: &str) -> Result<u64, WhyErr> {
     number_in(text_of(matches, id)?, 0, u64::MAX).ok_or(WhyErr::Usage)
+}
+
+fn index_of(matches: &ArgMatches<'_>, id: &str) -> Result<usize, WhyErr> {
+    let number = number_of(matches, id)?;
+    Ok(number as usize)
 }
 
 fn is_set(matches: &ArgMatches<'_>, id: &str) -> bool {

@@ -1,0 +1,6 @@
+mod Counting
+mod Fitting
+mod Holding
+mod Ran
+mod Reached
+mod Seen

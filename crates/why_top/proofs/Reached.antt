@@ -1,0 +1,27 @@
+-- The last line of a run at a place of a set.
+use Rattle.std.proofs.Common.{◌≡◌, ℕ, List, Some, sym, subst}
+use Rattle.ledger_types.specs.declared.header.Header.{Header}
+use Rattle.ledger_types.specs.declared.verdicts.Verdicts.{Verdicts}
+use Rattle.tx_xdr.specs.declared.set.TxSet.{TxSet}
+use Rattle.stage_runs.specs.Maps.{LedgerMap}
+use Rattle.apply_spec.specs.Enforced.{enforced}
+use Rattle.apply_spec.specs.Runs.{running_header}
+use Rattle.apply_spec.specs.SimulationFile.{result_line}
+use Rattle.set_place.specs.Places.{met_in}
+use Rattle.set_place.specs.Reaching.{met_of}
+use Rattle.set_place.specs.declared.place.Place.{Place}
+use Rattle.set_place.specs.declared.set.Reached.{Reached}
+use Rattle.set_place.proofs.Lemmas.{applied_at}
+use Rattle.why_top.specs.Explained.{EndsIn}
+use Rattle.why_top.specs.Placed.{EndsAsReported}
+
+-- the last line of the enforced run of the transaction that was reached
+pub ends_reached : (header : Header) (verdicts : Verdicts) (entries : LedgerMap) (set : TxSet) (close_time : ℕ) (place : Place) (reached : Reached) (text : List ℕ)
+    → Some (met_of reached) ≡ met_in header verdicts entries set close_time place → reached.ledger.header ≡ header
+    → EndsIn (result_line (enforced (running_header reached.ledger.header close_time) verdicts reached.ledger.entries reached.envelope.now).result.result.outcome) text
+    → EndsAsReported header verdicts entries set close_time place text
+ends_reached header verdicts entries set close_time place reached text met same ends = record {
+  pair = (enforced (running_header header close_time) verdicts reached.ledger.entries reached.envelope.now).result;
+  at = applied_at header verdicts entries set close_time place (met_of reached) (sym met);
+  last = subst (λ (h : Header). EndsIn (result_line (enforced (running_header h close_time) verdicts reached.ledger.entries reached.envelope.now).result.result.outcome) text) same ends;
+}
