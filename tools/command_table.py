@@ -37,6 +37,26 @@ def find(table, name):
     return next((command for command in all_commands(table) if command["name"] == name), None)
 
 
+def forms(command):
+    """Returns the command in each of its forms: with its options, and with others in place of some of them."""
+    instead = command.get("instead")
+    if instead is None:
+        return [command]
+    kept = [option for option in command["options"] if option["name"] not in instead["of"]]
+    return [command, {**command, "options": [*instead["options"], *kept]}]
+
+
+def form_of(command, names):
+    """Returns the form of a command that has options of these names: the other one, if one of them is in its place alone."""
+    instead = {option["name"] for option in command.get("instead", {"options": []})["options"]}
+    return forms(command)[1 if instead.intersection(names) else 0]
+
+
+def all_options(command):
+    """Returns the options of all forms of a command."""
+    return [*command["options"], *command.get("instead", {"options": []})["options"]]
+
+
 def name_words(command):
     """Returns the words before a command's options: its name, or none if it is a program of its own."""
     return [] if "program" in command else [command["name"]]
@@ -85,10 +105,13 @@ def wrap(words, first, rest):
 
 def help_of(table, command):
     """Returns the help of one command."""
-    usage_words = ["soroban", command["name"], *map(shown, command["options"])]
-    text = wrap(usage_words, "usage: ", "    ") + f"\nIt {command['about']}.\n\n"
-    wide = max(len(shown(option).strip("[]")) for option in command["options"]) + 2
-    for option in command["options"]:
+    text = ""
+    for form in forms(command):
+        usage_words = ["soroban", command["name"], *map(shown, form["options"])]
+        text += wrap(usage_words, "       " if text else "usage: ", "    ")
+    text += f"\nIt {command['about']}.\n\n"
+    wide = max(len(shown(option).strip("[]")) for option in all_options(command)) + 2
+    for option in all_options(command):
         text += f"  {shown(option).strip('[]'):{wide}}{option['about']}{limits(option)}\n"
     return text
 
@@ -123,7 +146,8 @@ def man_page(table):
     programs = ", ".join(["soroban", table["program"], *(it["program"] for it in table["others"])])
     lines += [f"{troff(programs)} \\- {troff(table['about'])}", ".SH SYNOPSIS", ".nf"]
     for command in all_commands(table):
-        lines += [f".B soroban {command['name']}", troff(" ".join(map(shown, command["options"])))]
+        for form in forms(command):
+            lines += [f".B soroban {command['name']}", troff(" ".join(map(shown, form["options"])))]
     lines += [".B soroban help\n[COMMAND]", ".B soroban version", ".fi", ".SH DESCRIPTION"]
     lines += map(troff, table["description"])
     lines += [".PP", ".B soroban", "tests the options, the files and the close time, and then runs"]
@@ -132,7 +156,7 @@ def man_page(table):
         lines += [f".SS {command['name']}", troff(f"It {command['about']}.")]
         if "program" in command:
             lines += [f".BR {troff(command['program'])} ,", "a program of its own, takes these options without the name of the command."]
-        for option in command["options"]:
+        for option in all_options(command):
             lines += [".TP", f".B {troff(shown(option).strip('[]'))}", troff(option["about"] + limits(option))]
     lines.append(".SH EXIT STATUS")
     for code, about in table["codes"]:
@@ -155,9 +179,9 @@ def bash_completions(table):
     cases = ""
     values = ""
     for command in all_commands(table):
-        options = " ".join(f"--{option['name']}" for option in command["options"])
+        options = " ".join(f"--{option['name']}" for option in all_options(command))
         cases += f'        {command["name"]}) words="{options}" ;;\n'
-        for option in command["options"]:
+        for option in all_options(command):
             if "words" in option:
                 values += f'        {command["name"]}--{option["name"]}) words="{" ".join(option["words"])}" ;;\n'
             elif "least" in option:
@@ -227,7 +251,7 @@ def zsh_completions(table):
     text += "        help) commands+=($others) && _describe command commands ;;\n"
     for command in all_commands(table):
         text += f"        {command['name']})\n            _arguments \\\n"
-        rows = [zsh_quoted(f"--{it['name']}[{it['about']}]{zsh_action(it)}") for it in command["options"]]
+        rows = [zsh_quoted(f"--{it['name']}[{it['about']}]{zsh_action(it)}") for it in all_options(command)]
         text += " \\\n".join(" " * 16 + row for row in rows) + "\n            ;;\n"
     return text + '    esac\n}\n\n_soroban "$@"\n'
 
@@ -336,7 +360,7 @@ def check_program(table, program):
 
 def check_other(command, program):
     """Returns what a command that is a program of its own does otherwise than the table says."""
-    return check_commands([command], ([], ["help"], [command["name"]]), program)
+    return check_commands(forms(command), ([], ["help"], [command["name"]]), program)
 
 
 def check_readme(table):
@@ -344,7 +368,7 @@ def check_readme(table):
     text = README.read_text(encoding="utf-8")
     programs = tuple(f"{name} " for name in (table["program"], *(it["program"] for it in table["others"])))
     lines = [line for line in text.split("\n") if line.startswith(programs)]
-    wanted = [usage(table, command) for command in all_commands(table)]
+    wanted = [usage(table, form) for command in all_commands(table) for form in forms(command)]
     return [f"README.md has no line: {line}" for line in wanted if line not in lines] + [
         f"README.md has a line that tools/commands.json does not have: {line}" for line in lines if line not in wanted
     ]

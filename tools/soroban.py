@@ -65,9 +65,15 @@ def version(table):
     return text + (f"commit {facts['commit']}\n" if facts else "")
 
 
+def form_of(command, words):
+    """Returns the form of a command that the words are of."""
+    return command_table.form_of(command, [word[2:].partition("=")[0] for word in words if word.startswith("--")])
+
+
 def read_options(command, words):
     """Returns the value of each option, and of a flag True. Words are read as the program reads them."""
-    known = {option["name"]: option for option in command["options"]}
+    named = {option["name"]: option for option in command_table.all_options(command)}
+    known = {option["name"]: option for option in form_of(command, words)["options"]}
     values = {}
     rest = iter(words)
     for word in rest:
@@ -76,8 +82,10 @@ def read_options(command, words):
         if not word.startswith("--"):
             reject(f"{word} is no option")
         name, equals, value = word[2:].partition("=")
+        if name not in named:
+            reject(f"{command['name']} has no option --{name}{near(name, named)}")
         if name not in known:
-            reject(f"{command['name']} has no option --{name}{near(name, known)}")
+            reject(f"--{name} does not go with the other options; see soroban help {command['name']}")
         if name in values:
             reject(f"--{name} stands there twice")
         if command_table.is_flag(known[name]):
@@ -207,10 +215,11 @@ def main(words):
         sys.stdout.write(command_table.help_of(table, command))
         return
     values = read_options(command, words[1:])
-    for option in command["options"]:
+    options = command_table.all_options(command)
+    for option in options:
         if not command_table.is_flag(option) and option["name"] in values:
             check_value(option, values[option["name"]])
-    check_files(command["options"], values)
+    check_files(options, values)
     check_times(values)
     path = program(command.get("program", table["program"]))
     try:

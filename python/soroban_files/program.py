@@ -6,7 +6,7 @@ import os
 import re
 import subprocess
 import tempfile
-from typing import Dict, List, NamedTuple, Optional
+from typing import Dict, List, NamedTuple, Optional, Tuple
 
 from . import schema
 from .xdr import Json
@@ -151,10 +151,32 @@ class Program:
 
         The footprint is the one that the run needs, or the declared one. Raises `NoProgram` if soroban_why is not there.
         """
+        words = ["--close-time", str(close_time)] + ["--record"] * (not is_declared) + ["--json"] * is_json
+        return self.told(words, {"tx": envelope, "ledger": ledger, "verdicts": verdicts})
+
+    def told(self, words: List[str], files: Dict[str, bytes]) -> str:
+        """Returns what soroban_why says. Raises `NoProgram` if it is not there."""
         if not can_tell_why():
             raise NoProgram(f"there is no program at {why_path()}: build it, or name it in {VARIABLE_WHY}")
-        words = ["--close-time", str(close_time)] + ["--record"] * (not is_declared) + ["--json"] * is_json
-        return self.done(words, {"tx": envelope, "ledger": ledger, "verdicts": verdicts}, why_path()).said
+        return self.done(words, files, why_path()).said
+
+    def why_at(
+        self,
+        tx_set: bytes,
+        place: Tuple[int, int, int],
+        ledger: bytes,
+        verdicts: bytes,
+        close_time: int,
+        is_json: bool = False,
+    ) -> str:
+        """Returns what soroban_why says of the run of the transaction at a place of a set: its stage, cluster and place, from 0.
+
+        Raises `Refused` if the set has a conflict or no such place, and `NoProgram` if soroban_why is not there.
+        """
+        words = ["--close-time", str(close_time)] + ["--json"] * is_json
+        for name, number in zip(("stage", "cluster", "place"), place):
+            words += [f"--{name}", str(number)]
+        return self.told(words, {"set": tx_set, "ledger": ledger, "verdicts": verdicts})
 
     def trace(self, envelope: bytes, ledger: bytes, verdicts: bytes, close_time: int, is_declared: bool = False) -> Json:
         """Returns the document of `why`, decoded."""

@@ -88,6 +88,7 @@ class TableTest(unittest.TestCase):
         self.assertEqual(self.complete("soroban", "show", "--kind", "set", "--"), ["--file", "--base64"])
         self.assertEqual(self.complete("soroban", "help", "m"), ["migrate"])
         options = ["--tx", "--ledger", "--verdicts", "--close-time", "--record", "--lines", "--json", "--base64"]
+        options += ["--set", "--stage", "--cluster", "--place"]
         self.assertEqual(self.complete("soroban", "why", "--"), options)
         self.assertEqual(self.complete("soroban_why", "--"), options)
         self.assertEqual(self.complete("soroban_why", "--record", "--"), [it for it in options if it != "--record"])
@@ -146,6 +147,15 @@ class WrapperTest(unittest.TestCase):
         self.assertEqual(self.soroban("why", *words), (0, " ".join(words) + "\n", ""))
         self.assert_rejected(["why", *words[2:]], "why needs --tx FILE")
         self.assert_rejected(["why", *words, "--out", "o"], "why has no option --out")
+
+    def test_why_of_a_set(self) -> None:
+        files = ["--set", "set", "--ledger", "ledger", "--verdicts", "verdicts", "--close-time", "1000"]
+        words = [*files, "--stage", "1", "--cluster", "0", "--place=2"]
+        self.assertEqual(self.soroban("why", *words), (0, " ".join(words) + "\n", ""))
+        self.assert_rejected(["why", *words[:-1]], "why needs --place N")
+        self.assert_rejected(["why", *words, "--record"], "--record does not go with the other options")
+        self.assert_rejected(["why", *words, "--tx", "set"], "--tx does not go with the other options")
+        self.assertIn("--set FILE --stage N", self.soroban("help", "why")[1])
 
     def test_help(self) -> None:
         self.assertIn("--close-time SECONDS", self.soroban("help", "apply")[1])
