@@ -7,7 +7,7 @@ use crate::credentials::Credentials;
 use crate::invocation::Invocation;
 use std::alloc::{AllocError, Global};
 use value_xdr::Xdr;
-use xdr_core::{Cursor, NoMemory, Out, ReadXdr, add_sizes};
+use xdr_core::{NoMemory, Out, ReadXdr, Words, add_sizes};
 
 /// An authorisation entry: credentials, and the tree of invocations that they authorise (the XDR files'
 /// `SorobanAuthorizationEntry`).
@@ -34,7 +34,7 @@ impl Clone for AuthEntry {
 impl Xdr for AuthEntry {
     ghost format = { auth_entry_format };
 
-    fn read_parts(alloc: Global, input: &mut Cursor<'_>) -> Result<AuthEntry, ReadXdr> {
+    fn read_parts<W: Words>(alloc: Global, input: &mut W) -> Result<AuthEntry, ReadXdr> {
         let credentials = Credentials::read(alloc, input)?;
         let root_invocation = Invocation::read(alloc, input)?;
         Ok(AuthEntry {

@@ -1,6 +1,6 @@
 //! Credentials of authorisation entries.
 
-ghost use Rattle.std.specs.Prelude.{◌≡◌};
+ghost use Rattle.std.specs.Prelude.{◌≡◌, IfOk};
 ghost use Rattle.xdr_core.specs.Reads.{Reads};
 ghost use Rattle.auth_types.specs.Credentials.{number, kind_of, kind, type_format, type_lawful, arms, address_credentials_format};
 ghost use Rattle.auth_types.specs.Credentials.{address_credentials_lawful, credentials_format, credentials_lawful};
@@ -8,7 +8,7 @@ ghost use Rattle.auth_types.specs.Credentials.{address_credentials_lawful, crede
 use std::alloc::{AllocError, Global};
 use value_types::{ScAddress, ScVal};
 use value_xdr::{Xdr, named};
-use xdr_core::{Cursor, NoMemory, Out, ReadXdr, add_sizes};
+use xdr_core::{NoMemory, Out, ReadXdr, Words, add_sizes};
 
 /// The types of credentials (the XDR files' `SorobanCredentialsType`).
 #[derive(Clone, Copy, Debug, PartialEq, Eq)]
@@ -44,7 +44,7 @@ impl CredentialsType {
 impl Xdr for CredentialsType {
     ghost format = { type_format };
 
-    fn read_parts(_alloc: Global, input: &mut Cursor<'_>) -> Result<CredentialsType, ReadXdr> {
+    fn read_parts<W: Words>(_alloc: Global, input: &mut W) -> Result<CredentialsType, ReadXdr> {
         let place = input.place();
         named(CredentialsType::from_number(input.u32()?), place)
     }
@@ -90,7 +90,7 @@ impl Clone for AddressCredentials {
 impl Xdr for AddressCredentials {
     ghost format = { address_credentials_format };
 
-    fn read_parts(alloc: Global, input: &mut Cursor<'_>) -> Result<AddressCredentials, ReadXdr> {
+    fn read_parts<W: Words>(alloc: Global, input: &mut W) -> Result<AddressCredentials, ReadXdr> {
         let address = ScAddress::read(alloc, input)?;
         let nonce = i64::read(alloc, input)?;
         let signature_expiration_ledger = u32::read(alloc, input)?;
@@ -151,12 +151,14 @@ impl Credentials {
     }
 }
 
-fn read_arm(
+#[tactic(auto, unfolding(crate::specs::Credentials::credentials_format))]
+fn read_arm<W: Words>(
     alloc: Global,
-    input: &mut Cursor<'_>,
+    input: &mut W,
     kind: CredentialsType,
 ) -> Result<Credentials, ReadXdr>
-    ensures { Reads (arms kind).read input.old input.new result }
+    ensures value { Reads (arms kind).read (W.seen input.old) (W.seen input.new) result }
+    ensures fits { IfOk result credentials_format.fits }
 {
     match kind {
         CredentialsType::SourceAccount => Ok(Credentials::SourceAccount),
@@ -170,7 +172,7 @@ fn read_arm(
 impl Xdr for Credentials {
     ghost format = { credentials_format };
 
-    fn read_parts(alloc: Global, input: &mut Cursor<'_>) -> Result<Credentials, ReadXdr> {
+    fn read_parts<W: Words>(alloc: Global, input: &mut W) -> Result<Credentials, ReadXdr> {
         let kind = CredentialsType::read(alloc, input)?;
         read_arm(alloc, input, kind)
     }

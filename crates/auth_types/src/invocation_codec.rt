@@ -7,7 +7,7 @@ use crate::invocation::Invocation;
 use crate::{reading, writing};
 use std::alloc::Global;
 use value_xdr::Xdr;
-use xdr_core::{Cursor, NoMemory, Out, ReadXdr};
+use xdr_core::{NoMemory, Out, ReadXdr, Words};
 
 /// The number of levels below the root of a tree.
 const LEVELS_BELOW: u32 = 99;
@@ -16,7 +16,7 @@ const LEVELS_BELOW: u32 = 99;
 impl Xdr for Invocation {
     ghost format = { invocation_format };
 
-    fn read_parts(alloc: Global, input: &mut Cursor<'_>) -> Result<Invocation, ReadXdr> {
+    fn read_parts<W: Words>(alloc: Global, input: &mut W) -> Result<Invocation, ReadXdr> {
         reading::read_invocation(alloc, input, LEVELS_BELOW)
     }
 

@@ -8,17 +8,18 @@ ghost use Rattle.auth_types.specs.Invocation.{one_level, subs_format};
 use crate::invocation::{Invocation, Invocations};
 use invoke_types::Function;
 use std::alloc::Global;
-use value_xdr::Xdr;
-use xdr_core::{Cursor, ReadXdr, Why, XdrErr};
+use value_xdr::{Xdr, list_for};
+use xdr_core::{ReadXdr, Why, Words, XdrErr};
 
 /// Reads an invocation with at most `left` levels below it.
 #[cycle(read)]
-pub fn read_invocation(
+pub fn read_invocation<W: Words>(
     alloc: Global,
-    input: &mut Cursor<'_>,
+    input: &mut W,
     left: u32,
 ) -> Result<Invocation, ReadXdr>
-    ensures { Reads (one_level (subs_format left)).read input.old input.new result }
+    ensures value { Reads (one_level (subs_format left)).read (W.seen input.old) (W.seen input.new) result }
+    ensures fits { IfOk result (one_level (subs_format left)).fits }
 {
     let function = Function::read(alloc, input)?;
     let sub_invocations = read_subs(alloc, input, left)?;
@@ -30,21 +31,23 @@ pub fn read_invocation(
 
 /// Reads the sub-invocations of an invocation with at most `left` levels below it.
 #[cycle(read)]
-fn read_subs(alloc: Global, input: &mut Cursor<'_>, left: u32) -> Result<Invocations, ReadXdr>
-    ensures { Reads (subs_format left).read input.old input.new result }
+fn read_subs<W: Words>(alloc: Global, input: &mut W, left: u32) -> Result<Invocations, ReadXdr>
+    ensures value { Reads (subs_format left).read (W.seen input.old) (W.seen input.new) result }
+    ensures fits { IfOk result (subs_format left).fits }
 {
     let count = read_count(input, left)?;
-    let mut items = Vec::new(alloc);
+    let mut items = list_for(alloc, count)?;
     for _ in 0..count {
         let item = read_invocation(alloc, input, left - 1)?;
         items.push(item)?;
     }
+    items.shrink_to_fit();
     Ok(Invocations::from_vec(items))
 }
 
 /// Reads the number of sub-invocations, which is 0 at the last level.
-fn read_count(input: &mut Cursor<'_>, left: u32) -> Result<u32, ReadXdr>
-    ensures count { Reads (count_at left) input.old input.new result }
+fn read_count<W: Words>(input: &mut W, left: u32) -> Result<u32, ReadXdr>
+    ensures count { Reads (count_at left) (W.seen input.old) (W.seen input.new) result }
     ensures none { IfOk result (λ n. left ≡ 0 → n ≡ 0) }
 {
     let place = input.place();

@@ -9,7 +9,7 @@ use Rattle.xdr_spec.specs.declared.XdrErr.{XdrErr}
 use Rattle.xdr_spec.proofs.Lemmas.{decoded_refuses, decoded_spells, not_both, one_refusal, spells_decoded}
 use Rattle.xdr_core.specs.Reads.{IsRefusal}
 use Rattle.xdr_core.specs.declared.error.ReadXdr.{ReadXdr}
-use Rattle.xdr_core.specs.declared.error.ReadXdr.TheVariants.{Bad, NoMemory}
+use Rattle.xdr_core.specs.declared.error.ReadXdr.TheVariants.{Bad, NoMemory, Stopped}
 use Rattle.value_types.specs.Datum.{bytes}
 use Rattle.value_types.specs.Formats.{scval_format}
 use Rattle.value_types.specs.Views.{datum}
@@ -39,6 +39,7 @@ pub decodes : (x : List ℕ) (r : Result ScVal ReadXdr) → IsHosted (bytes x) �
 decodes x (Ok v) h s f = spells_decoded scval_format scval_lawful v x s
 decodes x (Err (Bad e)) h s f = by_outcome x e (decoded scval_format x) (hosted_are_bytes x h) f refl
 decodes x (Err NoMemory) h s f = tt
+decodes x (Err Stopped) h s f = f
 
 pub bounded : (x : List ℕ) (r : Result ScVal ReadXdr) → IfOk r (λ v. Spells scval_format v x) → IfOk r (λ v. IsBounded (datum v))
 bounded x (Ok v) s = spelled_bounded v s.fits

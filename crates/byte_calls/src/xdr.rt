@@ -62,7 +62,8 @@ fn read_value(alloc: Global, bytes: &[u8]) -> Result<Answer, ValueErr>
     ensures made { IsMadeIfOk result }
 {
     match decoded_value(alloc, bytes) {
-        Err(ReadXdr::NoMemory) => Err(ValueErr::NoMemory),
+        // Bytes in memory never stop.
+        Err(ReadXdr::NoMemory | ReadXdr::Stopped) => Err(ValueErr::NoMemory),
         Err(ReadXdr::Bad(_)) => Err(INVALID_VALUE),
         Ok(value) => {
             entry(&value)?;

@@ -1,3 +1,4 @@
+mod Among
 mod Back
 mod Fitting
 mod Forward

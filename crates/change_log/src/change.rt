@@ -1,6 +1,6 @@
 //! Changes of entries.
 
-ghost use Rattle.std.specs.Prelude.{◌≡◌};
+ghost use Rattle.std.specs.Prelude.{◌≡◌, IfOk};
 ghost use Rattle.xdr_core.specs.Reads.{Reads};
 ghost use Rattle.change_log.specs.Change.{kind, number, kind_of, type_format, type_lawful, arms, change_format, change_lawful};
 
@@ -8,7 +8,7 @@ use crate::entry::LoggedEntry;
 use ledger_types::LedgerKey;
 use std::alloc::Global;
 use value_xdr::{Xdr, named};
-use xdr_core::{Cursor, NoMemory, Out, ReadXdr, add_sizes};
+use xdr_core::{NoMemory, Out, ReadXdr, Words, add_sizes};
 
 /// The types of changes (`LedgerEntryChangeType`).
 #[derive(Clone, Copy, Debug, PartialEq, Eq)]
@@ -50,9 +50,9 @@ impl LedgerEntryChangeType {
 impl Xdr for LedgerEntryChangeType {
     ghost format = { type_format };
 
-    fn read_parts(
+    fn read_parts<W: Words>(
         _alloc: Global,
-        input: &mut Cursor<'_>,
+        input: &mut W,
     ) -> Result<LedgerEntryChangeType, ReadXdr> {
         let place = input.place();
         named(LedgerEntryChangeType::from_number(input.u32()?), place)
@@ -96,12 +96,14 @@ impl LedgerEntryChange {
     }
 }
 
-fn read_arm(
+#[tactic(auto, unfolding(crate::specs::Change::change_format))]
+fn read_arm<W: Words>(
     alloc: Global,
-    input: &mut Cursor<'_>,
+    input: &mut W,
     kind: LedgerEntryChangeType,
 ) -> Result<LedgerEntryChange, ReadXdr>
-    ensures { Reads (arms kind).read input.old input.new result }
+    ensures value { Reads (arms kind).read (W.seen input.old) (W.seen input.new) result }
+    ensures fits { IfOk result change_format.fits }
 {
     match kind {
         LedgerEntryChangeType::Created => {
@@ -123,7 +125,7 @@ fn read_arm(
 impl Xdr for LedgerEntryChange {
     ghost format = { change_format };
 
-    fn read_parts(alloc: Global, input: &mut Cursor<'_>) -> Result<LedgerEntryChange, ReadXdr> {
+    fn read_parts<W: Words>(alloc: Global, input: &mut W) -> Result<LedgerEntryChange, ReadXdr> {
         let kind = LedgerEntryChangeType::read(alloc, input)?;
         read_arm(alloc, input, kind)
     }

@@ -1,6 +1,6 @@
 //! The entries of a change log.
 
-ghost use Rattle.std.specs.Prelude.{◌≡◌, true};
+ghost use Rattle.std.specs.Prelude.{◌≡◌, true, IfOk};
 ghost use Rattle.xdr_core.specs.Reads.{Reads};
 ghost use Rattle.change_log.specs.Entry.{kind, modified, allows, arms, body_format, logged_format, logged_lawful};
 
@@ -9,7 +9,7 @@ use ledger_types::{
 };
 use std::alloc::Global;
 use value_xdr::{Xdr, read_head};
-use xdr_core::{Cursor, NoMemory, Out, ReadXdr, Why, XdrErr, add_sizes};
+use xdr_core::{NoMemory, Out, ReadXdr, Why, Words, XdrErr, add_sizes};
 
 /// The number of an empty extension point.
 const NO_EXTENSION: u32 = 0;
@@ -64,14 +64,17 @@ fn allows(last_modified: u32, kind: LedgerEntryType) -> bool
 }
 
 /// Reads what follows the type of an entry.
-fn read_arm(
+#[tactic(auto, unfolding(crate::specs::Entry::body_format))]
+fn read_arm<W: Words>(
     alloc: Global,
-    input: &mut Cursor<'_>,
+    input: &mut W,
     last_modified: u32,
     kind: LedgerEntryType,
 ) -> Result<LoggedEntry, ReadXdr>
     requires { allows last_modified kind ≡ true }
-    ensures { Reads (arms last_modified kind).read input.old input.new result }
+    ensures value { Reads (arms last_modified kind).read (W.seen input.old) (W.seen input.new) result }
+    ensures fits { IfOk result (body_format last_modified).fits }
+    ensures of_ledger { IfOk result (λ entry. modified entry ≡ last_modified) }
 {
     match kind {
         LedgerEntryType::ContractData => {
@@ -101,12 +104,14 @@ fn read_arm(
 
 /// Reads what follows the last modified ledger of an entry.
 #[tactic(auto, unfolding(crate::specs::Entry::body_format, ledger_types::specs::EntryType::type_format))]
-fn read_body(
+fn read_body<W: Words>(
     alloc: Global,
-    input: &mut Cursor<'_>,
+    input: &mut W,
     last_modified: u32,
 ) -> Result<LoggedEntry, ReadXdr>
-    ensures { Reads (body_format last_modified).read input.old input.new result }
+    ensures value { Reads (body_format last_modified).read (W.seen input.old) (W.seen input.new) result }
+    ensures fits { IfOk result (body_format last_modified).fits }
+    ensures of_ledger { IfOk result (λ entry. modified entry ≡ last_modified) }
 {
     let place = input.place();
     let kind = LedgerEntryType::read(alloc, input)?;
@@ -124,7 +129,7 @@ impl Xdr for LoggedEntry {
     ghost format = { logged_format };
 
     #[tactic(auto, unfolding(crate::specs::Entry::logged_format, xdr_spec::specs::Format::number32))]
-    fn read_parts(alloc: Global, input: &mut Cursor<'_>) -> Result<LoggedEntry, ReadXdr> {
+    fn read_parts<W: Words>(alloc: Global, input: &mut W) -> Result<LoggedEntry, ReadXdr> {
         let last_modified = u32::read(alloc, input)?;
         read_body(alloc, input, last_modified)
     }

@@ -10,7 +10,7 @@ use crate::change::LedgerEntryChange;
 use std::alloc::Global;
 use value_types::{Blob, Items};
 use value_xdr::{Xdr, decode, encode};
-use xdr_core::{Cursor, NoMemory, Out, ReadXdr, add_sizes};
+use xdr_core::{NoMemory, Out, ReadXdr, Words, add_sizes};
 
 /// The changes of a transaction, or of the end of a stage.
 pub type Changes = Items<LedgerEntryChange, 4294967295>;
@@ -28,7 +28,7 @@ pub struct LoggedStage {
 impl Xdr for LoggedStage {
     ghost format = { stage_format };
 
-    fn read_parts(alloc: Global, input: &mut Cursor<'_>) -> Result<LoggedStage, ReadXdr> {
+    fn read_parts<W: Words>(alloc: Global, input: &mut W) -> Result<LoggedStage, ReadXdr> {
         let transactions = Items::<Changes, 4294967295>::read(alloc, input)?;
         let end = Changes::read(alloc, input)?;
         Ok(LoggedStage { transactions, end })
@@ -62,7 +62,7 @@ pub struct Log {
 impl Xdr for Log {
     ghost format = { log_format };
 
-    fn read_parts(alloc: Global, input: &mut Cursor<'_>) -> Result<Log, ReadXdr> {
+    fn read_parts<W: Words>(alloc: Global, input: &mut W) -> Result<Log, ReadXdr> {
         let old_seq = u32::read(alloc, input)?;
         let old_close_time = u64::read(alloc, input)?;
         let new_close_time = u64::read(alloc, input)?;

@@ -29,6 +29,7 @@ pub fn spelled<T: Drop>(read: Result<T, ReadXdr>, what: &'static str) -> Result<
 pub fn unread(error: ReadXdr, what: &'static str) -> CaseErr {
     match error {
         ReadXdr::Bad(_) => CaseErr::Lacks(what),
-        ReadXdr::NoMemory => CaseErr::NoMemory,
+        // Bytes in memory never stop.
+        ReadXdr::NoMemory | ReadXdr::Stopped => CaseErr::NoMemory,
     }
 }

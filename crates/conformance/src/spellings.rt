@@ -93,7 +93,8 @@ pub fn written<T: Xdr>(alloc: Global, bytes: &[u8], value: &T) -> Result<Spellin
 pub fn refused(error: ReadXdr) -> Result<Spelling, CaseErr> {
     match error {
         ReadXdr::Bad(error) => Ok(Spelling::Refused(error)),
-        ReadXdr::NoMemory => Err(CaseErr::NoMemory),
+        // Bytes in memory never stop.
+        ReadXdr::NoMemory | ReadXdr::Stopped => Err(CaseErr::NoMemory),
     }
 }
 

@@ -28,6 +28,8 @@ pub struct MemFiles {
     counts: [u64; 8],
     calls: u64,
     failing: Vec<u64>,
+    // How many bytes a piece may have beyond its first.
+    beyond: usize,
 }
 
 impl MemFiles {
@@ -47,6 +49,7 @@ impl MemFiles {
             counts: [0; 8],
             calls: 0,
             failing,
+            beyond: usize::MAX,
         }
     }
 
@@ -57,6 +60,14 @@ impl MemFiles {
         ensures same { IsSameBesides self.old self.new }
     {
         keep(self.alloc, &mut self.stored, name, bytes)
+    }
+
+    /// Lets each piece have at most so many bytes, but one in any case.
+    pub fn cut(&mut self, most: usize)
+        ensures contents { contents_of self.new ≡ contents_of self.old }
+        ensures same { IsSameBesides self.old self.new }
+    {
+        self.beyond = most.saturating_sub(1);
     }
 
     /// The bytes of a file.
@@ -107,7 +118,7 @@ impl Files for MemFiles {
             return Err(Failed);
         }
         match find_bytes(&self.stored, name) {
-            Some(bytes) => Ok(copy_from(bytes, at as usize, buf)),
+            Some(bytes) => Ok(copy_from(bytes, at as usize, self.beyond, buf)),
             None => {
                 raise(&mut self.counts, file);
                 Err(Failed)
@@ -156,8 +167,8 @@ fn find_bytes<'a>(stored: &'a [Stored], name: &Word) -> Option<&'a [u8]>
     None
 }
 
-/// Copies the bytes from an offset, as many as fit, and returns their number.
-fn copy_from(bytes: &[u8], at: usize, buf: &mut [u8]) -> usize
+/// Copies the bytes from an offset, as many as fit but at most so many beyond the first, and returns their number.
+fn copy_from(bytes: &[u8], at: usize, beyond: usize, buf: &mut [u8]) -> usize
     ensures within { result ≤ length buf.new }
     ensures piece { IsPiece bytes.now at buf.new result }
 {
@@ -165,7 +176,7 @@ fn copy_from(bytes: &[u8], at: usize, buf: &mut [u8]) -> usize
         return 0;
     }
     let rest = &bytes[at..];
-    let n = rest.len().min(buf.len());
+    let n = rest.len().min(buf.len()).min(beyond.saturating_add(1));
     buf[..n].copy_from_slice(&rest[..n]);
     n
 }

@@ -1,6 +1,6 @@
 //! The versions of ledger files.
 
-ghost use Rattle.std.specs.Prelude.{◌≡◌, ◌++◌, length, OnOk, OnErr};
+ghost use Rattle.std.specs.Prelude.{◌≡◌, ◌++◌, length, OnOk, OnErr, IfOk};
 ghost use Rattle.xdr_core.specs.Reads.{Reads};
 ghost use Rattle.xdr_core.specs.Sizes.{capped};
 ghost use Rattle.xdr_core.specs.Writes.{StartsWith};
@@ -8,7 +8,7 @@ ghost use Rattle.file_version.specs.FileVersion.{number, version_of, version_for
 
 use std::alloc::Global;
 use value_xdr::Xdr;
-use xdr_core::{Cursor, NoMemory, Out, ReadXdr, Why, XdrErr};
+use xdr_core::{NoMemory, Out, ReadXdr, Why, Words, XdrErr};
 
 /// The protocol of a ledger whose file does not name one.
 const PROTOCOL_OF_VERSION_1: u32 = 23;
@@ -49,7 +49,7 @@ impl FileVersion {
 impl Xdr for FileVersion {
     ghost format = { version_format };
 
-    fn read_parts(_alloc: Global, input: &mut Cursor<'_>) -> Result<FileVersion, ReadXdr> {
+    fn read_parts<W: Words>(_alloc: Global, input: &mut W) -> Result<FileVersion, ReadXdr> {
         let place = input.place();
         let number = input.u32()?;
         FileVersion::from_number(number).ok_or(ReadXdr::Bad(XdrErr {
@@ -69,13 +69,14 @@ impl Xdr for FileVersion {
     ghost lawful = { version_lawful };
 }
 
-/// Reads the protocol of a file of this version. After an error the cursor may stand anywhere.
-pub fn read_protocol(
+/// Reads the protocol of a file of this version. After an error the source may stand anywhere.
+pub fn read_protocol<W: Words>(
     alloc: Global,
-    input: &mut Cursor<'_>,
+    input: &mut W,
     version: FileVersion,
 ) -> Result<u32, ReadXdr>
-    ensures { Reads (protocol_format version).read input.old input.new result }
+    ensures value { Reads (protocol_format version).read (W.seen input.old) (W.seen input.new) result }
+    ensures fits { IfOk result (protocol_format version).fits }
 {
     match version {
         FileVersion::V1 => Ok(PROTOCOL_OF_VERSION_1),

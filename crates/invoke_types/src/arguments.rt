@@ -9,7 +9,7 @@ use crate::values::clone_values;
 use std::alloc::{AllocError, Global};
 use value_types::{Bytes, Executable, Items, ScAddress, ScVal};
 use value_xdr::Xdr;
-use xdr_core::{Cursor, NoMemory, Out, ReadXdr, add_sizes};
+use xdr_core::{NoMemory, Out, ReadXdr, Words, add_sizes};
 
 /// A call of a contract's function (the XDR files' `InvokeContractArgs`).
 #[derive(Drop)]
@@ -38,7 +38,7 @@ impl Clone for InvokeContractArgs {
 impl Xdr for InvokeContractArgs {
     ghost format = { invoke_format };
 
-    fn read_parts(alloc: Global, input: &mut Cursor<'_>) -> Result<InvokeContractArgs, ReadXdr> {
+    fn read_parts<W: Words>(alloc: Global, input: &mut W) -> Result<InvokeContractArgs, ReadXdr> {
         let contract = ScAddress::read(alloc, input)?;
         let function = Bytes::<32>::read(alloc, input)?;
         let args = Items::<ScVal, 4294967295>::read(alloc, input)?;
@@ -88,7 +88,7 @@ impl Copy for CreateContractArgs {}
 impl Xdr for CreateContractArgs {
     ghost format = { create_format };
 
-    fn read_parts(alloc: Global, input: &mut Cursor<'_>) -> Result<CreateContractArgs, ReadXdr> {
+    fn read_parts<W: Words>(alloc: Global, input: &mut W) -> Result<CreateContractArgs, ReadXdr> {
         let preimage = Preimage::read(alloc, input)?;
         let executable = Executable::read(alloc, input)?;
         Ok(CreateContractArgs {
@@ -136,7 +136,7 @@ impl Clone for CreateContractArgsV2 {
 impl Xdr for CreateContractArgsV2 {
     ghost format = { create_v2_format };
 
-    fn read_parts(alloc: Global, input: &mut Cursor<'_>) -> Result<CreateContractArgsV2, ReadXdr> {
+    fn read_parts<W: Words>(alloc: Global, input: &mut W) -> Result<CreateContractArgsV2, ReadXdr> {
         let preimage = Preimage::read(alloc, input)?;
         let executable = Executable::read(alloc, input)?;
         let constructor_args = Items::<ScVal, 4294967295>::read(alloc, input)?;

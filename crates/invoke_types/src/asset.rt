@@ -1,6 +1,6 @@
 //! Assets.
 
-ghost use Rattle.std.specs.Prelude.{◌≡◌, ⊤, true};
+ghost use Rattle.std.specs.Prelude.{◌≡◌, ⊤, true, IfOk};
 ghost use Rattle.xdr_core.specs.Reads.{Reads};
 ghost use Rattle.invoke_types.specs.Asset.{is_asset, kind, arms, asset_format, asset_lawful};
 
@@ -8,7 +8,7 @@ use ledger_types::{AssetCode4, AssetCode12, AssetType};
 use std::alloc::{AllocError, Global};
 use value_types::AccountId;
 use value_xdr::Xdr;
-use xdr_core::{Cursor, NoMemory, Out, ReadXdr, Why, XdrErr, add_sizes};
+use xdr_core::{NoMemory, Out, ReadXdr, Why, Words, XdrErr, add_sizes};
 
 /// An asset of the network (the XDR files' `Asset`).
 #[derive(Debug)]
@@ -52,9 +52,11 @@ impl Asset {
     }
 }
 
-fn read_arm(alloc: Global, input: &mut Cursor<'_>, kind: AssetType) -> Result<Asset, ReadXdr>
+#[tactic(auto, unfolding(crate::specs::Asset::asset_format))]
+fn read_arm<W: Words>(alloc: Global, input: &mut W, kind: AssetType) -> Result<Asset, ReadXdr>
     requires { is_asset kind ≡ true }
-    ensures { Reads (arms kind).read input.old input.new result }
+    ensures value { Reads (arms kind).read (W.seen input.old) (W.seen input.new) result }
+    ensures fits { IfOk result asset_format.fits }
 {
     match kind {
         AssetType::Native => Ok(Asset::Native),
@@ -76,7 +78,7 @@ fn read_arm(alloc: Global, input: &mut Cursor<'_>, kind: AssetType) -> Result<As
 impl Xdr for Asset {
     ghost format = { asset_format };
 
-    fn read_parts(alloc: Global, input: &mut Cursor<'_>) -> Result<Asset, ReadXdr> {
+    fn read_parts<W: Words>(alloc: Global, input: &mut W) -> Result<Asset, ReadXdr> {
         let place = input.place();
         let kind = AssetType::read(alloc, input)?;
         if kind == AssetType::PoolShare {

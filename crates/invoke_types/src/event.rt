@@ -7,7 +7,7 @@ use crate::values::clone_values;
 use std::alloc::{AllocError, Global};
 use value_types::{Hash, Items, ScVal};
 use value_xdr::{Xdr, named, read_head};
-use xdr_core::{Cursor, NoMemory, Out, ReadXdr, add_sizes};
+use xdr_core::{NoMemory, Out, ReadXdr, Words, add_sizes};
 
 /// The number of an empty extension point.
 const NO_EXTENSION: u32 = 0;
@@ -55,7 +55,7 @@ impl ContractEventType {
 impl Xdr for ContractEventType {
     ghost format = { type_format };
 
-    fn read_parts(_alloc: Global, input: &mut Cursor<'_>) -> Result<ContractEventType, ReadXdr> {
+    fn read_parts<W: Words>(_alloc: Global, input: &mut W) -> Result<ContractEventType, ReadXdr> {
         let place = input.place();
         named(ContractEventType::from_number(input.u32()?), place)
     }
@@ -100,7 +100,7 @@ impl Clone for ContractEvent {
 impl Xdr for ContractEvent {
     ghost format = { event_format };
 
-    fn read_parts(alloc: Global, input: &mut Cursor<'_>) -> Result<ContractEvent, ReadXdr> {
+    fn read_parts<W: Words>(alloc: Global, input: &mut W) -> Result<ContractEvent, ReadXdr> {
         read_head(input, NO_EXTENSION)?;
         let contract_id = Option::<Hash>::read(alloc, input)?;
         let event_type = ContractEventType::read(alloc, input)?;

@@ -1,6 +1,6 @@
 //! Authorised functions.
 
-ghost use Rattle.std.specs.Prelude.{◌≡◌};
+ghost use Rattle.std.specs.Prelude.{◌≡◌, IfOk};
 ghost use Rattle.xdr_core.specs.Reads.{Reads};
 ghost use Rattle.invoke_types.specs.Function.{number, kind_of, kind, type_format, type_lawful, arms, function_format};
 ghost use Rattle.invoke_types.specs.Function.{function_lawful};
@@ -8,7 +8,7 @@ ghost use Rattle.invoke_types.specs.Function.{function_lawful};
 use crate::arguments::{CreateContractArgs, CreateContractArgsV2, InvokeContractArgs};
 use std::alloc::{AllocError, Global};
 use value_xdr::{Xdr, named};
-use xdr_core::{Cursor, NoMemory, Out, ReadXdr, add_sizes};
+use xdr_core::{NoMemory, Out, ReadXdr, Words, add_sizes};
 
 /// The types of authorised functions (the XDR files' `SorobanAuthorizedFunctionType`).
 #[derive(Clone, Copy, Debug, PartialEq, Eq)]
@@ -47,7 +47,7 @@ impl FunctionType {
 impl Xdr for FunctionType {
     ghost format = { type_format };
 
-    fn read_parts(_alloc: Global, input: &mut Cursor<'_>) -> Result<FunctionType, ReadXdr> {
+    fn read_parts<W: Words>(_alloc: Global, input: &mut W) -> Result<FunctionType, ReadXdr> {
         let place = input.place();
         named(FunctionType::from_number(input.u32()?), place)
     }
@@ -99,8 +99,10 @@ impl Function {
     }
 }
 
-fn read_arm(alloc: Global, input: &mut Cursor<'_>, kind: FunctionType) -> Result<Function, ReadXdr>
-    ensures { Reads (arms kind).read input.old input.new result }
+#[tactic(auto, unfolding(crate::specs::Function::function_format))]
+fn read_arm<W: Words>(alloc: Global, input: &mut W, kind: FunctionType) -> Result<Function, ReadXdr>
+    ensures value { Reads (arms kind).read (W.seen input.old) (W.seen input.new) result }
+    ensures fits { IfOk result function_format.fits }
 {
     match kind {
         FunctionType::ContractFn => Ok(Function::ContractFn(InvokeContractArgs::read(
@@ -119,7 +121,7 @@ fn read_arm(alloc: Global, input: &mut Cursor<'_>, kind: FunctionType) -> Result
 impl Xdr for Function {
     ghost format = { function_format };
 
-    fn read_parts(alloc: Global, input: &mut Cursor<'_>) -> Result<Function, ReadXdr> {
+    fn read_parts<W: Words>(alloc: Global, input: &mut W) -> Result<Function, ReadXdr> {
         let kind = FunctionType::read(alloc, input)?;
         read_arm(alloc, input, kind)
     }

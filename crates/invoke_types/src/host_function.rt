@@ -1,6 +1,6 @@
 //! Host functions: what an operation calls.
 
-ghost use Rattle.std.specs.Prelude.{◌≡◌};
+ghost use Rattle.std.specs.Prelude.{◌≡◌, IfOk};
 ghost use Rattle.xdr_core.specs.Reads.{Reads};
 ghost use Rattle.invoke_types.specs.HostFunction.{number, kind_of, kind, type_format, type_lawful, arms, host_function_format};
 ghost use Rattle.invoke_types.specs.HostFunction.{host_function_lawful};
@@ -9,7 +9,7 @@ use crate::arguments::{CreateContractArgs, CreateContractArgsV2, InvokeContractA
 use std::alloc::{AllocError, Global};
 use value_types::Blob;
 use value_xdr::{Xdr, named, read_blob, size_of_blob, write_blob};
-use xdr_core::{Cursor, NoMemory, Out, ReadXdr, add_sizes};
+use xdr_core::{NoMemory, Out, ReadXdr, Words, add_sizes};
 
 /// The types of host functions (the XDR files' `HostFunctionType`).
 #[derive(Clone, Copy, Debug, PartialEq, Eq)]
@@ -51,7 +51,7 @@ impl HostFunctionType {
 impl Xdr for HostFunctionType {
     ghost format = { type_format };
 
-    fn read_parts(_alloc: Global, input: &mut Cursor<'_>) -> Result<HostFunctionType, ReadXdr> {
+    fn read_parts<W: Words>(_alloc: Global, input: &mut W) -> Result<HostFunctionType, ReadXdr> {
         let place = input.place();
         named(HostFunctionType::from_number(input.u32()?), place)
     }
@@ -111,12 +111,14 @@ impl HostFunction {
     }
 }
 
-fn read_arm(
+#[tactic(auto, unfolding(crate::specs::HostFunction::host_function_format))]
+fn read_arm<W: Words>(
     alloc: Global,
-    input: &mut Cursor<'_>,
+    input: &mut W,
     kind: HostFunctionType,
 ) -> Result<HostFunction, ReadXdr>
-    ensures { Reads (arms kind).read input.old input.new result }
+    ensures value { Reads (arms kind).read (W.seen input.old) (W.seen input.new) result }
+    ensures fits { IfOk result host_function_format.fits }
 {
     match kind {
         HostFunctionType::InvokeContract => Ok(HostFunction::InvokeContract(
@@ -140,7 +142,7 @@ fn read_arm(
 impl Xdr for HostFunction {
     ghost format = { host_function_format };
 
-    fn read_parts(alloc: Global, input: &mut Cursor<'_>) -> Result<HostFunction, ReadXdr> {
+    fn read_parts<W: Words>(alloc: Global, input: &mut W) -> Result<HostFunction, ReadXdr> {
         let kind = HostFunctionType::read(alloc, input)?;
         read_arm(alloc, input, kind)
     }

@@ -1,6 +1,6 @@
 //! Preimages of contract ids.
 
-ghost use Rattle.std.specs.Prelude.{◌≡◌, ⊤};
+ghost use Rattle.std.specs.Prelude.{◌≡◌, ⊤, IfOk};
 ghost use Rattle.xdr_core.specs.Reads.{Reads};
 ghost use Rattle.invoke_types.specs.Preimage.{number, kind_of, kind, type_format, type_lawful, arms, preimage_format};
 ghost use Rattle.invoke_types.specs.Preimage.{preimage_lawful};
@@ -9,7 +9,7 @@ use crate::asset::Asset;
 use std::alloc::{AllocError, Global};
 use value_types::{Hash, ScAddress};
 use value_xdr::{Xdr, named};
-use xdr_core::{Cursor, NoMemory, Out, ReadXdr, add_sizes};
+use xdr_core::{NoMemory, Out, ReadXdr, Words, add_sizes};
 
 /// The types of preimages of contract ids (the XDR files' `ContractIDPreimageType`).
 #[derive(Clone, Copy, Debug, PartialEq, Eq)]
@@ -45,7 +45,7 @@ impl PreimageType {
 impl Xdr for PreimageType {
     ghost format = { type_format };
 
-    fn read_parts(_alloc: Global, input: &mut Cursor<'_>) -> Result<PreimageType, ReadXdr> {
+    fn read_parts<W: Words>(_alloc: Global, input: &mut W) -> Result<PreimageType, ReadXdr> {
         let place = input.place();
         named(PreimageType::from_number(input.u32()?), place)
     }
@@ -94,8 +94,10 @@ impl Preimage {
     }
 }
 
-fn read_arm(alloc: Global, input: &mut Cursor<'_>, kind: PreimageType) -> Result<Preimage, ReadXdr>
-    ensures { Reads (arms kind).read input.old input.new result }
+#[tactic(auto, unfolding(crate::specs::Preimage::preimage_format))]
+fn read_arm<W: Words>(alloc: Global, input: &mut W, kind: PreimageType) -> Result<Preimage, ReadXdr>
+    ensures value { Reads (arms kind).read (W.seen input.old) (W.seen input.new) result }
+    ensures fits { IfOk result preimage_format.fits }
 {
     match kind {
         PreimageType::FromAddress => {
@@ -111,7 +113,7 @@ fn read_arm(alloc: Global, input: &mut Cursor<'_>, kind: PreimageType) -> Result
 impl Xdr for Preimage {
     ghost format = { preimage_format };
 
-    fn read_parts(alloc: Global, input: &mut Cursor<'_>) -> Result<Preimage, ReadXdr> {
+    fn read_parts<W: Words>(alloc: Global, input: &mut W) -> Result<Preimage, ReadXdr> {
         let kind = PreimageType::read(alloc, input)?;
         read_arm(alloc, input, kind)
     }

@@ -7,7 +7,7 @@ use crate::event::ContractEvent;
 use std::alloc::{AllocError, Global};
 use value_types::{Items, ScVal};
 use value_xdr::Xdr;
-use xdr_core::{Cursor, NoMemory, Out, ReadXdr, add_sizes};
+use xdr_core::{NoMemory, Out, ReadXdr, Words, add_sizes};
 
 /// The preimage of the hash in the result of a successful host function (the XDR files' `InvokeHostFunctionSuccessPreImage`):
 /// its return value and its events.
@@ -43,7 +43,7 @@ impl Clone for SuccessPreimage {
 impl Xdr for SuccessPreimage {
     ghost format = { success_format };
 
-    fn read_parts(alloc: Global, input: &mut Cursor<'_>) -> Result<SuccessPreimage, ReadXdr> {
+    fn read_parts<W: Words>(alloc: Global, input: &mut W) -> Result<SuccessPreimage, ReadXdr> {
         let return_value = ScVal::read(alloc, input)?;
         let events = Items::<ContractEvent, 4294967295>::read(alloc, input)?;
         Ok(SuccessPreimage {

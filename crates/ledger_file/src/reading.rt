@@ -25,7 +25,8 @@ fn read_file(alloc: Global, bytes: &[u8]) -> Result<LedgerFile, LedgerErr>
 {
     match decode::<LedgerFile>(alloc, bytes) {
         Ok(file) => Ok(file),
-        Err(ReadXdr::NoMemory) => Err(LedgerErr::NoMemory),
+        // Bytes in memory never stop.
+        Err(ReadXdr::NoMemory | ReadXdr::Stopped) => Err(LedgerErr::NoMemory),
         Err(ReadXdr::Bad(e)) => Err(LedgerErr::Refused(LedgerRefusal {
             why: LedgerWhy::Xdr,
             at: e.at,

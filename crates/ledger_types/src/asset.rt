@@ -1,6 +1,6 @@
 //! The assets of trust lines.
 
-ghost use Rattle.std.specs.Prelude.{◌≡◌, ⊤};
+ghost use Rattle.std.specs.Prelude.{◌≡◌, ⊤, IfOk};
 ghost use Rattle.xdr_core.specs.Reads.{Reads};
 ghost use Rattle.ledger_types.specs.AssetCode.{code4_format, code4_lawful, code12_format, code12_lawful};
 ghost use Rattle.ledger_types.specs.TrustLineAsset.{number, kind_of, kind, type_format, type_lawful, arms, asset_format};
@@ -8,8 +8,8 @@ ghost use Rattle.ledger_types.specs.TrustLineAsset.{asset_lawful};
 
 use std::alloc::{AllocError, Global};
 use value_types::{AccountId, Hash};
-use value_xdr::{Xdr, named};
-use xdr_core::{Cursor, NoMemory, Out, ReadXdr, add_sizes};
+use value_xdr::{Xdr, hold_bytes, named};
+use xdr_core::{NoMemory, Out, ReadXdr, Words, add_sizes};
 
 /// The code of an asset, at most four characters (`AssetCode4`).
 #[derive(Debug, PartialEq, Eq)]
@@ -31,9 +31,10 @@ impl Copy for AssetCode4 {}
 impl Xdr for AssetCode4 {
     ghost format = { code4_format };
 
-    fn read_parts(_alloc: Global, input: &mut Cursor<'_>) -> Result<AssetCode4, ReadXdr> {
+    fn read_parts<W: Words>(_alloc: Global, input: &mut W) -> Result<AssetCode4, ReadXdr> {
         let mut bytes = [0u8; 4];
-        bytes.copy_from_slice(input.fixed(4)?);
+        input.fill(&mut bytes)?;
+        hold_bytes(&bytes);
         Ok(AssetCode4(bytes))
     }
 
@@ -68,9 +69,10 @@ impl Copy for AssetCode12 {}
 impl Xdr for AssetCode12 {
     ghost format = { code12_format };
 
-    fn read_parts(_alloc: Global, input: &mut Cursor<'_>) -> Result<AssetCode12, ReadXdr> {
+    fn read_parts<W: Words>(_alloc: Global, input: &mut W) -> Result<AssetCode12, ReadXdr> {
         let mut bytes = [0u8; 12];
-        bytes.copy_from_slice(input.fixed(12)?);
+        input.fill(&mut bytes)?;
+        hold_bytes(&bytes);
         Ok(AssetCode12(bytes))
     }
 
@@ -125,7 +127,7 @@ impl AssetType {
 impl Xdr for AssetType {
     ghost format = { type_format };
 
-    fn read_parts(_alloc: Global, input: &mut Cursor<'_>) -> Result<AssetType, ReadXdr> {
+    fn read_parts<W: Words>(_alloc: Global, input: &mut W) -> Result<AssetType, ReadXdr> {
         let place = input.place();
         named(AssetType::from_number(input.u32()?), place)
     }
@@ -186,12 +188,14 @@ impl TrustLineAsset {
     }
 }
 
-fn read_arm(
+#[tactic(auto, unfolding(crate::specs::TrustLineAsset::asset_format))]
+fn read_arm<W: Words>(
     alloc: Global,
-    input: &mut Cursor<'_>,
+    input: &mut W,
     kind: AssetType,
 ) -> Result<TrustLineAsset, ReadXdr>
-    ensures { Reads (arms kind).read input.old input.new result }
+    ensures value { Reads (arms kind).read (W.seen input.old) (W.seen input.new) result }
+    ensures fits { IfOk result asset_format.fits }
 {
     match kind {
         AssetType::Native => Ok(TrustLineAsset::Native),
@@ -213,7 +217,7 @@ fn read_arm(
 impl Xdr for TrustLineAsset {
     ghost format = { asset_format };
 
-    fn read_parts(alloc: Global, input: &mut Cursor<'_>) -> Result<TrustLineAsset, ReadXdr> {
+    fn read_parts<W: Words>(alloc: Global, input: &mut W) -> Result<TrustLineAsset, ReadXdr> {
         let kind = AssetType::read(alloc, input)?;
         read_arm(alloc, input, kind)
     }

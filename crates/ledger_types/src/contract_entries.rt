@@ -7,7 +7,7 @@ use crate::durability::Durability;
 use std::alloc::{AllocError, Global};
 use value_types::{Blob, Hash, ScAddress, ScVal};
 use value_xdr::{Xdr, read_blob, read_head, size_of_blob, write_blob};
-use xdr_core::{Cursor, NoMemory, Out, ReadXdr, add_sizes};
+use xdr_core::{NoMemory, Out, ReadXdr, Words, add_sizes};
 
 /// The number of an empty extension point.
 pub const NO_EXTENSION: u32 = 0;
@@ -43,7 +43,7 @@ impl Clone for ContractDataEntry {
 impl Xdr for ContractDataEntry {
     ghost format = { data_format };
 
-    fn read_parts(alloc: Global, input: &mut Cursor<'_>) -> Result<ContractDataEntry, ReadXdr> {
+    fn read_parts<W: Words>(alloc: Global, input: &mut W) -> Result<ContractDataEntry, ReadXdr> {
         read_head(input, NO_EXTENSION)?;
         let contract = ScAddress::read(alloc, input)?;
         let key = ScVal::read(alloc, input)?;
@@ -99,7 +99,7 @@ impl Clone for ContractCodeEntry {
 impl Xdr for ContractCodeEntry {
     ghost format = { code_format };
 
-    fn read_parts(alloc: Global, input: &mut Cursor<'_>) -> Result<ContractCodeEntry, ReadXdr> {
+    fn read_parts<W: Words>(alloc: Global, input: &mut W) -> Result<ContractCodeEntry, ReadXdr> {
         read_head(input, NO_EXTENSION)?;
         let hash = Hash::read(alloc, input)?;
         let code = read_blob(alloc, input, u32::MAX)?;

@@ -5,7 +5,7 @@ ghost use Rattle.ledger_types.specs.Durability.{number, kind_of, durability_form
 
 use std::alloc::Global;
 use value_xdr::{Xdr, named};
-use xdr_core::{Cursor, NoMemory, Out, ReadXdr};
+use xdr_core::{NoMemory, Out, ReadXdr, Words};
 
 /// The durability of contract data (`ContractDataDurability`).
 #[derive(Clone, Copy, Debug, PartialEq, Eq)]
@@ -43,7 +43,7 @@ impl Durability {
 impl Xdr for Durability {
     ghost format = { durability_format };
 
-    fn read_parts(_alloc: Global, input: &mut Cursor<'_>) -> Result<Durability, ReadXdr> {
+    fn read_parts<W: Words>(_alloc: Global, input: &mut W) -> Result<Durability, ReadXdr> {
         let place = input.place();
         named(Durability::from_number(input.u32()?), place)
     }

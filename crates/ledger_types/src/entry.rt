@@ -1,6 +1,6 @@
 //! Ledger entries.
 
-ghost use Rattle.std.specs.Prelude.{◌≡◌};
+ghost use Rattle.std.specs.Prelude.{◌≡◌, IfOk};
 ghost use Rattle.xdr_core.specs.Reads.{Reads};
 ghost use Rattle.ledger_types.specs.Entry.{number, kind_of, type_format, type_lawful, kind, arms, body_format, body_lawful};
 ghost use Rattle.ledger_types.specs.Entry.{entry_format, entry_lawful};
@@ -8,7 +8,7 @@ ghost use Rattle.ledger_types.specs.Entry.{entry_format, entry_lawful};
 use crate::contract_entries::{ContractCodeEntry, ContractDataEntry, EXTENSION_SIZE, NO_EXTENSION};
 use std::alloc::{AllocError, Global};
 use value_xdr::{Xdr, named, read_head};
-use xdr_core::{Cursor, NoMemory, Out, ReadXdr, add_sizes};
+use xdr_core::{NoMemory, Out, ReadXdr, Words, add_sizes};
 
 /// The types of entries in this program's ledgers: those of `LedgerEntryType` that belong to contracts.
 #[derive(Clone, Copy, Debug, PartialEq, Eq)]
@@ -44,7 +44,7 @@ impl ContractEntryType {
 impl Xdr for ContractEntryType {
     ghost format = { type_format };
 
-    fn read_parts(_alloc: Global, input: &mut Cursor<'_>) -> Result<ContractEntryType, ReadXdr> {
+    fn read_parts<W: Words>(_alloc: Global, input: &mut W) -> Result<ContractEntryType, ReadXdr> {
         let place = input.place();
         named(ContractEntryType::from_number(input.u32()?), place)
     }
@@ -96,12 +96,14 @@ impl LedgerEntryData {
     }
 }
 
-fn read_arm(
+#[tactic(auto, unfolding(crate::specs::Entry::body_format))]
+fn read_arm<W: Words>(
     alloc: Global,
-    input: &mut Cursor<'_>,
+    input: &mut W,
     kind: ContractEntryType,
 ) -> Result<LedgerEntryData, ReadXdr>
-    ensures { Reads (arms kind).read input.old input.new result }
+    ensures value { Reads (arms kind).read (W.seen input.old) (W.seen input.new) result }
+    ensures fits { IfOk result body_format.fits }
 {
     match kind {
         ContractEntryType::ContractData => {
@@ -117,7 +119,7 @@ fn read_arm(
 impl Xdr for LedgerEntryData {
     ghost format = { body_format };
 
-    fn read_parts(alloc: Global, input: &mut Cursor<'_>) -> Result<LedgerEntryData, ReadXdr> {
+    fn read_parts<W: Words>(alloc: Global, input: &mut W) -> Result<LedgerEntryData, ReadXdr> {
         let kind = ContractEntryType::read(alloc, input)?;
         read_arm(alloc, input, kind)
     }
@@ -165,7 +167,7 @@ impl Clone for LedgerEntry {
 impl Xdr for LedgerEntry {
     ghost format = { entry_format };
 
-    fn read_parts(alloc: Global, input: &mut Cursor<'_>) -> Result<LedgerEntry, ReadXdr> {
+    fn read_parts<W: Words>(alloc: Global, input: &mut W) -> Result<LedgerEntry, ReadXdr> {
         let last_modified_ledger_seq = u32::read(alloc, input)?;
         let data = LedgerEntryData::read(alloc, input)?;
         read_head(input, NO_EXTENSION)?;

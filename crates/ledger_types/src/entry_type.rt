@@ -5,7 +5,7 @@ ghost use Rattle.ledger_types.specs.EntryType.{number, kind_of, type_format, typ
 
 use std::alloc::Global;
 use value_xdr::{Xdr, named};
-use xdr_core::{Cursor, NoMemory, Out, ReadXdr};
+use xdr_core::{NoMemory, Out, ReadXdr, Words};
 
 /// The types of ledger entries (`LedgerEntryType`, without configuration settings).
 #[derive(Clone, Copy, Debug, PartialEq, Eq)]
@@ -62,7 +62,7 @@ impl LedgerEntryType {
 impl Xdr for LedgerEntryType {
     ghost format = { type_format };
 
-    fn read_parts(_alloc: Global, input: &mut Cursor<'_>) -> Result<LedgerEntryType, ReadXdr> {
+    fn read_parts<W: Words>(_alloc: Global, input: &mut W) -> Result<LedgerEntryType, ReadXdr> {
         let place = input.place();
         named(LedgerEntryType::from_number(input.u32()?), place)
     }

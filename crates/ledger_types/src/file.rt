@@ -1,5 +1,6 @@
 //! The file of a ledger.
 
+ghost use Rattle.std.specs.Prelude.{IfOk};
 ghost use Rattle.xdr_core.specs.Reads.{Reads};
 ghost use Rattle.ledger_types.specs.File.{rest_format, file_format, file_lawful};
 
@@ -9,7 +10,7 @@ use file_version::FileVersion;
 use std::alloc::Global;
 use value_types::Items;
 use value_xdr::Xdr;
-use xdr_core::{Cursor, NoMemory, Out, ReadXdr, add_sizes};
+use xdr_core::{NoMemory, Out, ReadXdr, Words, add_sizes};
 
 /// The content of a ledger's file (own), before it is checked to be a ledger.
 #[derive(Drop)]
@@ -20,13 +21,14 @@ pub struct LedgerFile {
 }
 
 /// Reads what follows the number of this version.
-#[tactic(auto, unfolding(crate::specs::File::rest_format))]
-fn read_rest(
+#[tactic(auto, unfolding(crate::specs::File::file_format, crate::specs::File::rest_format))]
+fn read_rest<W: Words>(
     alloc: Global,
-    input: &mut Cursor<'_>,
+    input: &mut W,
     version: FileVersion,
 ) -> Result<LedgerFile, ReadXdr>
-    ensures { Reads (rest_format version).read input.old input.new result }
+    ensures value { Reads (rest_format version).read (W.seen input.old) (W.seen input.new) result }
+    ensures fits { IfOk result file_format.fits }
 {
     let header = read_header(alloc, input, version)?;
     let records = Items::<BoxedRecord, 4294967295>::read(alloc, input)?;
@@ -41,7 +43,7 @@ fn read_rest(
 impl Xdr for LedgerFile {
     ghost format = { file_format };
 
-    fn read_parts(alloc: Global, input: &mut Cursor<'_>) -> Result<LedgerFile, ReadXdr> {
+    fn read_parts<W: Words>(alloc: Global, input: &mut W) -> Result<LedgerFile, ReadXdr> {
         let version = FileVersion::read(alloc, input)?;
         read_rest(alloc, input, version)
     }

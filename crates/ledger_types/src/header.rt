@@ -1,6 +1,6 @@
 //! Settings and headers of ledgers.
 
-ghost use Rattle.std.specs.Prelude.{◌≡◌, ◌++◌, ⊤, length, OnOk, OnErr};
+ghost use Rattle.std.specs.Prelude.{◌≡◌, ◌++◌, ⊤, length, OnOk, OnErr, IfOk};
 ghost use Rattle.xdr_core.specs.Reads.{Reads};
 ghost use Rattle.xdr_core.specs.Sizes.{capped};
 ghost use Rattle.xdr_core.specs.Writes.{StartsWith};
@@ -12,7 +12,7 @@ use file_version::{FileVersion, protocol_size, read_protocol, write_protocol};
 use std::alloc::{AllocError, Global};
 use value_types::Hash;
 use value_xdr::Xdr;
-use xdr_core::{Cursor, NoMemory, Out, ReadXdr, add_sizes};
+use xdr_core::{NoMemory, Out, ReadXdr, Words, add_sizes};
 
 /// The settings that the host needs (own, after `ConfigSettingEntry`).
 #[derive(Debug, PartialEq, Eq)]
@@ -45,7 +45,7 @@ impl Copy for Settings {}
 impl Xdr for Settings {
     ghost format = { settings_format };
 
-    fn read_parts(alloc: Global, input: &mut Cursor<'_>) -> Result<Settings, ReadXdr> {
+    fn read_parts<W: Words>(alloc: Global, input: &mut W) -> Result<Settings, ReadXdr> {
         let min_temporary_ttl = u32::read(alloc, input)?;
         let min_persistent_ttl = u32::read(alloc, input)?;
         let max_entry_ttl = u32::read(alloc, input)?;
@@ -101,14 +101,15 @@ impl Clone for Header {
 
 impl Copy for Header {}
 
-/// Reads the header of a file of this version. After an error the cursor may stand anywhere.
+/// Reads the header of a file of this version. After an error the source may stand anywhere.
 #[tactic(auto, unfolding(crate::specs::Header::header_in))]
-pub fn read_header(
+pub fn read_header<W: Words>(
     alloc: Global,
-    input: &mut Cursor<'_>,
+    input: &mut W,
     version: FileVersion,
 ) -> Result<Header, ReadXdr>
-    ensures { Reads (header_in version).read input.old input.new result }
+    ensures value { Reads (header_in version).read (W.seen input.old) (W.seen input.new) result }
+    ensures fits { IfOk result (header_in version).fits }
 {
     let network_id = Hash::read(alloc, input)?;
     let protocol = read_protocol(alloc, input, version)?;
@@ -155,7 +156,7 @@ pub fn header_size(header: &Header, version: FileVersion) -> u64
 impl Xdr for Header {
     ghost format = { header_format };
 
-    fn read_parts(alloc: Global, input: &mut Cursor<'_>) -> Result<Header, ReadXdr> {
+    fn read_parts<W: Words>(alloc: Global, input: &mut W) -> Result<Header, ReadXdr> {
         read_header(alloc, input, FileVersion::V2)
     }
 

@@ -1,6 +1,6 @@
 //! The keys of ledger entries.
 
-ghost use Rattle.std.specs.Prelude.{◌≡◌};
+ghost use Rattle.std.specs.Prelude.{◌≡◌, IfOk};
 ghost use Rattle.xdr_core.specs.Reads.{Reads};
 ghost use Rattle.ledger_types.specs.Key.{kind, arms, key_format, key_lawful};
 
@@ -10,7 +10,7 @@ use crate::entry_type::LedgerEntryType;
 use std::alloc::{AllocError, Global};
 use value_types::{AccountId, Bytes, Hash, ScAddress, ScVal};
 use value_xdr::{Xdr, read_balance_id, size_of_balance_id, write_balance_id};
-use xdr_core::{Cursor, NoMemory, Out, ReadXdr, add_sizes};
+use xdr_core::{NoMemory, Out, ReadXdr, Words, add_sizes};
 
 /// The key of a ledger entry (`LedgerKey`, without configuration settings).
 #[derive(Drop)]
@@ -102,32 +102,40 @@ impl LedgerKey {
     }
 }
 
-fn read_trustline(alloc: Global, input: &mut Cursor<'_>) -> Result<LedgerKey, ReadXdr>
-    ensures { Reads (arms LedgerEntryType.Trustline).read input.old input.new result }
+#[tactic(auto, unfolding(crate::specs::Key::key_format))]
+fn read_trustline<W: Words>(alloc: Global, input: &mut W) -> Result<LedgerKey, ReadXdr>
+    ensures value { Reads (arms LedgerEntryType.Trustline).read (W.seen input.old) (W.seen input.new) result }
+    ensures fits { IfOk result key_format.fits }
 {
     let account = AccountId::read(alloc, input)?;
     let asset = TrustLineAsset::read(alloc, input)?;
     Ok(LedgerKey::Trustline { account, asset })
 }
 
-fn read_offer(alloc: Global, input: &mut Cursor<'_>) -> Result<LedgerKey, ReadXdr>
-    ensures { Reads (arms LedgerEntryType.Offer).read input.old input.new result }
+#[tactic(auto, unfolding(crate::specs::Key::key_format))]
+fn read_offer<W: Words>(alloc: Global, input: &mut W) -> Result<LedgerKey, ReadXdr>
+    ensures value { Reads (arms LedgerEntryType.Offer).read (W.seen input.old) (W.seen input.new) result }
+    ensures fits { IfOk result key_format.fits }
 {
     let seller = AccountId::read(alloc, input)?;
     let offer = i64::read(alloc, input)?;
     Ok(LedgerKey::Offer { seller, offer })
 }
 
-fn read_data(alloc: Global, input: &mut Cursor<'_>) -> Result<LedgerKey, ReadXdr>
-    ensures { Reads (arms LedgerEntryType.Data).read input.old input.new result }
+#[tactic(auto, unfolding(crate::specs::Key::key_format))]
+fn read_data<W: Words>(alloc: Global, input: &mut W) -> Result<LedgerKey, ReadXdr>
+    ensures value { Reads (arms LedgerEntryType.Data).read (W.seen input.old) (W.seen input.new) result }
+    ensures fits { IfOk result key_format.fits }
 {
     let account = AccountId::read(alloc, input)?;
     let name = Bytes::<64>::read(alloc, input)?;
     Ok(LedgerKey::Data { account, name })
 }
 
-fn read_contract_data(alloc: Global, input: &mut Cursor<'_>) -> Result<LedgerKey, ReadXdr>
-    ensures { Reads (arms LedgerEntryType.ContractData).read input.old input.new result }
+#[tactic(auto, unfolding(crate::specs::Key::key_format))]
+fn read_contract_data<W: Words>(alloc: Global, input: &mut W) -> Result<LedgerKey, ReadXdr>
+    ensures value { Reads (arms LedgerEntryType.ContractData).read (W.seen input.old) (W.seen input.new) result }
+    ensures fits { IfOk result key_format.fits }
 {
     let contract = ScAddress::read(alloc, input)?;
     let key = ScVal::read(alloc, input)?;
@@ -139,12 +147,14 @@ fn read_contract_data(alloc: Global, input: &mut Cursor<'_>) -> Result<LedgerKey
     })
 }
 
-fn read_arm(
+#[tactic(auto, unfolding(crate::specs::Key::key_format))]
+fn read_arm<W: Words>(
     alloc: Global,
-    input: &mut Cursor<'_>,
+    input: &mut W,
     kind: LedgerEntryType,
 ) -> Result<LedgerKey, ReadXdr>
-    ensures { Reads (arms kind).read input.old input.new result }
+    ensures value { Reads (arms kind).read (W.seen input.old) (W.seen input.new) result }
+    ensures fits { IfOk result key_format.fits }
 {
     match kind {
         LedgerEntryType::Account => Ok(LedgerKey::Account(AccountId::read(alloc, input)?)),
@@ -165,7 +175,7 @@ fn read_arm(
 impl Xdr for LedgerKey {
     ghost format = { key_format };
 
-    fn read_parts(alloc: Global, input: &mut Cursor<'_>) -> Result<LedgerKey, ReadXdr> {
+    fn read_parts<W: Words>(alloc: Global, input: &mut W) -> Result<LedgerKey, ReadXdr> {
         let kind = LedgerEntryType::read(alloc, input)?;
         read_arm(alloc, input, kind)
     }

@@ -8,7 +8,7 @@ use std::alloc::{AllocError, Global};
 use std::marker::Model;
 use value_types::Hash;
 use value_xdr::Xdr;
-use xdr_core::{Cursor, NoMemory, Out, ReadXdr, add_sizes};
+use xdr_core::{NoMemory, Out, ReadXdr, Words, add_sizes};
 
 /// The live-until ledger of a key's entry (`TTLEntry`).
 #[derive(Debug, PartialEq, Eq)]
@@ -37,7 +37,7 @@ impl Copy for TtlEntry {}
 impl Xdr for TtlEntry {
     ghost format = { ttl_format };
 
-    fn read_parts(alloc: Global, input: &mut Cursor<'_>) -> Result<TtlEntry, ReadXdr> {
+    fn read_parts<W: Words>(alloc: Global, input: &mut W) -> Result<TtlEntry, ReadXdr> {
         let key_hash = Hash::read(alloc, input)?;
         let live_until_ledger_seq = u32::read(alloc, input)?;
         Ok(TtlEntry {
@@ -81,7 +81,7 @@ impl Clone for LedgerRecord {
 impl Xdr for LedgerRecord {
     ghost format = { record_format };
 
-    fn read_parts(alloc: Global, input: &mut Cursor<'_>) -> Result<LedgerRecord, ReadXdr> {
+    fn read_parts<W: Words>(alloc: Global, input: &mut W) -> Result<LedgerRecord, ReadXdr> {
         let entry = LedgerEntry::read(alloc, input)?;
         let ttl = TtlEntry::read(alloc, input)?;
         Ok(LedgerRecord { entry, ttl })
@@ -136,7 +136,7 @@ impl BoxedRecord {
 impl Xdr for BoxedRecord {
     ghost format = { record_format };
 
-    fn read_parts(alloc: Global, input: &mut Cursor<'_>) -> Result<BoxedRecord, ReadXdr> {
+    fn read_parts<W: Words>(alloc: Global, input: &mut W) -> Result<BoxedRecord, ReadXdr> {
         let record = LedgerRecord::read(alloc, input)?;
         let record = Box::new(alloc, record)?;
         Ok(BoxedRecord { record })

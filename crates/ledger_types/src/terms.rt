@@ -1,6 +1,6 @@
 //! The codec of the terms of all kinds of cost.
 
-ghost use Rattle.std.specs.Prelude.{◌≡◌, ◌++◌, OnOk, OnErr};
+ghost use Rattle.std.specs.Prelude.{◌≡◌, ◌++◌, OnOk, OnErr, IfOk};
 ghost use Rattle.xdr_core.specs.Reads.{Reads};
 ghost use Rattle.xdr_core.specs.Writes.{StartsWith};
 ghost use Rattle.ledger_types.specs.Terms.{row_format, terms_format};
@@ -8,14 +8,15 @@ ghost use Rattle.ledger_types.specs.Terms.{row_format, terms_format};
 use budget_meter::{KindTerms, LinearCost, Terms};
 use std::alloc::Global;
 use value_xdr::Xdr;
-use xdr_core::{Cursor, NoMemory, Out, ReadXdr};
+use xdr_core::{NoMemory, Out, ReadXdr, Words};
 
 /// The length of the terms of all kinds in bytes: four words for each of eleven kinds.
 pub const TERMS_SIZE: u64 = 176;
 
 #[tactic(auto, unfolding(crate::specs::Terms::row_format))]
-fn read_row(alloc: Global, input: &mut Cursor<'_>) -> Result<KindTerms, ReadXdr>
-    ensures { Reads row_format.read input.old input.new result }
+fn read_row<W: Words>(alloc: Global, input: &mut W) -> Result<KindTerms, ReadXdr>
+    ensures value { Reads row_format.read (W.seen input.old) (W.seen input.new) result }
+    ensures fits { IfOk result row_format.fits }
 {
     let constant = u32::read(alloc, input)?;
     let linear = u32::read(alloc, input)?;
@@ -57,8 +58,9 @@ fn write_row(terms: KindTerms, out: &mut Out) -> Result<(), NoMemory>
 
 /// Reads the terms of all kinds, in the order of their numbers.
 #[tactic(auto, unfolding(crate::specs::Terms::terms_format))]
-pub fn read_terms(alloc: Global, input: &mut Cursor<'_>) -> Result<Terms, ReadXdr>
-    ensures { Reads terms_format.read input.old input.new result }
+pub fn read_terms<W: Words>(alloc: Global, input: &mut W) -> Result<Terms, ReadXdr>
+    ensures value { Reads terms_format.read (W.seen input.old) (W.seen input.new) result }
+    ensures fits { IfOk result terms_format.fits }
 {
     Ok(Terms {
         wasm_insn_exec: read_row(alloc, input)?,

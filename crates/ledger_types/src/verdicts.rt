@@ -6,7 +6,7 @@ ghost use Rattle.ledger_types.specs.Verdicts.{verdict_of, verdict_format, verdic
 use std::alloc::{AllocError, Global};
 use value_types::{Hash, Items};
 use value_xdr::Xdr;
-use xdr_core::{Cursor, NoMemory, Out, ReadXdr, add_sizes};
+use xdr_core::{NoMemory, Out, ReadXdr, Words, add_sizes};
 
 /// A verdict (own): the signature of this key for this payload is good.
 #[derive(Debug, PartialEq, Eq)]
@@ -33,7 +33,7 @@ impl Copy for Verdict {}
 impl Xdr for Verdict {
     ghost format = { verdict_format };
 
-    fn read_parts(alloc: Global, input: &mut Cursor<'_>) -> Result<Verdict, ReadXdr> {
+    fn read_parts<W: Words>(alloc: Global, input: &mut W) -> Result<Verdict, ReadXdr> {
         let key = Hash::read(alloc, input)?;
         let payload = Hash::read(alloc, input)?;
         Ok(Verdict { key, payload })
@@ -86,7 +86,7 @@ impl Verdicts {
 impl Xdr for Verdicts {
     ghost format = { verdicts_format };
 
-    fn read_parts(alloc: Global, input: &mut Cursor<'_>) -> Result<Verdicts, ReadXdr> {
+    fn read_parts<W: Words>(alloc: Global, input: &mut W) -> Result<Verdicts, ReadXdr> {
         let pairs = Items::<Verdict, 4294967295>::read(alloc, input)?;
         Ok(Verdicts { pairs })
     }

@@ -9,7 +9,7 @@ ghost use Rattle.schedule_runs.specs.declared.schedule.Schedule.{Schedule as Sch
 use std::alloc::Global;
 use value_types::Items;
 use value_xdr::{Xdr, decode};
-use xdr_core::{Cursor, NoMemory, Out, ReadXdr};
+use xdr_core::{NoMemory, Out, ReadXdr, Words};
 
 /// The numbers of clusters in the order in which their next transactions run.
 pub type Order = Items<u32, 4294967295>;
@@ -25,7 +25,7 @@ pub struct Schedule {
 impl Xdr for Schedule {
     ghost format = { schedule_format };
 
-    fn read_parts(alloc: Global, input: &mut Cursor<'_>) -> Result<Schedule, ReadXdr> {
+    fn read_parts<W: Words>(alloc: Global, input: &mut W) -> Result<Schedule, ReadXdr> {
         let stages = Items::<Order, 4294967295>::read(alloc, input)?;
         Ok(Schedule { stages })
     }

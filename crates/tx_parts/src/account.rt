@@ -1,6 +1,6 @@
 //! Accounts in transactions.
 
-ghost use Rattle.std.specs.Prelude.{◌≡◌, ⊤};
+ghost use Rattle.std.specs.Prelude.{◌≡◌, ⊤, IfOk};
 ghost use Rattle.xdr_core.specs.Reads.{Reads};
 ghost use Rattle.tx_parts.specs.MuxedAccount.{number, kind_of, kind, type_format, type_lawful, arms, account_format};
 ghost use Rattle.tx_parts.specs.MuxedAccount.{account_lawful};
@@ -8,7 +8,7 @@ ghost use Rattle.tx_parts.specs.MuxedAccount.{account_lawful};
 use std::alloc::{AllocError, Global};
 use value_types::Hash;
 use value_xdr::{Xdr, named};
-use xdr_core::{Cursor, NoMemory, Out, ReadXdr, add_sizes};
+use xdr_core::{NoMemory, Out, ReadXdr, Words, add_sizes};
 
 /// The types of account keys (`CryptoKeyType`, without the types that no account has).
 #[derive(Clone, Copy, Debug, PartialEq, Eq)]
@@ -44,7 +44,7 @@ impl CryptoKeyType {
 impl Xdr for CryptoKeyType {
     ghost format = { type_format };
 
-    fn read_parts(_alloc: Global, input: &mut Cursor<'_>) -> Result<CryptoKeyType, ReadXdr> {
+    fn read_parts<W: Words>(_alloc: Global, input: &mut W) -> Result<CryptoKeyType, ReadXdr> {
         let place = input.place();
         named(CryptoKeyType::from_number(input.u32()?), place)
     }
@@ -93,12 +93,14 @@ impl MuxedAccount {
     }
 }
 
-fn read_arm(
+#[tactic(auto, unfolding(crate::specs::MuxedAccount::account_format))]
+fn read_arm<W: Words>(
     alloc: Global,
-    input: &mut Cursor<'_>,
+    input: &mut W,
     kind: CryptoKeyType,
 ) -> Result<MuxedAccount, ReadXdr>
-    ensures { Reads (arms kind).read input.old input.new result }
+    ensures value { Reads (arms kind).read (W.seen input.old) (W.seen input.new) result }
+    ensures fits { IfOk result account_format.fits }
 {
     match kind {
         CryptoKeyType::Ed25519 => Ok(MuxedAccount::Ed25519(Hash::read(alloc, input)?)),
@@ -114,7 +116,7 @@ fn read_arm(
 impl Xdr for MuxedAccount {
     ghost format = { account_format };
 
-    fn read_parts(alloc: Global, input: &mut Cursor<'_>) -> Result<MuxedAccount, ReadXdr> {
+    fn read_parts<W: Words>(alloc: Global, input: &mut W) -> Result<MuxedAccount, ReadXdr> {
         let kind = CryptoKeyType::read(alloc, input)?;
         read_arm(alloc, input, kind)
     }

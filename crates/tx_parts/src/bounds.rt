@@ -5,7 +5,7 @@ ghost use Rattle.tx_parts.specs.Bounds.{time_bounds_format, time_bounds_lawful, 
 
 use std::alloc::{AllocError, Global};
 use value_xdr::Xdr;
-use xdr_core::{Cursor, NoMemory, Out, ReadXdr};
+use xdr_core::{NoMemory, Out, ReadXdr, Words};
 
 /// Bounds on the close time of the ledger that runs a transaction, in seconds since 1970 (`TimeBounds`).
 #[derive(Debug, PartialEq, Eq)]
@@ -32,7 +32,7 @@ impl Copy for TimeBounds {}
 impl Xdr for TimeBounds {
     ghost format = { time_bounds_format };
 
-    fn read_parts(alloc: Global, input: &mut Cursor<'_>) -> Result<TimeBounds, ReadXdr> {
+    fn read_parts<W: Words>(alloc: Global, input: &mut W) -> Result<TimeBounds, ReadXdr> {
         let min_time = u64::read(alloc, input)?;
         let max_time = u64::read(alloc, input)?;
         Ok(TimeBounds { min_time, max_time })
@@ -76,7 +76,7 @@ impl Copy for LedgerBounds {}
 impl Xdr for LedgerBounds {
     ghost format = { ledger_bounds_format };
 
-    fn read_parts(alloc: Global, input: &mut Cursor<'_>) -> Result<LedgerBounds, ReadXdr> {
+    fn read_parts<W: Words>(alloc: Global, input: &mut W) -> Result<LedgerBounds, ReadXdr> {
         let min_ledger = u32::read(alloc, input)?;
         let max_ledger = u32::read(alloc, input)?;
         Ok(LedgerBounds {

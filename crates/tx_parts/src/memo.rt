@@ -1,13 +1,13 @@
 //! Memos.
 
-ghost use Rattle.std.specs.Prelude.{◌≡◌};
+ghost use Rattle.std.specs.Prelude.{◌≡◌, IfOk};
 ghost use Rattle.xdr_core.specs.Reads.{Reads};
 ghost use Rattle.tx_parts.specs.Memo.{number, kind_of, kind, type_format, type_lawful, arms, memo_format, memo_lawful};
 
 use std::alloc::{AllocError, Global};
 use value_types::{Bytes, Hash};
 use value_xdr::{Xdr, named};
-use xdr_core::{Cursor, NoMemory, Out, ReadXdr, add_sizes};
+use xdr_core::{NoMemory, Out, ReadXdr, Words, add_sizes};
 
 /// The types of memos (`MemoType`).
 #[derive(Clone, Copy, Debug, PartialEq, Eq)]
@@ -52,7 +52,7 @@ impl MemoType {
 impl Xdr for MemoType {
     ghost format = { type_format };
 
-    fn read_parts(_alloc: Global, input: &mut Cursor<'_>) -> Result<MemoType, ReadXdr> {
+    fn read_parts<W: Words>(_alloc: Global, input: &mut W) -> Result<MemoType, ReadXdr> {
         let place = input.place();
         named(MemoType::from_number(input.u32()?), place)
     }
@@ -112,8 +112,10 @@ impl Memo {
     }
 }
 
-fn read_arm(alloc: Global, input: &mut Cursor<'_>, kind: MemoType) -> Result<Memo, ReadXdr>
-    ensures { Reads (arms kind).read input.old input.new result }
+#[tactic(auto, unfolding(crate::specs::Memo::memo_format))]
+fn read_arm<W: Words>(alloc: Global, input: &mut W, kind: MemoType) -> Result<Memo, ReadXdr>
+    ensures value { Reads (arms kind).read (W.seen input.old) (W.seen input.new) result }
+    ensures fits { IfOk result memo_format.fits }
 {
     match kind {
         MemoType::None => Ok(Memo::None),
@@ -128,7 +130,7 @@ fn read_arm(alloc: Global, input: &mut Cursor<'_>, kind: MemoType) -> Result<Mem
 impl Xdr for Memo {
     ghost format = { memo_format };
 
-    fn read_parts(alloc: Global, input: &mut Cursor<'_>) -> Result<Memo, ReadXdr> {
+    fn read_parts<W: Words>(alloc: Global, input: &mut W) -> Result<Memo, ReadXdr> {
         let kind = MemoType::read(alloc, input)?;
         read_arm(alloc, input, kind)
     }

@@ -10,7 +10,7 @@ use crate::signer_key::SignerKey;
 use std::alloc::{AllocError, Global};
 use value_types::Items;
 use value_xdr::{Xdr, named};
-use xdr_core::{Cursor, NoMemory, Out, ReadXdr, add_sizes};
+use xdr_core::{NoMemory, Out, ReadXdr, Words, add_sizes};
 
 /// The preconditions of version 2 (`PreconditionsV2`).
 #[derive(Drop)]
@@ -52,7 +52,7 @@ impl Clone for PreconditionsV2 {
 impl Xdr for PreconditionsV2 {
     ghost format = { v2_format };
 
-    fn read_parts(alloc: Global, input: &mut Cursor<'_>) -> Result<PreconditionsV2, ReadXdr> {
+    fn read_parts<W: Words>(alloc: Global, input: &mut W) -> Result<PreconditionsV2, ReadXdr> {
         let time_bounds = Option::<TimeBounds>::read(alloc, input)?;
         let ledger_bounds = Option::<LedgerBounds>::read(alloc, input)?;
         let min_seq_num = Option::<i64>::read(alloc, input)?;
@@ -127,7 +127,7 @@ impl PreconditionType {
 impl Xdr for PreconditionType {
     ghost format = { type_format };
 
-    fn read_parts(_alloc: Global, input: &mut Cursor<'_>) -> Result<PreconditionType, ReadXdr> {
+    fn read_parts<W: Words>(_alloc: Global, input: &mut W) -> Result<PreconditionType, ReadXdr> {
         let place = input.place();
         named(PreconditionType::from_number(input.u32()?), place)
     }
@@ -179,12 +179,14 @@ impl Preconditions {
     }
 }
 
-fn read_arm(
+#[tactic(auto, unfolding(crate::specs::Preconditions::preconditions_format))]
+fn read_arm<W: Words>(
     alloc: Global,
-    input: &mut Cursor<'_>,
+    input: &mut W,
     kind: PreconditionType,
 ) -> Result<Preconditions, ReadXdr>
-    ensures { Reads (arms kind).read input.old input.new result }
+    ensures value { Reads (arms kind).read (W.seen input.old) (W.seen input.new) result }
+    ensures fits { IfOk result preconditions_format.fits }
 {
     match kind {
         PreconditionType::None => Ok(Preconditions::None),
@@ -197,7 +199,7 @@ fn read_arm(
 impl Xdr for Preconditions {
     ghost format = { preconditions_format };
 
-    fn read_parts(alloc: Global, input: &mut Cursor<'_>) -> Result<Preconditions, ReadXdr> {
+    fn read_parts<W: Words>(alloc: Global, input: &mut W) -> Result<Preconditions, ReadXdr> {
         let kind = PreconditionType::read(alloc, input)?;
         read_arm(alloc, input, kind)
     }

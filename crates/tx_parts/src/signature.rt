@@ -5,8 +5,8 @@ ghost use Rattle.tx_parts.specs.Signature.{signature_format, signature_lawful};
 
 use std::alloc::{AllocError, Global};
 use value_types::Bytes;
-use value_xdr::Xdr;
-use xdr_core::{Cursor, NoMemory, Out, ReadXdr};
+use value_xdr::{Xdr, hold_bytes};
+use xdr_core::{NoMemory, Out, ReadXdr, Words};
 
 /// A signature, with the last four bytes of the key that made it (`DecoratedSignature`).
 #[derive(Drop)]
@@ -30,9 +30,10 @@ impl Clone for DecoratedSignature {
 impl Xdr for DecoratedSignature {
     ghost format = { signature_format };
 
-    fn read_parts(alloc: Global, input: &mut Cursor<'_>) -> Result<DecoratedSignature, ReadXdr> {
+    fn read_parts<W: Words>(alloc: Global, input: &mut W) -> Result<DecoratedSignature, ReadXdr> {
         let mut hint = [0u8; 4];
-        hint.copy_from_slice(input.fixed(4)?);
+        input.fill(&mut hint)?;
+        hold_bytes(&hint);
         let signature = Bytes::<64>::read(alloc, input)?;
         Ok(DecoratedSignature { hint, signature })
     }

@@ -1,6 +1,6 @@
 //! Keys that have to sign a transaction.
 
-ghost use Rattle.std.specs.Prelude.{◌≡◌};
+ghost use Rattle.std.specs.Prelude.{◌≡◌, IfOk};
 ghost use Rattle.xdr_core.specs.Reads.{Reads};
 ghost use Rattle.tx_parts.specs.SignerKey.{number, kind_of, kind, type_format, type_lawful, arms, signer_key_format};
 ghost use Rattle.tx_parts.specs.SignerKey.{signer_key_lawful};
@@ -8,7 +8,7 @@ ghost use Rattle.tx_parts.specs.SignerKey.{signer_key_lawful};
 use std::alloc::{AllocError, Global};
 use value_types::{Bytes, Hash};
 use value_xdr::{Xdr, named};
-use xdr_core::{Cursor, NoMemory, Out, ReadXdr, add_sizes};
+use xdr_core::{NoMemory, Out, ReadXdr, Words, add_sizes};
 
 /// The types of signer keys (`SignerKeyType`).
 #[derive(Clone, Copy, Debug, PartialEq, Eq)]
@@ -50,7 +50,7 @@ impl SignerKeyType {
 impl Xdr for SignerKeyType {
     ghost format = { type_format };
 
-    fn read_parts(_alloc: Global, input: &mut Cursor<'_>) -> Result<SignerKeyType, ReadXdr> {
+    fn read_parts<W: Words>(_alloc: Global, input: &mut W) -> Result<SignerKeyType, ReadXdr> {
         let place = input.place();
         named(SignerKeyType::from_number(input.u32()?), place)
     }
@@ -111,20 +111,24 @@ impl SignerKey {
     }
 }
 
-fn read_signed_payload(alloc: Global, input: &mut Cursor<'_>) -> Result<SignerKey, ReadXdr>
-    ensures { Reads (arms SignerKeyType.Ed25519SignedPayload).read input.old input.new result }
+#[tactic(auto, unfolding(crate::specs::SignerKey::signer_key_format))]
+fn read_signed_payload<W: Words>(alloc: Global, input: &mut W) -> Result<SignerKey, ReadXdr>
+    ensures value { Reads (arms SignerKeyType.Ed25519SignedPayload).read (W.seen input.old) (W.seen input.new) result }
+    ensures fits { IfOk result signer_key_format.fits }
 {
     let ed25519 = Hash::read(alloc, input)?;
     let payload = Bytes::<64>::read(alloc, input)?;
     Ok(SignerKey::Ed25519SignedPayload { ed25519, payload })
 }
 
-fn read_arm(
+#[tactic(auto, unfolding(crate::specs::SignerKey::signer_key_format))]
+fn read_arm<W: Words>(
     alloc: Global,
-    input: &mut Cursor<'_>,
+    input: &mut W,
     kind: SignerKeyType,
 ) -> Result<SignerKey, ReadXdr>
-    ensures { Reads (arms kind).read input.old input.new result }
+    ensures value { Reads (arms kind).read (W.seen input.old) (W.seen input.new) result }
+    ensures fits { IfOk result signer_key_format.fits }
 {
     match kind {
         SignerKeyType::Ed25519 => Ok(SignerKey::Ed25519(Hash::read(alloc, input)?)),
@@ -138,7 +142,7 @@ fn read_arm(
 impl Xdr for SignerKey {
     ghost format = { signer_key_format };
 
-    fn read_parts(alloc: Global, input: &mut Cursor<'_>) -> Result<SignerKey, ReadXdr> {
+    fn read_parts<W: Words>(alloc: Global, input: &mut W) -> Result<SignerKey, ReadXdr> {
         let kind = SignerKeyType::read(alloc, input)?;
         read_arm(alloc, input, kind)
     }

@@ -1,5 +1,6 @@
 //! The spelling of operations' results.
 
+ghost use Rattle.std.specs.Prelude.{IfOk};
 ghost use Rattle.xdr_core.specs.Reads.{Reads};
 ghost use Rattle.tx_results.specs.Operations.{invoke_code_format, invoke_code_lawful, invoke_arms, invoke_format, invoke_lawful};
 ghost use Rattle.tx_results.specs.Operations.{extend_format, extend_lawful, inner_kind_format, inner_kind_lawful, inner_arms};
@@ -11,7 +12,7 @@ use crate::operation::{InnerResult, InvokeResult, OperationResult};
 use std::alloc::Global;
 use value_types::Hash;
 use value_xdr::Xdr;
-use xdr_core::{Cursor, NoMemory, Out, ReadXdr, Why, XdrErr, add_sizes};
+use xdr_core::{NoMemory, Out, ReadXdr, Why, Words, XdrErr, add_sizes};
 
 // ---- INVOKE_HOST_FUNCTION
 
@@ -19,7 +20,7 @@ use xdr_core::{Cursor, NoMemory, Out, ReadXdr, Why, XdrErr, add_sizes};
 impl Xdr for InvokeResultCode {
     ghost format = { invoke_code_format };
 
-    fn read_parts(_alloc: Global, input: &mut Cursor<'_>) -> Result<InvokeResultCode, ReadXdr> {
+    fn read_parts<W: Words>(_alloc: Global, input: &mut W) -> Result<InvokeResultCode, ReadXdr> {
         let place = input.place();
         let number = input.u32()?;
         InvokeResultCode::from_number(number).ok_or(ReadXdr::Bad(XdrErr {
@@ -39,12 +40,14 @@ impl Xdr for InvokeResultCode {
     ghost lawful = { invoke_code_lawful };
 }
 
-fn read_invoke_arm(
+#[tactic(auto, unfolding(crate::specs::Operations::invoke_format))]
+fn read_invoke_arm<W: Words>(
     alloc: Global,
-    input: &mut Cursor<'_>,
+    input: &mut W,
     code: InvokeResultCode,
 ) -> Result<InvokeResult, ReadXdr>
-    ensures { Reads (invoke_arms code).read input.old input.new result }
+    ensures value { Reads (invoke_arms code).read (W.seen input.old) (W.seen input.new) result }
+    ensures fits { IfOk result invoke_format.fits }
 {
     match code {
         InvokeResultCode::Success => Ok(InvokeResult::Success(Hash::read(alloc, input)?)),
@@ -59,7 +62,7 @@ fn read_invoke_arm(
 impl Xdr for InvokeResult {
     ghost format = { invoke_format };
 
-    fn read_parts(alloc: Global, input: &mut Cursor<'_>) -> Result<InvokeResult, ReadXdr> {
+    fn read_parts<W: Words>(alloc: Global, input: &mut W) -> Result<InvokeResult, ReadXdr> {
         let code = InvokeResultCode::read(alloc, input)?;
         read_invoke_arm(alloc, input, code)
     }
@@ -95,7 +98,7 @@ impl Xdr for InvokeResult {
 impl Xdr for ExtendResult {
     ghost format = { extend_format };
 
-    fn read_parts(_alloc: Global, input: &mut Cursor<'_>) -> Result<ExtendResult, ReadXdr> {
+    fn read_parts<W: Words>(_alloc: Global, input: &mut W) -> Result<ExtendResult, ReadXdr> {
         let place = input.place();
         let number = input.u32()?;
         ExtendResult::from_number(number).ok_or(ReadXdr::Bad(XdrErr {
@@ -121,7 +124,7 @@ impl Xdr for ExtendResult {
 impl Xdr for InnerKind {
     ghost format = { inner_kind_format };
 
-    fn read_parts(_alloc: Global, input: &mut Cursor<'_>) -> Result<InnerKind, ReadXdr> {
+    fn read_parts<W: Words>(_alloc: Global, input: &mut W) -> Result<InnerKind, ReadXdr> {
         let place = input.place();
         let number = input.u32()?;
         InnerKind::from_number(number).ok_or(ReadXdr::Bad(XdrErr {
@@ -141,12 +144,14 @@ impl Xdr for InnerKind {
     ghost lawful = { inner_kind_lawful };
 }
 
-fn read_inner_arm(
+#[tactic(auto, unfolding(crate::specs::Operations::inner_format))]
+fn read_inner_arm<W: Words>(
     alloc: Global,
-    input: &mut Cursor<'_>,
+    input: &mut W,
     kind: InnerKind,
 ) -> Result<InnerResult, ReadXdr>
-    ensures { Reads (inner_arms kind).read input.old input.new result }
+    ensures value { Reads (inner_arms kind).read (W.seen input.old) (W.seen input.new) result }
+    ensures fits { IfOk result inner_format.fits }
 {
     match kind {
         InnerKind::Invoke => Ok(InnerResult::Invoke(InvokeResult::read(alloc, input)?)),
@@ -158,7 +163,7 @@ fn read_inner_arm(
 impl Xdr for InnerResult {
     ghost format = { inner_format };
 
-    fn read_parts(alloc: Global, input: &mut Cursor<'_>) -> Result<InnerResult, ReadXdr> {
+    fn read_parts<W: Words>(alloc: Global, input: &mut W) -> Result<InnerResult, ReadXdr> {
         let kind = InnerKind::read(alloc, input)?;
         read_inner_arm(alloc, input, kind)
     }
@@ -188,7 +193,7 @@ impl Xdr for InnerResult {
 impl Xdr for OperationResultCode {
     ghost format = { operation_code_format };
 
-    fn read_parts(_alloc: Global, input: &mut Cursor<'_>) -> Result<OperationResultCode, ReadXdr> {
+    fn read_parts<W: Words>(_alloc: Global, input: &mut W) -> Result<OperationResultCode, ReadXdr> {
         let place = input.place();
         let number = input.u32()?;
         OperationResultCode::from_number(number).ok_or(ReadXdr::Bad(XdrErr {
@@ -208,12 +213,14 @@ impl Xdr for OperationResultCode {
     ghost lawful = { operation_code_lawful };
 }
 
-fn read_operation_arm(
+#[tactic(auto, unfolding(crate::specs::Operations::operation_format))]
+fn read_operation_arm<W: Words>(
     alloc: Global,
-    input: &mut Cursor<'_>,
+    input: &mut W,
     code: OperationResultCode,
 ) -> Result<OperationResult, ReadXdr>
-    ensures { Reads (operation_arms code).read input.old input.new result }
+    ensures value { Reads (operation_arms code).read (W.seen input.old) (W.seen input.new) result }
+    ensures fits { IfOk result operation_format.fits }
 {
     match code {
         OperationResultCode::Inner => {
@@ -227,7 +234,7 @@ fn read_operation_arm(
 impl Xdr for OperationResult {
     ghost format = { operation_format };
 
-    fn read_parts(alloc: Global, input: &mut Cursor<'_>) -> Result<OperationResult, ReadXdr> {
+    fn read_parts<W: Words>(alloc: Global, input: &mut W) -> Result<OperationResult, ReadXdr> {
         let code = OperationResultCode::read(alloc, input)?;
         read_operation_arm(alloc, input, code)
     }

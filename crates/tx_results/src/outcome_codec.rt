@@ -1,5 +1,6 @@
 //! The spelling of the outcomes of transactions and envelopes.
 
+ghost use Rattle.std.specs.Prelude.{IfOk};
 ghost use Rattle.xdr_core.specs.Reads.{Reads};
 ghost use Rattle.tx_results.specs.Results.{code_format, code_lawful, outcome_format, outcome_lawful, outcome_arms};
 ghost use Rattle.tx_results.specs.Results.{inner_result_format, inner_result_lawful, inner_pair_format, inner_pair_lawful};
@@ -15,15 +16,15 @@ use crate::results::{
 use std::alloc::Global;
 use value_types::{Hash, Items};
 use value_xdr::{Xdr, named, read_head};
-use xdr_core::{Cursor, NoMemory, Out, ReadXdr, Why, XdrErr, add_sizes};
+use xdr_core::{NoMemory, Out, ReadXdr, Why, Words, XdrErr, add_sizes};
 
 #[tactic(auto, unfolding(crate::specs::Results::code_format, xdr_core::specs::Sizes::capped))]
 impl Xdr for TransactionResultCode {
     ghost format = { code_format };
 
-    fn read_parts(
+    fn read_parts<W: Words>(
         _alloc: Global,
-        input: &mut Cursor<'_>,
+        input: &mut W,
     ) -> Result<TransactionResultCode, ReadXdr> {
         let place = input.place();
         let number = input.u32()?;
@@ -44,12 +45,14 @@ impl Xdr for TransactionResultCode {
     ghost lawful = { code_lawful };
 }
 
-fn read_arm(
+#[tactic(auto, unfolding(crate::specs::Results::outcome_format))]
+fn read_arm<W: Words>(
     alloc: Global,
-    input: &mut Cursor<'_>,
+    input: &mut W,
     code: TransactionResultCode,
 ) -> Result<TransactionOutcome, ReadXdr>
-    ensures { Reads (outcome_arms code).read input.old input.new result }
+    ensures value { Reads (outcome_arms code).read (W.seen input.old) (W.seen input.new) result }
+    ensures fits { IfOk result outcome_format.fits }
 {
     match code {
         TransactionResultCode::Success => {
@@ -74,7 +77,7 @@ fn read_arm(
 impl Xdr for TransactionOutcome {
     ghost format = { outcome_format };
 
-    fn read_parts(alloc: Global, input: &mut Cursor<'_>) -> Result<TransactionOutcome, ReadXdr> {
+    fn read_parts<W: Words>(alloc: Global, input: &mut W) -> Result<TransactionOutcome, ReadXdr> {
         let code = TransactionResultCode::read(alloc, input)?;
         read_arm(alloc, input, code)
     }
@@ -114,9 +117,9 @@ impl Xdr for TransactionOutcome {
 impl Xdr for InnerTransactionResult {
     ghost format = { inner_result_format };
 
-    fn read_parts(
+    fn read_parts<W: Words>(
         alloc: Global,
-        input: &mut Cursor<'_>,
+        input: &mut W,
     ) -> Result<InnerTransactionResult, ReadXdr> {
         let fee_charged = i64::read(alloc, input)?;
         let outcome = TransactionOutcome::read(alloc, input)?;
@@ -146,9 +149,9 @@ impl Xdr for InnerTransactionResult {
 impl Xdr for InnerTransactionResultPair {
     ghost format = { inner_pair_format };
 
-    fn read_parts(
+    fn read_parts<W: Words>(
         alloc: Global,
-        input: &mut Cursor<'_>,
+        input: &mut W,
     ) -> Result<InnerTransactionResultPair, ReadXdr> {
         let hash = Hash::read(alloc, input)?;
         let result = InnerTransactionResult::read(alloc, input)?;
@@ -171,7 +174,7 @@ impl Xdr for InnerTransactionResultPair {
 impl Xdr for EnvelopeResultCode {
     ghost format = { envelope_code_format };
 
-    fn read_parts(_alloc: Global, input: &mut Cursor<'_>) -> Result<EnvelopeResultCode, ReadXdr> {
+    fn read_parts<W: Words>(_alloc: Global, input: &mut W) -> Result<EnvelopeResultCode, ReadXdr> {
         let place = input.place();
         named(EnvelopeResultCode::from_number(input.u32()?), place)
     }
@@ -187,12 +190,14 @@ impl Xdr for EnvelopeResultCode {
     ghost lawful = { envelope_code_lawful };
 }
 
-fn read_envelope_arm(
+#[tactic(auto, unfolding(crate::specs::Results::envelope_outcome_format, crate::specs::Results::outcome_format))]
+fn read_envelope_arm<W: Words>(
     alloc: Global,
-    input: &mut Cursor<'_>,
+    input: &mut W,
     code: EnvelopeResultCode,
 ) -> Result<EnvelopeOutcome, ReadXdr>
-    ensures { Reads (envelope_arms code).read input.old input.new result }
+    ensures value { Reads (envelope_arms code).read (W.seen input.old) (W.seen input.new) result }
+    ensures fits { IfOk result envelope_outcome_format.fits }
 {
     match code {
         EnvelopeResultCode::FeeBumpInnerSuccess => Ok(EnvelopeOutcome::FeeBumpInnerSuccess(
@@ -211,7 +216,7 @@ fn read_envelope_arm(
 impl Xdr for EnvelopeOutcome {
     ghost format = { envelope_outcome_format };
 
-    fn read_parts(alloc: Global, input: &mut Cursor<'_>) -> Result<EnvelopeOutcome, ReadXdr> {
+    fn read_parts<W: Words>(alloc: Global, input: &mut W) -> Result<EnvelopeOutcome, ReadXdr> {
         let code = EnvelopeResultCode::read(alloc, input)?;
         read_envelope_arm(alloc, input, code)
     }

@@ -8,13 +8,13 @@ use crate::results::{EnvelopeOutcome, ResultSet, TransactionResult, TransactionR
 use std::alloc::Global;
 use value_types::{Hash, Items};
 use value_xdr::{Xdr, read_head};
-use xdr_core::{Cursor, NoMemory, Out, ReadXdr, add_sizes};
+use xdr_core::{NoMemory, Out, ReadXdr, Words, add_sizes};
 
 #[tactic(auto, unfolding(crate::specs::Results::result_format))]
 impl Xdr for TransactionResult {
     ghost format = { result_format };
 
-    fn read_parts(alloc: Global, input: &mut Cursor<'_>) -> Result<TransactionResult, ReadXdr> {
+    fn read_parts<W: Words>(alloc: Global, input: &mut W) -> Result<TransactionResult, ReadXdr> {
         let fee_charged = i64::read(alloc, input)?;
         let outcome = EnvelopeOutcome::read(alloc, input)?;
         read_head(input, NO_EXT)?;
@@ -43,7 +43,10 @@ impl Xdr for TransactionResult {
 impl Xdr for TransactionResultPair {
     ghost format = { pair_format };
 
-    fn read_parts(alloc: Global, input: &mut Cursor<'_>) -> Result<TransactionResultPair, ReadXdr> {
+    fn read_parts<W: Words>(
+        alloc: Global,
+        input: &mut W,
+    ) -> Result<TransactionResultPair, ReadXdr> {
         let hash = Hash::read(alloc, input)?;
         let result = TransactionResult::read(alloc, input)?;
         Ok(TransactionResultPair { hash, result })
@@ -65,7 +68,7 @@ impl Xdr for TransactionResultPair {
 impl Xdr for ResultSet {
     ghost format = { result_set_format };
 
-    fn read_parts(alloc: Global, input: &mut Cursor<'_>) -> Result<ResultSet, ReadXdr> {
+    fn read_parts<W: Words>(alloc: Global, input: &mut W) -> Result<ResultSet, ReadXdr> {
         let pairs = Items::<TransactionResultPair, 4294967295>::read(alloc, input)?;
         Ok(ResultSet { pairs })
     }

@@ -1,5 +1,6 @@
 //! The codec of envelopes.
 
+ghost use Rattle.std.specs.Prelude.{IfOk};
 ghost use Rattle.xdr_core.specs.Reads.{Reads};
 ghost use Rattle.tx_xdr.specs.Envelope.{signed_format, signed_lawful, fee_bump_format, fee_bump_lawful, signed_fee_bump_format};
 ghost use Rattle.tx_xdr.specs.Envelope.{signed_fee_bump_lawful, type_format, type_lawful, arms, envelope_format, envelope_lawful};
@@ -11,13 +12,13 @@ use std::alloc::Global;
 use tx_parts::{DecoratedSignature, MuxedAccount};
 use value_types::Items;
 use value_xdr::{Xdr, named, read_head};
-use xdr_core::{Cursor, NoMemory, Out, ReadXdr, add_sizes};
+use xdr_core::{NoMemory, Out, ReadXdr, Words, add_sizes};
 
 #[tactic(auto, unfolding(crate::specs::Envelope::signed_format, xdr_core::specs::Sizes::capped))]
 impl Xdr for SignedTransaction {
     ghost format = { signed_format };
 
-    fn read_parts(alloc: Global, input: &mut Cursor<'_>) -> Result<SignedTransaction, ReadXdr> {
+    fn read_parts<W: Words>(alloc: Global, input: &mut W) -> Result<SignedTransaction, ReadXdr> {
         let tx = Transaction::read(alloc, input)?;
         let signatures = Items::<DecoratedSignature, 20>::read(alloc, input)?;
         Ok(SignedTransaction { tx, signatures })
@@ -39,7 +40,7 @@ impl Xdr for SignedTransaction {
 impl Xdr for FeeBump {
     ghost format = { fee_bump_format };
 
-    fn read_parts(alloc: Global, input: &mut Cursor<'_>) -> Result<FeeBump, ReadXdr> {
+    fn read_parts<W: Words>(alloc: Global, input: &mut W) -> Result<FeeBump, ReadXdr> {
         let fee_source = MuxedAccount::read(alloc, input)?;
         let fee = i64::read(alloc, input)?;
         read_head(input, ENVELOPE_TYPE_TX)?;
@@ -73,7 +74,7 @@ impl Xdr for FeeBump {
 impl Xdr for SignedFeeBump {
     ghost format = { signed_fee_bump_format };
 
-    fn read_parts(alloc: Global, input: &mut Cursor<'_>) -> Result<SignedFeeBump, ReadXdr> {
+    fn read_parts<W: Words>(alloc: Global, input: &mut W) -> Result<SignedFeeBump, ReadXdr> {
         let fee_bump = FeeBump::read(alloc, input)?;
         let signatures = Items::<DecoratedSignature, 20>::read(alloc, input)?;
         Ok(SignedFeeBump {
@@ -98,7 +99,7 @@ impl Xdr for SignedFeeBump {
 impl Xdr for EnvelopeType {
     ghost format = { type_format };
 
-    fn read_parts(_alloc: Global, input: &mut Cursor<'_>) -> Result<EnvelopeType, ReadXdr> {
+    fn read_parts<W: Words>(_alloc: Global, input: &mut W) -> Result<EnvelopeType, ReadXdr> {
         let place = input.place();
         named(EnvelopeType::from_number(input.u32()?), place)
     }
@@ -114,8 +115,10 @@ impl Xdr for EnvelopeType {
     ghost lawful = { type_lawful };
 }
 
-fn read_arm(alloc: Global, input: &mut Cursor<'_>, kind: EnvelopeType) -> Result<Envelope, ReadXdr>
-    ensures { Reads (arms kind).read input.old input.new result }
+#[tactic(auto, unfolding(crate::specs::Envelope::envelope_format))]
+fn read_arm<W: Words>(alloc: Global, input: &mut W, kind: EnvelopeType) -> Result<Envelope, ReadXdr>
+    ensures value { Reads (arms kind).read (W.seen input.old) (W.seen input.new) result }
+    ensures fits { IfOk result envelope_format.fits }
 {
     match kind {
         EnvelopeType::Transaction => Ok(Envelope::Transaction(SignedTransaction::read(
@@ -129,7 +132,7 @@ fn read_arm(alloc: Global, input: &mut Cursor<'_>, kind: EnvelopeType) -> Result
 impl Xdr for Envelope {
     ghost format = { envelope_format };
 
-    fn read_parts(alloc: Global, input: &mut Cursor<'_>) -> Result<Envelope, ReadXdr> {
+    fn read_parts<W: Words>(alloc: Global, input: &mut W) -> Result<Envelope, ReadXdr> {
         let kind = EnvelopeType::read(alloc, input)?;
         read_arm(alloc, input, kind)
     }

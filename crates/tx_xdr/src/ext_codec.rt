@@ -1,18 +1,19 @@
 //! The codec of a transaction's extension.
 
+ghost use Rattle.std.specs.Prelude.{IfOk};
 ghost use Rattle.xdr_core.specs.Reads.{Reads};
 ghost use Rattle.tx_xdr.specs.Ext.{type_format, type_lawful, arms, ext_format, ext_lawful};
 
 use crate::transaction::{SorobanData, TransactionExt, TransactionExtType};
 use std::alloc::Global;
 use value_xdr::{Xdr, named};
-use xdr_core::{Cursor, NoMemory, Out, ReadXdr, add_sizes};
+use xdr_core::{NoMemory, Out, ReadXdr, Words, add_sizes};
 
 #[tactic(auto, unfolding(crate::specs::Ext::type_format, xdr_core::specs::Sizes::capped))]
 impl Xdr for TransactionExtType {
     ghost format = { type_format };
 
-    fn read_parts(_alloc: Global, input: &mut Cursor<'_>) -> Result<TransactionExtType, ReadXdr> {
+    fn read_parts<W: Words>(_alloc: Global, input: &mut W) -> Result<TransactionExtType, ReadXdr> {
         let place = input.place();
         named(TransactionExtType::from_number(input.u32()?), place)
     }
@@ -28,12 +29,14 @@ impl Xdr for TransactionExtType {
     ghost lawful = { type_lawful };
 }
 
-fn read_arm(
+#[tactic(auto, unfolding(crate::specs::Ext::ext_format))]
+fn read_arm<W: Words>(
     alloc: Global,
-    input: &mut Cursor<'_>,
+    input: &mut W,
     kind: TransactionExtType,
 ) -> Result<TransactionExt, ReadXdr>
-    ensures { Reads (arms kind).read input.old input.new result }
+    ensures value { Reads (arms kind).read (W.seen input.old) (W.seen input.new) result }
+    ensures fits { IfOk result ext_format.fits }
 {
     match kind {
         TransactionExtType::None => Ok(TransactionExt::None),
@@ -47,7 +50,7 @@ fn read_arm(
 impl Xdr for TransactionExt {
     ghost format = { ext_format };
 
-    fn read_parts(alloc: Global, input: &mut Cursor<'_>) -> Result<TransactionExt, ReadXdr> {
+    fn read_parts<W: Words>(alloc: Global, input: &mut W) -> Result<TransactionExt, ReadXdr> {
         let kind = TransactionExtType::read(alloc, input)?;
         read_arm(alloc, input, kind)
     }

@@ -1,5 +1,6 @@
 //! The codec of operations.
 
+ghost use Rattle.std.specs.Prelude.{IfOk};
 ghost use Rattle.xdr_core.specs.Reads.{Reads};
 ghost use Rattle.tx_xdr.specs.Operation.{type_format, type_lawful, arms, body_format, body_lawful, operation_format};
 ghost use Rattle.tx_xdr.specs.Operation.{operation_lawful};
@@ -12,13 +13,13 @@ use std::alloc::Global;
 use tx_parts::MuxedAccount;
 use value_types::Items;
 use value_xdr::{Xdr, named, read_head};
-use xdr_core::{Cursor, NoMemory, Out, ReadXdr, add_sizes};
+use xdr_core::{NoMemory, Out, ReadXdr, Words, add_sizes};
 
 #[tactic(auto, unfolding(crate::specs::Operation::type_format, xdr_core::specs::Sizes::capped))]
 impl Xdr for OperationType {
     ghost format = { type_format };
 
-    fn read_parts(_alloc: Global, input: &mut Cursor<'_>) -> Result<OperationType, ReadXdr> {
+    fn read_parts<W: Words>(_alloc: Global, input: &mut W) -> Result<OperationType, ReadXdr> {
         let place = input.place();
         named(OperationType::from_number(input.u32()?), place)
     }
@@ -34,8 +35,10 @@ impl Xdr for OperationType {
     ghost lawful = { type_lawful };
 }
 
-fn read_invocation(alloc: Global, input: &mut Cursor<'_>) -> Result<OperationBody, ReadXdr>
-    ensures { Reads (arms OperationType.InvokeHostFunction).read input.old input.new result }
+#[tactic(auto, unfolding(crate::specs::Operation::body_format))]
+fn read_invocation<W: Words>(alloc: Global, input: &mut W) -> Result<OperationBody, ReadXdr>
+    ensures value { Reads (arms OperationType.InvokeHostFunction).read (W.seen input.old) (W.seen input.new) result }
+    ensures fits { IfOk result body_format.fits }
 {
     let host_function = HostFunction::read(alloc, input)?;
     let auth = Items::<AuthEntry, 4294967295>::read(alloc, input)?;
@@ -45,27 +48,33 @@ fn read_invocation(alloc: Global, input: &mut Cursor<'_>) -> Result<OperationBod
     })
 }
 
-fn read_extension(alloc: Global, input: &mut Cursor<'_>) -> Result<OperationBody, ReadXdr>
-    ensures { Reads (arms OperationType.ExtendFootprintTtl).read input.old input.new result }
+#[tactic(auto, unfolding(crate::specs::Operation::body_format))]
+fn read_extension<W: Words>(alloc: Global, input: &mut W) -> Result<OperationBody, ReadXdr>
+    ensures value { Reads (arms OperationType.ExtendFootprintTtl).read (W.seen input.old) (W.seen input.new) result }
+    ensures fits { IfOk result body_format.fits }
 {
     read_head(input, NO_EXT)?;
     let extend_to = u32::read(alloc, input)?;
     Ok(OperationBody::ExtendFootprintTtl { extend_to })
 }
 
-fn read_restoration(input: &mut Cursor<'_>) -> Result<OperationBody, ReadXdr>
-    ensures { Reads (arms OperationType.RestoreFootprint).read input.old input.new result }
+#[tactic(auto, unfolding(crate::specs::Operation::body_format))]
+fn read_restoration<W: Words>(input: &mut W) -> Result<OperationBody, ReadXdr>
+    ensures value { Reads (arms OperationType.RestoreFootprint).read (W.seen input.old) (W.seen input.new) result }
+    ensures fits { IfOk result body_format.fits }
 {
     read_head(input, NO_EXT)?;
     Ok(OperationBody::RestoreFootprint)
 }
 
-fn read_arm(
+#[tactic(auto, unfolding(crate::specs::Operation::body_format))]
+fn read_arm<W: Words>(
     alloc: Global,
-    input: &mut Cursor<'_>,
+    input: &mut W,
     kind: OperationType,
 ) -> Result<OperationBody, ReadXdr>
-    ensures { Reads (arms kind).read input.old input.new result }
+    ensures value { Reads (arms kind).read (W.seen input.old) (W.seen input.new) result }
+    ensures fits { IfOk result body_format.fits }
 {
     match kind {
         OperationType::InvokeHostFunction => read_invocation(alloc, input),
@@ -78,7 +87,7 @@ fn read_arm(
 impl Xdr for OperationBody {
     ghost format = { body_format };
 
-    fn read_parts(alloc: Global, input: &mut Cursor<'_>) -> Result<OperationBody, ReadXdr> {
+    fn read_parts<W: Words>(alloc: Global, input: &mut W) -> Result<OperationBody, ReadXdr> {
         let kind = OperationType::read(alloc, input)?;
         read_arm(alloc, input, kind)
     }
@@ -120,7 +129,7 @@ impl Xdr for OperationBody {
 impl Xdr for Operation {
     ghost format = { operation_format };
 
-    fn read_parts(alloc: Global, input: &mut Cursor<'_>) -> Result<Operation, ReadXdr> {
+    fn read_parts<W: Words>(alloc: Global, input: &mut W) -> Result<Operation, ReadXdr> {
         let source = Option::<MuxedAccount>::read(alloc, input)?;
         let body = OperationBody::read(alloc, input)?;
         Ok(Operation { source, body })

@@ -1,5 +1,6 @@
 //! The codec of transaction sets.
 
+ghost use Rattle.std.specs.Prelude.{IfOk};
 ghost use Rattle.xdr_core.specs.Reads.{Reads};
 ghost use Rattle.tx_xdr.specs.Set.{component_format, component_lawful, cluster_format, cluster_lawful, stage_format};
 ghost use Rattle.tx_xdr.specs.Set.{stage_lawful, phase_type_format, phase_type_lawful, phase_arms, phase_format, phase_lawful};
@@ -10,7 +11,7 @@ use crate::set::{Cluster, Component, Phase, PhaseType, Stage, TxSet};
 use std::alloc::Global;
 use value_types::{Hash, Items};
 use value_xdr::{Xdr, named, read_head};
-use xdr_core::{Cursor, NoMemory, Out, ReadXdr, add_sizes};
+use xdr_core::{NoMemory, Out, ReadXdr, Words, add_sizes};
 
 /// The number of the only type of components (TXSET_COMP_TXS_MAYBE_DISCOUNTED_FEE).
 const MAYBE_DISCOUNTED_FEE: u32 = 0;
@@ -21,7 +22,7 @@ const VERSION: u32 = 1;
 impl Xdr for Component {
     ghost format = { component_format };
 
-    fn read_parts(alloc: Global, input: &mut Cursor<'_>) -> Result<Component, ReadXdr> {
+    fn read_parts<W: Words>(alloc: Global, input: &mut W) -> Result<Component, ReadXdr> {
         read_head(input, MAYBE_DISCOUNTED_FEE)?;
         let base_fee = Option::<i64>::read(alloc, input)?;
         let envelopes = Items::<Envelope, 4294967295>::read(alloc, input)?;
@@ -48,7 +49,7 @@ impl Xdr for Component {
 impl Xdr for Cluster {
     ghost format = { cluster_format };
 
-    fn read_parts(alloc: Global, input: &mut Cursor<'_>) -> Result<Cluster, ReadXdr> {
+    fn read_parts<W: Words>(alloc: Global, input: &mut W) -> Result<Cluster, ReadXdr> {
         let envelopes = Items::<Envelope, 4294967295>::read(alloc, input)?;
         Ok(Cluster { envelopes })
     }
@@ -68,7 +69,7 @@ impl Xdr for Cluster {
 impl Xdr for Stage {
     ghost format = { stage_format };
 
-    fn read_parts(alloc: Global, input: &mut Cursor<'_>) -> Result<Stage, ReadXdr> {
+    fn read_parts<W: Words>(alloc: Global, input: &mut W) -> Result<Stage, ReadXdr> {
         let clusters = Items::<Cluster, 4294967295>::read(alloc, input)?;
         Ok(Stage { clusters })
     }
@@ -88,7 +89,7 @@ impl Xdr for Stage {
 impl Xdr for PhaseType {
     ghost format = { phase_type_format };
 
-    fn read_parts(_alloc: Global, input: &mut Cursor<'_>) -> Result<PhaseType, ReadXdr> {
+    fn read_parts<W: Words>(_alloc: Global, input: &mut W) -> Result<PhaseType, ReadXdr> {
         let place = input.place();
         named(PhaseType::from_number(input.u32()?), place)
     }
@@ -104,16 +105,20 @@ impl Xdr for PhaseType {
     ghost lawful = { phase_type_lawful };
 }
 
-fn read_parallel(alloc: Global, input: &mut Cursor<'_>) -> Result<Phase, ReadXdr>
-    ensures { Reads (phase_arms PhaseType.Parallel).read input.old input.new result }
+#[tactic(auto, unfolding(crate::specs::Set::phase_format))]
+fn read_parallel<W: Words>(alloc: Global, input: &mut W) -> Result<Phase, ReadXdr>
+    ensures value { Reads (phase_arms PhaseType.Parallel).read (W.seen input.old) (W.seen input.new) result }
+    ensures fits { IfOk result phase_format.fits }
 {
     let base_fee = Option::<i64>::read(alloc, input)?;
     let stages = Items::<Stage, 4294967295>::read(alloc, input)?;
     Ok(Phase::Parallel { base_fee, stages })
 }
 
-fn read_arm(alloc: Global, input: &mut Cursor<'_>, phase_type: PhaseType) -> Result<Phase, ReadXdr>
-    ensures { Reads (phase_arms phase_type).read input.old input.new result }
+#[tactic(auto, unfolding(crate::specs::Set::phase_format))]
+fn read_arm<W: Words>(alloc: Global, input: &mut W, phase_type: PhaseType) -> Result<Phase, ReadXdr>
+    ensures value { Reads (phase_arms phase_type).read (W.seen input.old) (W.seen input.new) result }
+    ensures fits { IfOk result phase_format.fits }
 {
     match phase_type {
         PhaseType::Components => {
@@ -128,7 +133,7 @@ fn read_arm(alloc: Global, input: &mut Cursor<'_>, phase_type: PhaseType) -> Res
 impl Xdr for Phase {
     ghost format = { phase_format };
 
-    fn read_parts(alloc: Global, input: &mut Cursor<'_>) -> Result<Phase, ReadXdr> {
+    fn read_parts<W: Words>(alloc: Global, input: &mut W) -> Result<Phase, ReadXdr> {
         let phase_type = PhaseType::read(alloc, input)?;
         read_arm(alloc, input, phase_type)
     }
@@ -159,7 +164,7 @@ impl Xdr for Phase {
 impl Xdr for TxSet {
     ghost format = { set_format };
 
-    fn read_parts(alloc: Global, input: &mut Cursor<'_>) -> Result<TxSet, ReadXdr> {
+    fn read_parts<W: Words>(alloc: Global, input: &mut W) -> Result<TxSet, ReadXdr> {
         read_head(input, VERSION)?;
         let previous_ledger_hash = Hash::read(alloc, input)?;
         let phases = Items::<Phase, 4294967295>::read(alloc, input)?;

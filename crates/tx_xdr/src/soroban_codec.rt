@@ -8,13 +8,13 @@ use ledger_types::LedgerKey;
 use std::alloc::Global;
 use value_types::Items;
 use value_xdr::{Xdr, read_head};
-use xdr_core::{Cursor, NoMemory, Out, ReadXdr, add_sizes};
+use xdr_core::{NoMemory, Out, ReadXdr, Words, add_sizes};
 
 #[tactic(auto, unfolding(crate::specs::Soroban::footprint_format, xdr_core::specs::Sizes::capped))]
 impl Xdr for Footprint {
     ghost format = { footprint_format };
 
-    fn read_parts(alloc: Global, input: &mut Cursor<'_>) -> Result<Footprint, ReadXdr> {
+    fn read_parts<W: Words>(alloc: Global, input: &mut W) -> Result<Footprint, ReadXdr> {
         let read_only = Items::<LedgerKey, 4294967295>::read(alloc, input)?;
         let read_write = Items::<LedgerKey, 4294967295>::read(alloc, input)?;
         Ok(Footprint {
@@ -39,7 +39,7 @@ impl Xdr for Footprint {
 impl Xdr for SorobanData {
     ghost format = { soroban_format };
 
-    fn read_parts(alloc: Global, input: &mut Cursor<'_>) -> Result<SorobanData, ReadXdr> {
+    fn read_parts<W: Words>(alloc: Global, input: &mut W) -> Result<SorobanData, ReadXdr> {
         read_head(input, NO_EXT)?;
         let footprint = Footprint::read(alloc, input)?;
         let instructions = u32::read(alloc, input)?;

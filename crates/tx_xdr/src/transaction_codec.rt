@@ -7,13 +7,13 @@ use std::alloc::Global;
 use tx_parts::{Memo, MuxedAccount, Preconditions};
 use value_types::Items;
 use value_xdr::Xdr;
-use xdr_core::{Cursor, NoMemory, Out, ReadXdr, add_sizes};
+use xdr_core::{NoMemory, Out, ReadXdr, Words, add_sizes};
 
 #[tactic(auto, unfolding(crate::specs::Transaction::transaction_format))]
 impl Xdr for Transaction {
     ghost format = { transaction_format };
 
-    fn read_parts(alloc: Global, input: &mut Cursor<'_>) -> Result<Transaction, ReadXdr> {
+    fn read_parts<W: Words>(alloc: Global, input: &mut W) -> Result<Transaction, ReadXdr> {
         let source = MuxedAccount::read(alloc, input)?;
         let fee = u32::read(alloc, input)?;
         let seq_num = i64::read(alloc, input)?;

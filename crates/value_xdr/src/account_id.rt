@@ -6,7 +6,7 @@ use crate::head::read_head;
 use crate::xdr::Xdr;
 use std::alloc::Global;
 use value_types::{AccountId, Hash};
-use xdr_core::{Cursor, NoMemory, Out, ReadXdr};
+use xdr_core::{NoMemory, Out, ReadXdr, Words};
 
 /// The number of the only type of key, ed25519.
 const ED25519: u32 = 0;
@@ -15,7 +15,7 @@ const ED25519: u32 = 0;
 impl Xdr for AccountId {
     ghost format = { account_id_format };
 
-    fn read_parts(alloc: Global, input: &mut Cursor<'_>) -> Result<AccountId, ReadXdr> {
+    fn read_parts<W: Words>(alloc: Global, input: &mut W) -> Result<AccountId, ReadXdr> {
         read_head(input, ED25519)?;
         Ok(AccountId(Hash::read(alloc, input)?))
     }

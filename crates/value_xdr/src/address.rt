@@ -1,6 +1,6 @@
 //! The spelling of addresses.
 
-ghost use Rattle.std.specs.Prelude.{◌≡◌};
+ghost use Rattle.std.specs.Prelude.{◌≡◌, IfOk};
 ghost use Rattle.xdr_core.specs.Reads.{Reads};
 ghost use Rattle.value_types.specs.Address.{type_format, type_lawful, address_format, address_lawful, arms};
 
@@ -9,13 +9,13 @@ use crate::head::named;
 use crate::xdr::Xdr;
 use std::alloc::Global;
 use value_types::{AccountId, Hash, ScAddress, ScAddressType};
-use xdr_core::{Cursor, NoMemory, Out, ReadXdr, add_sizes};
+use xdr_core::{NoMemory, Out, ReadXdr, Words, add_sizes};
 
 #[tactic(auto, unfolding(value_types::specs::Address::type_format, xdr_core::specs::Sizes::capped))]
 impl Xdr for ScAddressType {
     ghost format = { type_format };
 
-    fn read_parts(_alloc: Global, input: &mut Cursor<'_>) -> Result<ScAddressType, ReadXdr> {
+    fn read_parts<W: Words>(_alloc: Global, input: &mut W) -> Result<ScAddressType, ReadXdr> {
         let place = input.place();
         named(ScAddressType::from_number(input.u32()?), place)
     }
@@ -31,12 +31,14 @@ impl Xdr for ScAddressType {
     ghost lawful = { type_lawful };
 }
 
-fn read_arm(
+#[tactic(auto, unfolding(value_types::specs::Address::address_format))]
+fn read_arm<W: Words>(
     alloc: Global,
-    input: &mut Cursor<'_>,
+    input: &mut W,
     kind: ScAddressType,
 ) -> Result<ScAddress, ReadXdr>
-    ensures { Reads (arms kind).read input.old input.new result }
+    ensures value { Reads (arms kind).read (W.seen input.old) (W.seen input.new) result }
+    ensures fits { IfOk result address_format.fits }
 {
     match kind {
         ScAddressType::Account => Ok(ScAddress::Account(AccountId::read(alloc, input)?)),
@@ -57,7 +59,7 @@ fn read_arm(
 impl Xdr for ScAddress {
     ghost format = { address_format };
 
-    fn read_parts(alloc: Global, input: &mut Cursor<'_>) -> Result<ScAddress, ReadXdr> {
+    fn read_parts<W: Words>(alloc: Global, input: &mut W) -> Result<ScAddress, ReadXdr> {
         let kind = ScAddressType::read(alloc, input)?;
         read_arm(alloc, input, kind)
     }

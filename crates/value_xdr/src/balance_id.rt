@@ -1,6 +1,6 @@
 //! The spelling of claimable balances' ids.
 
-ghost use Rattle.std.specs.Prelude.{◌≡◌, ◌++◌, length, OnOk, OnErr};
+ghost use Rattle.std.specs.Prelude.{◌≡◌, ◌++◌, length, OnOk, OnErr, IfOk};
 ghost use Rattle.xdr_core.specs.Sizes.{capped};
 ghost use Rattle.xdr_core.specs.Reads.{Reads};
 ghost use Rattle.xdr_core.specs.Writes.{StartsWith};
@@ -10,14 +10,15 @@ use crate::head::read_head;
 use crate::xdr::Xdr;
 use std::alloc::Global;
 use value_types::Hash;
-use xdr_core::{Cursor, NoMemory, Out, ReadXdr};
+use xdr_core::{NoMemory, Out, ReadXdr, Words};
 
 /// The number of the only type of a claimable balance's id.
 const BALANCE_ID: u32 = 0;
 
-/// Reads the type and the 32 bytes of an id. After an error the cursor may stand anywhere.
-pub fn read_balance_id(alloc: Global, input: &mut Cursor<'_>) -> Result<Hash, ReadXdr>
-    ensures { Reads balance_id_format.read input.old input.new result }
+/// Reads the type and the 32 bytes of an id. After an error the source may stand anywhere.
+pub fn read_balance_id<W: Words>(alloc: Global, input: &mut W) -> Result<Hash, ReadXdr>
+    ensures value { Reads balance_id_format.read (W.seen input.old) (W.seen input.new) result }
+    ensures fits { IfOk result balance_id_format.fits }
 {
     read_head(input, BALANCE_ID)?;
     Hash::read(alloc, input)

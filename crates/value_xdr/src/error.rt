@@ -1,6 +1,6 @@
 //! The spelling of errors.
 
-ghost use Rattle.std.specs.Prelude.{◌≡◌};
+ghost use Rattle.std.specs.Prelude.{◌≡◌, IfOk};
 ghost use Rattle.xdr_core.specs.Reads.{Reads};
 ghost use Rattle.value_types.specs.Error.{type_format, type_lawful, code_format, code_lawful, error_format, error_lawful, arms};
 
@@ -8,13 +8,13 @@ use crate::head::named;
 use crate::xdr::Xdr;
 use std::alloc::Global;
 use value_types::{ScError, ScErrorCode, ScErrorType};
-use xdr_core::{Cursor, NoMemory, Out, ReadXdr, add_sizes};
+use xdr_core::{NoMemory, Out, ReadXdr, Words, add_sizes};
 
 #[tactic(auto, unfolding(value_types::specs::Error::type_format, xdr_core::specs::Sizes::capped))]
 impl Xdr for ScErrorType {
     ghost format = { type_format };
 
-    fn read_parts(_alloc: Global, input: &mut Cursor<'_>) -> Result<ScErrorType, ReadXdr> {
+    fn read_parts<W: Words>(_alloc: Global, input: &mut W) -> Result<ScErrorType, ReadXdr> {
         let place = input.place();
         named(ScErrorType::from_number(input.u32()?), place)
     }
@@ -34,7 +34,7 @@ impl Xdr for ScErrorType {
 impl Xdr for ScErrorCode {
     ghost format = { code_format };
 
-    fn read_parts(_alloc: Global, input: &mut Cursor<'_>) -> Result<ScErrorCode, ReadXdr> {
+    fn read_parts<W: Words>(_alloc: Global, input: &mut W) -> Result<ScErrorCode, ReadXdr> {
         let place = input.place();
         named(ScErrorCode::from_number(input.u32()?), place)
     }
@@ -50,8 +50,10 @@ impl Xdr for ScErrorCode {
     ghost lawful = { code_lawful };
 }
 
-fn read_arm(alloc: Global, input: &mut Cursor<'_>, kind: ScErrorType) -> Result<ScError, ReadXdr>
-    ensures { Reads (arms kind).read input.old input.new result }
+#[tactic(auto, unfolding(value_types::specs::Error::error_format))]
+fn read_arm<W: Words>(alloc: Global, input: &mut W, kind: ScErrorType) -> Result<ScError, ReadXdr>
+    ensures value { Reads (arms kind).read (W.seen input.old) (W.seen input.new) result }
+    ensures fits { IfOk result error_format.fits }
 {
     Ok(match kind {
         ScErrorType::Contract => ScError::Contract(u32::read(alloc, input)?),
@@ -71,7 +73,7 @@ fn read_arm(alloc: Global, input: &mut Cursor<'_>, kind: ScErrorType) -> Result<
 impl Xdr for ScError {
     ghost format = { error_format };
 
-    fn read_parts(alloc: Global, input: &mut Cursor<'_>) -> Result<ScError, ReadXdr> {
+    fn read_parts<W: Words>(alloc: Global, input: &mut W) -> Result<ScError, ReadXdr> {
         let kind = ScErrorType::read(alloc, input)?;
         read_arm(alloc, input, kind)
     }

@@ -1,6 +1,6 @@
 //! The spelling of what a contract runs.
 
-ghost use Rattle.std.specs.Prelude.{◌≡◌};
+ghost use Rattle.std.specs.Prelude.{◌≡◌, IfOk};
 ghost use Rattle.xdr_core.specs.Reads.{Reads};
 ghost use Rattle.value_types.specs.Executable.{type_format, type_lawful, executable_format, executable_lawful, arms};
 
@@ -8,13 +8,13 @@ use crate::head::named;
 use crate::xdr::Xdr;
 use std::alloc::Global;
 use value_types::{Executable, ExecutableType, Hash};
-use xdr_core::{Cursor, NoMemory, Out, ReadXdr, add_sizes};
+use xdr_core::{NoMemory, Out, ReadXdr, Words, add_sizes};
 
 #[tactic(auto, unfolding(value_types::specs::Executable::type_format, xdr_core::specs::Sizes::capped))]
 impl Xdr for ExecutableType {
     ghost format = { type_format };
 
-    fn read_parts(_alloc: Global, input: &mut Cursor<'_>) -> Result<ExecutableType, ReadXdr> {
+    fn read_parts<W: Words>(_alloc: Global, input: &mut W) -> Result<ExecutableType, ReadXdr> {
         let place = input.place();
         named(ExecutableType::from_number(input.u32()?), place)
     }
@@ -30,12 +30,14 @@ impl Xdr for ExecutableType {
     ghost lawful = { type_lawful };
 }
 
-fn read_arm(
+#[tactic(auto, unfolding(value_types::specs::Executable::executable_format))]
+fn read_arm<W: Words>(
     alloc: Global,
-    input: &mut Cursor<'_>,
+    input: &mut W,
     kind: ExecutableType,
 ) -> Result<Executable, ReadXdr>
-    ensures { Reads (arms kind).read input.old input.new result }
+    ensures value { Reads (arms kind).read (W.seen input.old) (W.seen input.new) result }
+    ensures fits { IfOk result executable_format.fits }
 {
     match kind {
         ExecutableType::Wasm => Ok(Executable::Wasm(Hash::read(alloc, input)?)),
@@ -47,7 +49,7 @@ fn read_arm(
 impl Xdr for Executable {
     ghost format = { executable_format };
 
-    fn read_parts(alloc: Global, input: &mut Cursor<'_>) -> Result<Executable, ReadXdr> {
+    fn read_parts<W: Words>(alloc: Global, input: &mut W) -> Result<Executable, ReadXdr> {
         let kind = ExecutableType::read(alloc, input)?;
         read_arm(alloc, input, kind)
     }

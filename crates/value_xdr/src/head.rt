@@ -7,11 +7,11 @@ ghost use Rattle.xdr_spec.specs.declared.Why.TheVariants.{Tag};
 ghost use Rattle.xdr_core.specs.Reads.{Reads};
 ghost use Rattle.value_types.specs.Headed.{headed};
 
-use xdr_core::{Cursor, ReadXdr, Why, XdrErr};
+use xdr_core::{ReadXdr, Why, Words, XdrErr};
 
-/// Reads a word that has to be `number`, and refuses another word as `Why::Tag`. After an error the cursor may stand anywhere.
-pub fn read_head(input: &mut Cursor<'_>, number: u32) -> Result<(), ReadXdr>
-    ensures { Reads (headed number (nothing tt)).read input.old input.new result }
+/// Reads a word that has to be `number`, and refuses another word as `Why::Tag`. After an error the source may stand anywhere.
+pub fn read_head<W: Words>(input: &mut W, number: u32) -> Result<(), ReadXdr>
+    ensures { Reads (headed number (nothing tt)).read (W.seen input.old) (W.seen input.new) result }
 {
     let place = input.place();
     if input.u32()? != number {

@@ -22,9 +22,9 @@ mod writing;
 mod xdr;
 
 pub use balance_id::{read_balance_id, size_of_balance_id, write_balance_id};
-pub use blob::{read_blob, size_of_blob, write_blob};
+pub use blob::{hold_bytes, read_blob, size_of_blob, write_blob};
 pub use head::{named, read_head};
 pub use laws::{one_refusal, one_spelling, prefix_is_read, spelled_or_refused};
-pub use rows::{read_list, read_row, size_of_list, write_list};
+pub use rows::{list_for, read_list, read_row, size_of_list, write_list};
 pub use scval::{val_size, value_from_bytes, value_to_bytes};
-pub use xdr::{Xdr, decode, encode};
+pub use xdr::{Xdr, decode, decode_from, encode};

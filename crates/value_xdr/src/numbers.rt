@@ -6,13 +6,13 @@ ghost use Rattle.value_types.specs.Numbers.{i256_format, i256_lawful};
 use crate::xdr::Xdr;
 use std::alloc::Global;
 use value_types::{Int128Parts, Int256Parts, UInt128Parts, UInt256Parts};
-use xdr_core::{Cursor, NoMemory, Out, ReadXdr};
+use xdr_core::{NoMemory, Out, ReadXdr, Words};
 
 #[tactic(auto, unfolding(value_types::specs::Numbers::u128_format))]
 impl Xdr for UInt128Parts {
     ghost format = { u128_format };
 
-    fn read_parts(alloc: Global, input: &mut Cursor<'_>) -> Result<UInt128Parts, ReadXdr> {
+    fn read_parts<W: Words>(alloc: Global, input: &mut W) -> Result<UInt128Parts, ReadXdr> {
         let hi = u64::read(alloc, input)?;
         let lo = u64::read(alloc, input)?;
         Ok(UInt128Parts { hi, lo })
@@ -35,7 +35,7 @@ impl Xdr for UInt128Parts {
 impl Xdr for Int128Parts {
     ghost format = { i128_format };
 
-    fn read_parts(alloc: Global, input: &mut Cursor<'_>) -> Result<Int128Parts, ReadXdr> {
+    fn read_parts<W: Words>(alloc: Global, input: &mut W) -> Result<Int128Parts, ReadXdr> {
         let hi = i64::read(alloc, input)?;
         let lo = u64::read(alloc, input)?;
         Ok(Int128Parts { hi, lo })
@@ -58,7 +58,7 @@ impl Xdr for Int128Parts {
 impl Xdr for UInt256Parts {
     ghost format = { u256_format };
 
-    fn read_parts(alloc: Global, input: &mut Cursor<'_>) -> Result<UInt256Parts, ReadXdr> {
+    fn read_parts<W: Words>(alloc: Global, input: &mut W) -> Result<UInt256Parts, ReadXdr> {
         let hi_hi = u64::read(alloc, input)?;
         let hi_lo = u64::read(alloc, input)?;
         let lo_hi = u64::read(alloc, input)?;
@@ -90,7 +90,7 @@ impl Xdr for UInt256Parts {
 impl Xdr for Int256Parts {
     ghost format = { i256_format };
 
-    fn read_parts(alloc: Global, input: &mut Cursor<'_>) -> Result<Int256Parts, ReadXdr> {
+    fn read_parts<W: Words>(alloc: Global, input: &mut W) -> Result<Int256Parts, ReadXdr> {
         let hi_hi = i64::read(alloc, input)?;
         let hi_lo = u64::read(alloc, input)?;
         let lo_hi = u64::read(alloc, input)?;

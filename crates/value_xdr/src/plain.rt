@@ -7,13 +7,13 @@ ghost use Rattle.xdr_spec.proofs.Lemmas.{signed64_lawful};
 
 use crate::xdr::Xdr;
 use std::alloc::Global;
-use xdr_core::{Cursor, NoMemory, Out, ReadXdr};
+use xdr_core::{NoMemory, Out, ReadXdr, Words};
 
 #[tactic(auto, unfolding(xdr_spec::specs::Format::number32, xdr_core::specs::Sizes::capped))]
 impl Xdr for u32 {
     ghost format = { number32 };
 
-    fn read_parts(_alloc: Global, input: &mut Cursor<'_>) -> Result<u32, ReadXdr> {
+    fn read_parts<W: Words>(_alloc: Global, input: &mut W) -> Result<u32, ReadXdr> {
         Ok(input.u32()?)
     }
 
@@ -32,7 +32,7 @@ impl Xdr for u32 {
 impl Xdr for i32 {
     ghost format = { signed32 };
 
-    fn read_parts(_alloc: Global, input: &mut Cursor<'_>) -> Result<i32, ReadXdr> {
+    fn read_parts<W: Words>(_alloc: Global, input: &mut W) -> Result<i32, ReadXdr> {
         Ok(input.i32()?)
     }
 
@@ -51,7 +51,7 @@ impl Xdr for i32 {
 impl Xdr for u64 {
     ghost format = { number64 };
 
-    fn read_parts(_alloc: Global, input: &mut Cursor<'_>) -> Result<u64, ReadXdr> {
+    fn read_parts<W: Words>(_alloc: Global, input: &mut W) -> Result<u64, ReadXdr> {
         Ok(input.u64()?)
     }
 
@@ -70,7 +70,7 @@ impl Xdr for u64 {
 impl Xdr for i64 {
     ghost format = { signed64 };
 
-    fn read_parts(_alloc: Global, input: &mut Cursor<'_>) -> Result<i64, ReadXdr> {
+    fn read_parts<W: Words>(_alloc: Global, input: &mut W) -> Result<i64, ReadXdr> {
         Ok(input.i64()?)
     }
 
@@ -89,7 +89,7 @@ impl Xdr for i64 {
 impl Xdr for bool {
     ghost format = { boolean };
 
-    fn read_parts(_alloc: Global, input: &mut Cursor<'_>) -> Result<bool, ReadXdr> {
+    fn read_parts<W: Words>(_alloc: Global, input: &mut W) -> Result<bool, ReadXdr> {
         Ok(input.boolean()?)
     }
 
@@ -108,7 +108,7 @@ impl Xdr for bool {
 impl<T: Xdr> Xdr for Option<T> {
     ghost format = { optional T.format };
 
-    fn read_parts(alloc: Global, input: &mut Cursor<'_>) -> Result<Option<T>, ReadXdr> {
+    fn read_parts<W: Words>(alloc: Global, input: &mut W) -> Result<Option<T>, ReadXdr> {
         if input.boolean()? {
             Ok(Some(T::read(alloc, input)?))
         } else {

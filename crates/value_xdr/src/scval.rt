@@ -13,7 +13,7 @@ use crate::xdr::{Xdr, decode, encode};
 use crate::{reading, writing};
 use std::alloc::Global;
 use value_types::{Instance, ScVal};
-use xdr_core::{Cursor, NoMemory, Out, ReadXdr};
+use xdr_core::{NoMemory, Out, ReadXdr, Words};
 
 /// The number of levels below a value that stands alone.
 const LEVELS_BELOW: u32 = 99;
@@ -22,7 +22,7 @@ const LEVELS_BELOW: u32 = 99;
 impl Xdr for ScVal {
     ghost format = { scval_format };
 
-    fn read_parts(alloc: Global, input: &mut Cursor<'_>) -> Result<ScVal, ReadXdr> {
+    fn read_parts<W: Words>(alloc: Global, input: &mut W) -> Result<ScVal, ReadXdr> {
         reading::read_value(alloc, input, LEVELS_BELOW)
     }
 
@@ -41,7 +41,7 @@ impl Xdr for ScVal {
 impl Xdr for Instance {
     ghost format = { contract_instance_format };
 
-    fn read_parts(alloc: Global, input: &mut Cursor<'_>) -> Result<Instance, ReadXdr> {
+    fn read_parts<W: Words>(alloc: Global, input: &mut W) -> Result<Instance, ReadXdr> {
         reading::read_instance(alloc, input, LEVELS_BELOW)
     }
 

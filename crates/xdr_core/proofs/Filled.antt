@@ -7,14 +7,14 @@ use Rattle.xdr_spec.specs.Format.{input, refusal, pad, zeros, fixed_opaque_at}
 use Rattle.xdr_spec.proofs.Lemmas.{bad_at, ok_at}
 use Rattle.xdr_core.specs.Reads.{from}
 
-zeros_are : (k : ℕ) → k < 4 → take k (0 ∷ 0 ∷ 0 ∷ 0 ∷ []) ≡ zeros k
+pub zeros_are : (k : ℕ) → k < 4 → take k (0 ∷ 0 ∷ 0 ∷ 0 ∷ []) ≡ zeros k
 zeros_are zero h = refl
 zeros_are (suc zero) h = refl
 zeros_are (suc (suc zero)) h = refl
 zeros_are (suc (suc (suc zero))) h = refl
 zeros_are (suc (suc (suc (suc k)))) h = absurd (omega arith)
 
-tested : (b c : Bool) → b ≡ not c → c ≡ not b
+pub tested : (b c : Bool) → b ≡ not c → c ≡ not b
 tested true true e = e
 tested true false e = refl
 tested false true e = refl
