@@ -23,8 +23,8 @@ def processor_seconds():
     return used.ru_utime + used.ru_stime
 
 
-def measure(command):
-    """Seconds and peak memory in MiB of a command.
+def measure(command, status=0):
+    """Seconds and peak memory in MiB of a command that ends with this status.
 
     GNU time starts it: a child of this interpreter would be charged with the interpreter's own peak.
     """
@@ -33,16 +33,16 @@ def measure(command):
         ["/usr/bin/time", "-q", "-f", "%M", *command], stdout=subprocess.DEVNULL, stderr=subprocess.PIPE, text=True
     )
     seconds = time.monotonic() - start
-    if done.returncode != 0:
+    if done.returncode != status:
         sys.exit(f"{command[0]} ended with {done.returncode}: {done.stderr}")
     return seconds, int(done.stderr.split()[-1]) / 1024
 
 
-def instructions(command, folder=None):
-    """The processor's instructions of a command in a folder, counted by callgrind."""
+def instructions(command, folder=None, status=0):
+    """The processor's instructions of a command in a folder that ends with this status, counted by callgrind."""
     how = ["valgrind", "--tool=callgrind", "--callgrind-out-file=/dev/null"]
     done = subprocess.run([*how, *command], cwd=folder, stdout=subprocess.DEVNULL, stderr=subprocess.PIPE, text=True)
-    if done.returncode != 0:
+    if done.returncode != status:
         sys.exit(f"{command[0]} ended with {done.returncode}: {done.stderr}")
     return int(re.search(r"Collected : (\d+)", done.stderr)[1])
 

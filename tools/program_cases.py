@@ -5,10 +5,11 @@ python3 tools/program_cases.py PROGRAM TABLE..
 
 docs/CASES.md has the form of a table. Of each command the exit code, every byte of the output, and every file in its folder
 are compared with the expected outcome. At a fault the standard error has the name of the file and a reason, else it is empty.
-Cases with failing calls are left out: no real file fails at a chosen call. So are cases
-whose clusters meet: the program's gate lets all through. Prints each case that fails. The last line counts, and the status is 0
-only if there are cases and all hold.
+A set that is read in pieces comes through a pipe. Cases with failing calls are left out: no real file fails at a chosen call. So
+are cases whose clusters meet: the program's gate lets all through. Prints each case that fails. The last line counts, and the
+status is 0 only if there are cases and all hold.
 """
+import contextlib
 import ctypes
 import os
 import pathlib
@@ -19,6 +20,7 @@ import signal
 import subprocess
 import sys
 import tempfile
+import threading
 
 import program_files
 from case_bytes import spelled, without_remark
@@ -70,6 +72,36 @@ def hex_file(path):
     """Returns the bytes of a file of hex digits, in which # begins a remark."""
     lines = path.read_text(encoding="utf-8").split("\n")
     return bytes.fromhex("".join(line.partition("#")[0] for line in lines))
+
+
+def feed(pipe, bytes_, most):
+    """Writes bytes to a pipe, so many by a call. Ends early if nobody reads them."""
+    try:
+        with open(pipe, "wb", buffering=0) as file:
+            for at in range(0, len(bytes_), most):
+                file.write(bytes_[at : at + most])
+    except BrokenPipeError:
+        pass
+
+
+@contextlib.contextmanager
+def piped(path, most):
+    """While this lasts, the bytes of a file come through a pipe, and each read brings at most so many. Yields what the program's
+    process has to inherit."""
+    bytes_ = path.read_bytes()
+    # A read of such a pipe brings what one call wrote, at most 4,096 bytes.
+    end, start = os.pipe2(os.O_DIRECT)
+    path.unlink()
+    path.symlink_to(f"/dev/fd/{end}")
+    feeder = threading.Thread(target=feed, args=(start, bytes_, most))
+    feeder.start()
+    try:
+        yield (end,)
+    finally:
+        os.close(end)
+        feeder.join()
+        path.unlink()
+        path.write_bytes(bytes_)
 
 
 def content(path):
@@ -260,7 +292,8 @@ class Table:
 
     def forget(self):
         """What a line says of the next command alone."""
-        self.fails, self.output, self.memory, self.size, self.input, self.is_plain = False, None, None, None, None, False
+        self.fails, self.keeps, self.output, self.memory = False, False, None, None
+        self.size, self.input, self.is_plain, self.piece = None, None, False, None
 
     def define(self, kind, rest, below):
         name, _, text = (rest if kind == "text" else without_remark(rest)).partition(" ")
@@ -291,6 +324,10 @@ class Table:
             self.use(name)
         elif kind in ("fail", "meet", "miss"):
             self.fails = True
+        elif kind == "pieces":
+            self.piece = int(name)
+        elif kind == "keep":
+            self.keeps = True
         elif kind == "output":
             self.output = name
         elif kind == "memory":
@@ -325,11 +362,18 @@ class Table:
             for right in RIGHTS_OF_ROOT:
                 ctypes.CDLL(None).prctl(DROP_RIGHT, right, 0, 0, 0)
 
+    def in_pieces(self, words):
+        """While this lasts, the set of the words comes through a pipe if the command is to read it in pieces."""
+        if self.piece is None:
+            return contextlib.nullcontext(())
+        return piped(self.folder.path / words[words.index(b"--set") + 1].decode(), self.piece)
+
     def start(self, words):
         """Runs the program, and returns its exit code, its output and its reasons."""
         how = {"cwd": self.folder.path, "stderr": subprocess.PIPE, "timeout": SECONDS, "preexec_fn": self.limit}
         how.update({"stdin": subprocess.DEVNULL} if self.input is None else {"input": self.input})
-        with open(self.output or os.devnull, "wb") as output:
+        with self.in_pieces(words) as pipes, open(self.output or os.devnull, "wb") as output:
+            how["pass_fds"] = pipes
             ran = subprocess.run([self.program, *words], stdout=output if self.output else subprocess.PIPE, **how)
         return ran.returncode, ran.stdout or b"", ran.stderr.decode("utf-8", "replace").splitlines()
 
@@ -340,7 +384,7 @@ class Table:
         order = [word.decode("utf-8", "replace").partition("=")[2] or word.decode("utf-8", "replace") for word in words]
         order = [name for name in dict.fromkeys(order) if name in changes]
         stored = [(name, changes[name]) for name in [*order, *sorted(set(changes) - set(order))]]
-        if self.stays:
+        if self.stays or self.keeps:
             self.folder.known.update(changes)
         else:
             self.folder.undo(changes)

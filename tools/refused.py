@@ -27,7 +27,7 @@ DATA = fuzz_inputs.TOP / "crates/command_cases/data"
 KINDS = ["memory", "thread", "open", "read", "lseek", "write", "close", "fsync", "rename"]
 # The name of a case, its table, and a text of it: the case is the first command behind the text.
 CASES = [
-    ("an extension", "faults.txt", "## each file is read by three calls"),
+    ("an extension", "faults.txt", "## The ledger and the verdicts are read by three calls each"),
     ("a call that fails and is caught", "calls.txt", "## contract 10 calls contract 11 by `try_call`"),
     ("an upload, a create and a call", "calls_auth_creates.txt", "# one cluster: F is uploaded"),
     ("`bump` on 41", "calls.txt", "## `bump` on 41 takes"),

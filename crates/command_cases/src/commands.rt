@@ -100,6 +100,8 @@ impl Commands {
             "long" => self.disk.put_too_long(rt, alloc, case.words),
             "no" => self.remove(rt, case.words),
             "fail" => self.memory.fail(name, rest),
+            "pieces" => self.memory.cut(case.words),
+            "keep" => self.memory.keep(),
             "meet" => self.memory.meet(MEETING_TURNS, case.words),
             "miss" => self.memory.meet(MISSING_TURNS, case.words),
             kind => {

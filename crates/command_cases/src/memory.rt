@@ -19,6 +19,10 @@ pub struct Memory {
     /// Bit n is for cluster n. If no cluster is to meet others, it is 0.
     meeting: u64,
     turns: u32,
+    /// The most bytes that a call reads in the next command.
+    piece: usize,
+    /// Whether the next command's files stay.
+    keeps: bool,
 }
 
 impl Memory {
@@ -30,7 +34,21 @@ impl Memory {
             failing_says: Vec::new(alloc),
             meeting: 0,
             turns: 0,
+            piece: usize::MAX,
+            keeps: false,
         }
+    }
+
+    /// NUMBER: each call reads at most so many bytes in the next command.
+    pub fn cut(&mut self, text: &str) -> Result<(), CaseErr> {
+        self.piece = number(text)? as usize;
+        Ok(())
+    }
+
+    /// The files that the next command stores stay for those that follow.
+    pub fn keep(&mut self) -> Result<(), CaseErr> {
+        self.keeps = true;
+        Ok(())
     }
 
     /// Puts a file there, for all commands that follow.
@@ -102,8 +120,24 @@ impl Memory {
         let failing_calls = mem::replace(&mut self.failing_calls, Vec::new(alloc));
         let failing_says = mem::replace(&mut self.failing_says, Vec::new(alloc));
         let mut files = MemFiles::new(alloc, failing_calls);
+        files.cut(mem::replace(&mut self.piece, usize::MAX));
         let mut say = MemSay::new(alloc, failing_says);
-        self.run_over(threads, alloc, words, &mut files, &mut say, gate, out)
+        self.run_over(threads, alloc, words, &mut files, &mut say, gate, out)?;
+        if mem::replace(&mut self.keeps, false) {
+            self.take(alloc, words, &files)?;
+        }
+        Ok(())
+    }
+
+    /// Puts there what the files named by the words hold.
+    fn take(&mut self, alloc: Global, words: &[Word], files: &MemFiles) -> Result<(), CaseErr> {
+        for it in words {
+            let name = word(alloc, name_in(it))?;
+            if let Some(bytes) = files.bytes(&name) {
+                self.put(alloc, name_in(it), Vec::from_slice(alloc, bytes)?)?;
+            }
+        }
+        Ok(())
     }
 
     fn run_over<T: Threads + Sync, G: Gate + Sync>(

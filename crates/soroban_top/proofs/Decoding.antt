@@ -38,10 +38,12 @@ refuses_decoded F lawful bytes e fit refuses = by_outcome F lawful bytes e (deco
 pub unread_due : {V : Type 0} (F : Format V) (lawful : IsFormat F) (bytes : List ℕ) (e : ReadXdr) → IsBytes bytes → IsRefusal F bytes e → Gives {X = V} {Y = V} (λ v. v) (Err (unread e)) (as_spelled (decoded F bytes))
 unread_due F lawful bytes (read_errors.Bad e) fit refuses = rw (refuses_decoded F lawful bytes e fit refuses) refl
 unread_due F lawful bytes read_errors.NoMemory fit refuses = tt
+unread_due F lawful bytes read_errors.Stopped fit refuses = tt
 
 pub unread_of_bytes : (e : ReadXdr) → IsOfBytes (unread e)
 unread_of_bytes (read_errors.Bad e) = tt
 unread_of_bytes read_errors.NoMemory = tt
+unread_of_bytes read_errors.Stopped = tt
 
 pub unread_ledger_due : {L A : Type 0} (view : L → A) (found : Result A LedgerRefusal) (e : LedgerErr) → IsRefusalUnlessMemory found e → Gives view (Err (unread_ledger e)) (as_ledger found)
 unread_ledger_due view found (ledger_errors.Refused r) is = rw is refl

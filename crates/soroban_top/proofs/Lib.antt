@@ -11,6 +11,7 @@ mod Ledgers
 mod ListsApplied
 mod Logging
 mod Made
+mod Pieces
 mod Present
 mod PutTogether
 mod Replays

@@ -70,10 +70,11 @@ abbrev pub as_spelled : {A : Type 0} → Result A XdrErr → Result A Status
 as_spelled (Ok set) = Ok set
 as_spelled (Err e) = Err (status.Malformed e.at e.why)
 
--- the status of an error of reading a set, an envelope or a value
+-- the status of an error of reading a set, an envelope or a value in memory, which never stops
 abbrev pub unread : ReadXdr → Status
 unread (read_errors.Bad e) = status.Malformed e.at e.why
 unread read_errors.NoMemory = status.NoMemory
+unread read_errors.Stopped = status.NoMemory
 
 -- the status of an error of reading a ledger
 abbrev pub unread_ledger : LedgerErr → Status

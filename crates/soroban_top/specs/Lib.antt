@@ -14,6 +14,7 @@ pub mod Replayed
 pub mod SetBuilt
 pub mod Scheduled
 pub mod Outcome
+pub mod Pieces
 pub mod Product
 pub mod Seen
 pub mod Shown

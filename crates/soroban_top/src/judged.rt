@@ -1,6 +1,7 @@
-//! Reads the input files of `apply` and `simulate`: each is read whole and checked.
+//! Reads the input files of `apply` and `simulate`, and checks them. A set that is no base64 text is read piece by piece, each
+//! other file whole.
 
-ghost use Rattle.std.specs.Prelude.{◌≡◌, ◌<◌, ◌+◌, ◌^◌, [], ◌∷◌, IfOk, IfErr, IfSome, IsTrue, is_some};
+ghost use Rattle.std.specs.Prelude.{◌≡◌, ◌<◌, ◌+◌, ◌^◌, [], ◌∷◌, true, false, IfOk, IfErr, IfSome, IsTrue, is_some};
 ghost use Rattle.ledger_spec.specs.LedgerFile.{are_settings, has_next};
 ghost use Rattle.ledger_types.specs.Header.{header_format};
 ghost use Rattle.tx_xdr.specs.Envelope.{envelope_format};
@@ -10,9 +11,11 @@ ghost use Rattle.soroban_top.specs.Counts.{HasCause, IsOfBytes, NoLower, SameCou
 ghost use Rattle.soroban_top.specs.Judged.{ledger_at, ledger_in, verdicts_at, verdicts_in, set_at, set_opened, envelope_at};
 ghost use Rattle.soroban_top.specs.Judged.{envelope_opened};
 ghost use Rattle.soroban_top.specs.Scheduled.{scheduled_at, schedule_at, schedule_in};
+ghost use Rattle.soroban_top.specs.Pieces.{as_poured};
 ghost use Rattle.soroban_top.specs.Product.{file};
 ghost use Rattle.soroban_top.specs.Seen.{seen};
 ghost use Rattle.soroban_top.specs.Steps.{Gives, GivesExactly, UnlessFault, status_of};
+ghost use Rattle.soroban_top.specs.Views.{file_of};
 
 use crate::drive::read_file;
 use crate::opened::open_text;
@@ -21,6 +24,7 @@ use crate::spelled::{envelope_in, set_in};
 use crate::{FileArg, ScheduledSteps, Status};
 use command_words::ScheduleOptions;
 use edge_io::{Files, Word};
+use file_pour::{PouredErr, read_poured};
 use ledger_file::Ledger;
 use ledger_types::Verdicts;
 use schedule_runs::Schedule;
@@ -92,21 +96,57 @@ pub fn read_set<F: Files>(
     ensures steady_exact { F.steady files.old → IfSome (F.contents files.old) (λ m.
         GivesExactly (λ s. s) result (set_at m base64 name.now)) }
 {
-    let text = read_file(alloc, files, &FileArg { option, name })?;
-    set_opened(alloc, base64, name, text.as_slice())
+    let file = FileArg { option, name };
+    if base64 {
+        let text = read_file(alloc, files, &file)?;
+        set_of_text(alloc, name, text.as_slice())
+    } else {
+        read_pieces(alloc, files, &file)
+    }
 }
 
-/// The set that a file's text spells.
-fn set_opened(alloc: Global, base64: bool, name: &Word, text: &[u8]) -> Result<TxSet, Status>
-    ensures given { Gives (λ s. s) result (set_opened base64 name.now text.now) }
+/// The set that a file's base64 text encodes.
+fn set_of_text(alloc: Global, name: &Word, text: &[u8]) -> Result<TxSet, Status>
+    ensures given { Gives (λ s. s) result (set_opened true name.now text.now) }
     ensures fits { IfOk result set_format.fits }
     ensures cause { IfErr result IsOfBytes }
 {
-    if base64 {
-        let bytes = open_text(alloc, name, text)?;
-        set_in(alloc, &bytes)
-    } else {
-        set_in(alloc, text)
+    let bytes = open_text(alloc, name, text)?;
+    set_in(alloc, &bytes)
+}
+
+/// Reads the transaction set in a file, piece by piece.
+fn read_pieces<F: Files>(alloc: Global, files: &mut F, file: &FileArg<'_>) -> Result<TxSet, Status>
+    ensures given { IfSome (F.contents files.old) (λ m. Gives (λ s. s) result (set_at m false file.now.name.now)) }
+    ensures fits { IfOk result set_format.fits }
+    ensures same { F.contents files.new ≡ F.contents files.old }
+    ensures counts { NoLower (F.faults files.old) (F.faults files.new) }
+    ensures cause { IfErr result (HasCause (file_of file.now ∷ []) (F.faults files.old) (F.faults files.new)) }
+    ensures steady { F.steady files.old
+        → IfSome (F.contents files.old) (λ m. UnlessFault (status_of (set_at m false file.now.name.now))
+        (F.steady files.new × SameCounts (F.faults files.old) (F.faults files.new))) }
+    ensures steady_exact { F.steady files.old → IfSome (F.contents files.old) (λ m.
+        GivesExactly (λ s. s) result (set_at m false file.now.name.now)) }
+{
+    // Cloned before the call, so that a fault can name the file.
+    let name = file.name.clone()?;
+    let read = read_poured(alloc, files, file.option, file.name);
+    in_pieces(read, name)
+}
+
+/// The set that was read of a file of this name, or the status of the error.
+fn in_pieces(read: Result<TxSet, PouredErr>, name: Word) -> Result<TxSet, Status>
+    ensures { result ≡ as_poured name read }
+{
+    match read {
+        Ok(set) => Ok(set),
+        Err(PouredErr::Fault) => Err(Status::Fault { name }),
+        Err(PouredErr::TooLong) => Err(Status::TooLong { name }),
+        Err(PouredErr::Bad(error)) => Err(Status::Malformed {
+            at: error.at,
+            why: error.why,
+        }),
+        Err(PouredErr::NoMemory) => Err(Status::NoMemory),
     }
 }
 
@@ -218,7 +258,8 @@ fn verdicts_in(alloc: Global, bytes: &[u8]) -> Result<Verdicts, Status>
     match ledger_file::read_verdicts(alloc, bytes) {
         Ok(verdicts) => Ok(verdicts),
         Err(ReadXdr::Bad(error)) => Err(Status::Verdicts { at: error.at }),
-        Err(ReadXdr::NoMemory) => Err(Status::NoMemory),
+        // Bytes in memory never stop.
+        Err(ReadXdr::NoMemory | ReadXdr::Stopped) => Err(Status::NoMemory),
     }
 }
 
@@ -230,6 +271,7 @@ fn schedule_in(alloc: Global, bytes: &[u8]) -> Result<Schedule, Status>
     match schedule_runs::read_schedule(alloc, bytes) {
         Ok(schedule) => Ok(schedule),
         Err(ReadXdr::Bad(error)) => Err(Status::Schedule { at: error.at }),
-        Err(ReadXdr::NoMemory) => Err(Status::NoMemory),
+        // Bytes in memory never stop.
+        Err(ReadXdr::NoMemory | ReadXdr::Stopped) => Err(Status::NoMemory),
     }
 }

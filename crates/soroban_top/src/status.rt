@@ -140,7 +140,8 @@ impl From<ReadXdr> for Status {
                 at: error.at,
                 why: error.why,
             },
-            ReadXdr::NoMemory => Status::NoMemory,
+            // Bytes in memory never stop.
+            ReadXdr::NoMemory | ReadXdr::Stopped => Status::NoMemory,
         }
     }
 }

@@ -1,0 +1,2 @@
+pub mod Poured
+pub mod Reading
