@@ -9,3 +9,4 @@ pub mod Needed
 pub mod Simulating
 pub mod Changed
 pub mod Watching
+pub mod Resolved

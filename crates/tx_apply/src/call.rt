@@ -26,6 +26,7 @@ use crate::authority::Authority;
 use crate::changes::{by_key, changes_at, extensions_at};
 use crate::job::{Job, job_of, values};
 use crate::reading::{declares_archived, reads_more};
+use crate::resolved::Resolved;
 use crate::results::{TransactionDone, failed_call, nothing_used, one_result};
 use crate::run::run_told;
 use crate::success::success_hash;
@@ -291,8 +292,8 @@ fn enter_and_run<G: Ground, W: Watch>(
     }
 }
 
-/// INVOKE_HOST_FUNCTION. The first test that holds decides.
-pub(crate) fn call<G: Ground, W: Watch>(
+/// Runs a host function over entries that are found quickly. The first test that holds decides.
+fn call_over<G: Ground, W: Watch>(
     alloc: Global,
     ground: &G,
     header: &Header,
@@ -332,5 +333,41 @@ pub(crate) fn call<G: Ground, W: Watch>(
     }
     enter_and_run(
         alloc, ground, header, resources, authority, &job, codes, watch,
+    )
+}
+
+/// INVOKE_HOST_FUNCTION. Each declared key is looked up once, and the run then finds it among those.
+pub(crate) fn call<G: Ground, W: Watch>(
+    alloc: Global,
+    ground: &G,
+    header: &Header,
+    resources: &SorobanData,
+    authority: &Authority<'_>,
+    function: &HostFunction,
+    codes: Option<&Cache<'_>>,
+    watch: W,
+) -> Result<TransactionDone<W>, NoMemory>
+    requires function { host_function_format.fits function.now }
+    requires entries { All auth_entry_format.fits authority.now.entries.now }
+    requires read_only { All (λ key. key_format.fits key) resources.now.footprint.read_only }
+    requires read_write { All (λ key. key_format.fits key) resources.now.footprint.read_write }
+    requires settings { IsTrue (are_settings header.now.settings) }
+    requires next { IsTrue (has_next header.now) }
+    requires fresh { HasSeen (W.seen watch) [] }
+    ensures done { IfOk result (λ done. ended_of done ≡ ended_of_call (G.map ground.now) resources.now.footprint
+        (invoked header.now (authority_in authority.now) resources.now (G.map ground.now) function.now)) }
+    ensures can { IfOk result (λ done. CanEnd (ended_of done)) }
+    ensures seen { IfOk result (λ done. HasSeen (W.seen done.watch)
+        (work_accesses header.now (authority_in authority.now) resources.now (G.map ground.now) (work_of function.now))) }
+{
+    let footprint = &resources.footprint;
+    let resolved = Resolved::new(
+        alloc,
+        ground,
+        footprint.read_only.as_slice(),
+        footprint.read_write.as_slice(),
+    )?;
+    call_over(
+        alloc, &resolved, header, resources, authority, function, codes, watch,
     )
 }

@@ -13,6 +13,7 @@ mod job;
 mod needs;
 mod reading;
 mod recording;
+mod resolved;
 mod results;
 mod run;
 mod simulating;
