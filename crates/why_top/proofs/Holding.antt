@@ -1,49 +1,53 @@
--- What the files hold, read one after the other.
-use Rattle.std.proofs.Common.{◌≡◌, ℕ, List, Option, Some, None, IfSome, subst, ◌∙◌}
-use Rattle.edge_io.specs.Contents.{Contents, FileMap}
+-- What comes of the files, read one after the other. They stay as they are while they are read.
+use Rattle.std.proofs.Common.{◌≡◌, ℕ, Some, None, Result, Ok, Err, IfOk, IfErr, IfSome, inl, inr, subst, ◌∙◌}
+use Rattle.std.specs.Global.{Vec}
+use Rattle.edge_io.specs.Contents.{Contents}
 use Rattle.ledger_types.specs.declared.header.Header.{Header}
 use Rattle.ledger_types.specs.declared.verdicts.Verdicts.{Verdicts}
 use Rattle.ledger_spec.specs.LedgerMap.{LedgerMap}
-use Rattle.tx_xdr.specs.declared.envelope.Envelope.{Envelope}
-use Rattle.apply_spec.specs.Runs.{running_header}
-use Rattle.why_top.specs.Explained.{Explains}
-use Rattle.set_place.specs.declared.place.Place.{Place}
-use Rattle.tx_xdr.specs.declared.set.TxSet.{TxSet}
-use Rattle.why_top.specs.Placed.{EndsAsReported}
-use Rattle.why_top.specs.Files.{HoldsLedger, HoldsVerdicts, HoldsEnvelope, HoldsSet, ExplainsEnvelope, ExplainsPlace}
+use Rattle.why_top.specs.Files.{HoldsLedger, HoldsVerdicts, ExplainsTarget, ExplainsFiles}
+use Rattle.why_top.specs.Refused.{AreRefusedVerdicts, IsRefused, IsRefusedTarget}
+use Rattle.why_top.specs.declared.error.WhyErr.{WhyErr}
 use Rattle.why_top.specs.declared.words.Request.{Request}
 
-module _ (request : Request) (header : Header) (entries : LedgerMap) (verdicts : Verdicts) (envelope : Envelope) (lines : List ℕ)
-    (explains : Explains request.form lines (running_header header request.close_time) verdicts entries envelope) where
-  -- the files stay as they are while they are read
-  pub explained : (first second third : Contents) → second ≡ first → third ≡ second → IfSome first (λ m. HoldsLedger m request.ledger header entries)
-      → IfSome second (λ m. HoldsVerdicts m request.verdicts verdicts) → IfSome third (λ m. HoldsEnvelope m request.base64 request.file envelope)
-      → IfSome first (λ m. ExplainsEnvelope request m lines)
-  explained None second third e d l v x = tt
-  explained (Some m) second third e d l v x = record {
-    header = header;
-    entries = entries;
-    verdicts = verdicts;
-    envelope = envelope;
-    ledger_held = l;
-    verdicts_held = subst (λ (c : Contents). IfSome c (λ n. HoldsVerdicts n request.verdicts verdicts)) e v;
-    envelope_held = subst (λ (c : Contents). IfSome c (λ n. HoldsEnvelope n request.base64 request.file envelope)) (d ∙ e) x;
-    explains = explains;
-  }
+module _ (request : Request) (header : Header) (entries : LedgerMap) where
+  -- the verdicts are refused, and the ledger is not
+  pub verdicts_refused : (w : WhyErr) (first second : Contents) → second ≡ first → IfSome first (λ m. HoldsLedger m request.ledger header entries)
+      → IfSome second (λ m. AreRefusedVerdicts m request.verdicts w) → IfSome first (λ m. IsRefused request m w)
+  verdicts_refused w None second e l h = tt
+  verdicts_refused w (Some m) second e l h =
+      inr ((header, entries), l, inl (subst (λ (c : Contents). IfSome c (λ n. AreRefusedVerdicts n request.verdicts w)) e h))
 
-module _ (place : Place) (request : Request) (header : Header) (entries : LedgerMap) (verdicts : Verdicts) (set : TxSet) (lines : List ℕ)
-    (last : EndsAsReported header verdicts entries set request.close_time place lines) where
-  pub placed : (first second third : Contents) → second ≡ first → third ≡ second → IfSome first (λ m. HoldsLedger m request.ledger header entries)
-      → IfSome second (λ m. HoldsVerdicts m request.verdicts verdicts) → IfSome third (λ m. HoldsSet m request.base64 request.file set)
-      → IfSome first (λ m. ExplainsPlace place request m lines)
-  placed None second third e d l v x = tt
-  placed (Some m) second third e d l v x = record {
-    header = header;
-    entries = entries;
-    verdicts = verdicts;
-    set = set;
-    ledger_held = l;
-    verdicts_held = subst (λ (c : Contents). IfSome c (λ n. HoldsVerdicts n request.verdicts verdicts)) e v;
-    set_held = subst (λ (c : Contents). IfSome c (λ n. HoldsSet n request.base64 request.file set)) (d ∙ e) x;
-    last = last;
-  }
+  module _ (verdicts : Verdicts) where
+    -- neither is refused, but what follows
+    pub target_refused : (r : Result (Vec ℕ) WhyErr) (first second third : Contents) → second ≡ first → third ≡ second
+        → IfSome first (λ m. HoldsLedger m request.ledger header entries) → IfSome second (λ m. HoldsVerdicts m request.verdicts verdicts)
+        → IfSome third (λ m. IfErr r (IsRefusedTarget request.target request m)) → IfSome first (λ m. IfErr r (IsRefused request m))
+    target_refused r None second third e d l v h = tt
+    target_refused (Ok x) (Some m) second third e d l v h = tt
+    target_refused (Err w) (Some m) second third e d l v h =
+        inr (
+          (header, entries),
+          l,
+          inr (
+            verdicts,
+            subst (λ (c : Contents). IfSome c (λ n. HoldsVerdicts n request.verdicts verdicts)) e v,
+            subst (λ (c : Contents). IfSome c (λ n. IsRefusedTarget request.target request n w)) (d ∙ e) h,
+          ),
+        )
+
+    -- none is refused
+    pub explained : (r : Result (Vec ℕ) WhyErr) (first second third : Contents) → second ≡ first → third ≡ second
+        → IfSome first (λ m. HoldsLedger m request.ledger header entries) → IfSome second (λ m. HoldsVerdicts m request.verdicts verdicts)
+        → IfSome third (λ m. IfOk r (λ x. ExplainsTarget request.target request m header entries verdicts x.items))
+        → IfSome first (λ m. IfOk r (λ x. ExplainsFiles request m x.items))
+    explained r None second third e d l v h = tt
+    explained (Err w) (Some m) second third e d l v h = tt
+    explained (Ok x) (Some m) second third e d l v h = record {
+      header = header;
+      entries = entries;
+      verdicts = verdicts;
+      ledger_held = l;
+      verdicts_held = subst (λ (c : Contents). IfSome c (λ n. HoldsVerdicts n request.verdicts verdicts)) e v;
+      explains = subst (λ (c : Contents). IfSome c (λ n. ExplainsTarget request.target request n header entries verdicts x.items)) (d ∙ e) h;
+    }

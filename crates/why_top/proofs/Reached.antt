@@ -1,13 +1,16 @@
--- The last line of a run at a place of a set.
-use Rattle.std.proofs.Common.{◌≡◌, ℕ, List, Some, sym, subst}
+-- A run at a place of a set.
+use Rattle.std.proofs.Common.{◌≡◌, ℕ, List, Option, Some, None, IsSome, map, option_map, refl, sym, ap, subst, ◌∙◌}
 use Rattle.ledger_types.specs.declared.header.Header.{Header}
 use Rattle.ledger_types.specs.declared.verdicts.Verdicts.{Verdicts}
 use Rattle.tx_xdr.specs.declared.set.TxSet.{TxSet}
+use Rattle.tx_xdr.specs.Stages.{stages_of}
 use Rattle.stage_runs.specs.Maps.{LedgerMap}
+use Rattle.stage_runs.specs.Runs.{clusters_in, start}
 use Rattle.apply_spec.specs.Enforced.{enforced}
 use Rattle.apply_spec.specs.Runs.{running_header}
 use Rattle.apply_spec.specs.SimulationFile.{result_line}
-use Rattle.set_place.specs.Places.{met_in}
+use Rattle.set_place.specs.Laws.{PlaceLaw}
+use Rattle.set_place.specs.Places.{Met, met_in, tx_at}
 use Rattle.set_place.specs.Reaching.{met_of}
 use Rattle.set_place.specs.declared.place.Place.{Place}
 use Rattle.set_place.specs.declared.set.Reached.{Reached}
@@ -25,3 +28,17 @@ ends_reached header verdicts entries set close_time place reached text met same 
   at = applied_at header verdicts entries set close_time place (met_of reached) (sym met);
   last = subst (λ (h : Header). EndsIn (result_line (enforced (running_header h close_time) verdicts reached.ledger.entries reached.envelope.now).result.result.outcome) text) same ends;
 }
+
+-- ---- the transaction there, by what is met
+
+module _ (law : PlaceLaw) (header : Header) (verdicts : Verdicts) (entries : LedgerMap) (set : TxSet) (close_time : ℕ) (place : Place) where
+  same_there : (met : Option Met) → met ≡ met_in header verdicts entries set close_time place → option_map (λ (m : Met). m.tx) met ≡ tx_at (map clusters_in (stages_of set)) place
+  same_there met is =
+      ap (option_map (λ (m : Met). m.tx)) is
+      ∙ law (enforced (running_header header close_time) verdicts) (start entries) (map clusters_in (stages_of set)) place
+
+  pub some_there : (met : Met) → Some met ≡ met_in header verdicts entries set close_time place → IsSome (tx_at (map clusters_in (stages_of set)) place)
+  some_there met is = subst (λ o. IsSome o) (same_there (Some met) is) refl
+
+  pub none_there : None ≡ met_in header verdicts entries set close_time place → tx_at (map clusters_in (stages_of set)) place ≡ None
+  none_there is = sym (same_there None is)

@@ -1,6 +1,8 @@
 //! Refusals: their lines and exit codes are those of the program `soroban`.
 
-ghost use Rattle.std.specs.Prelude.{◌≡◌};
+ghost use Rattle.std.specs.Prelude.{◌≡◌, ◌++◌, IfOk, codes, decimal};
+ghost use Rattle.why_top.specs.Lines.{conflict_line, line_of, name_of, number_of, place_line};
+ghost use Rattle.why_top.specs.Refused.{unread, unread_ledger};
 ghost use Rattle.why_top.specs.declared.error.WhyErr.TheVariants.{NoMemory as OutOfMemory};
 
 use edge_io::Word;
@@ -60,8 +62,12 @@ pub enum WhyErr {
 }
 
 impl WhyErr {
+    ghost use Rattle.why_top.specs.Lines.{code_of};
+
     /// The exit code of the program.
-    pub fn code(&self) -> u8 {
+    pub fn code(&self) -> u8
+        ensures { result ≡ code_of self.now }
+    {
         match self {
             WhyErr::Shown { .. } => 0,
             WhyErr::Malformed { .. } | WhyErr::NotBase64 { .. } | WhyErr::Conflict { .. } => 1,
@@ -74,75 +80,99 @@ impl WhyErr {
         }
     }
 
-    /// The line that is printed.
-    pub fn line(&self, alloc: Global) -> Result<Vec<u8>, AllocError> {
-        let mut line = Vec::new(alloc);
+    /// The line that is printed; for the help and the version, their text.
+    pub fn line(&self, alloc: Global) -> Result<Vec<u8>, AllocError>
+        ensures { IfOk result (λ v. v.items ≡ line_of self.now) }
+    {
         match self {
-            WhyErr::Usage => line.extend_from_slice(b"usage\n")?,
-            WhyErr::Shown { text } => line.extend_from_slice(text.as_bytes())?,
-            WhyErr::Fault { name } => push_name(&mut line, b"fault on ", name)?,
-            WhyErr::NotBase64 { name } => push_name(&mut line, b"not base64: ", name)?,
-            WhyErr::TooLong { name } => push_name(&mut line, b"too long: ", name)?,
-            WhyErr::Ledger { why, at } => {
-                line.extend_from_slice(b"ledger refused: ")?;
-                push_number(&mut line, number_of(*why), b" at ")?;
-                push_number(&mut line, *at, b"\n")?;
-            }
-            WhyErr::Verdicts { at } => {
-                line.extend_from_slice(b"verdicts refused at ")?;
-                push_number(&mut line, *at, b"\n")?;
-            }
+            WhyErr::Usage => Vec::from_slice(alloc, b"usage\n"),
+            WhyErr::Shown { text } => Vec::from_slice(alloc, text.as_bytes()),
+            WhyErr::Fault { name } => name_line(alloc, b"fault on ", name),
+            WhyErr::TooLong { name } => name_line(alloc, b"too long: ", name),
+            WhyErr::NotBase64 { name } => name_line(alloc, b"not base64: ", name),
+            WhyErr::Ledger { why, at } => number_line(alloc, number_of(*why), *at, b"\n"),
+            WhyErr::Verdicts { at } => number_line(alloc, b"verdicts refused at ", *at, b"\n"),
             WhyErr::Malformed { at, why } => {
-                line.extend_from_slice(b"refused at ")?;
-                push_number(&mut line, *at, name_of(*why))?;
+                number_line(alloc, b"refused at ", *at, name_of(*why))
             }
-            WhyErr::Conflict { stage, a, b, key } => {
-                push_clusters(&mut line, *stage, *a, *b)?;
-                push_hex(alloc, &mut line, key, b"\n")?;
-            }
-            WhyErr::NoPlace { place } => push_place(&mut line, *place)?,
-            WhyErr::NoMemory => line.extend_from_slice(b"no memory\n")?,
+            WhyErr::Conflict { stage, a, b, key } => conflict_line(alloc, *stage, *a, *b, key),
+            WhyErr::NoPlace { place } => place_line(alloc, *place),
+            WhyErr::NoMemory => Vec::from_slice(alloc, b"no memory\n"),
         }
-        Ok(line)
     }
 }
 
-/// The line of a conflict, up to the key.
-fn push_clusters(line: &mut Vec<u8>, stage: u64, a: u64, b: u64) -> Result<(), AllocError> {
-    line.extend_from_slice(b"conflict: stage ")?;
-    push_number(line, stage, b", clusters ")?;
-    push_number(line, a, b" and ")?;
-    push_number(line, b, b", key ")
+/// A line that names a file.
+fn name_line(alloc: Global, before: &[u8], name: &Word) -> Result<Vec<u8>, AllocError>
+    ensures { IfOk result (λ v. v.items ≡ before.now ++ name.now ++ codes "\n") }
+{
+    let mut line = Vec::from_slice(alloc, before)?;
+    line.extend_from_slice(name.as_str().as_bytes())?;
+    line.extend_from_slice(b"\n")?;
+    Ok(line)
+}
+
+/// A line with a number.
+fn number_line(
+    alloc: Global,
+    before: &[u8],
+    number: u64,
+    after: &[u8],
+) -> Result<Vec<u8>, AllocError>
+    ensures { IfOk result (λ v. v.items ≡ before.now ++ decimal number ++ after.now) }
+{
+    let mut line = Vec::from_slice(alloc, before)?;
+    push_number(&mut line, number, after)?;
+    Ok(line)
+}
+
+/// The line of a conflict.
+fn conflict_line(
+    alloc: Global,
+    stage: u64,
+    a: u64,
+    b: u64,
+    key: &[u8],
+) -> Result<Vec<u8>, AllocError>
+    ensures { IfOk result (λ v. v.items ≡ conflict_line stage a b key.now) }
+{
+    let mut line = Vec::from_slice(alloc, b"conflict: stage ")?;
+    push_number(&mut line, stage, b", clusters ")?;
+    push_number(&mut line, a, b" and ")?;
+    push_number(&mut line, b, b", key ")?;
+    push_hex(alloc, &mut line, key, b"\n")?;
+    Ok(line)
 }
 
 /// The line of a place that a set does not have.
-fn push_place(line: &mut Vec<u8>, place: Place) -> Result<(), AllocError> {
-    line.extend_from_slice(b"no such place: stage ")?;
-    push_number(line, place.stage as u64, b", cluster ")?;
-    push_number(line, place.cluster as u64, b", place ")?;
-    push_number(line, place.transaction as u64, b"\n")
+fn place_line(alloc: Global, place: Place) -> Result<Vec<u8>, AllocError>
+    ensures { IfOk result (λ v. v.items ≡ place_line place) }
+{
+    let mut line = Vec::from_slice(alloc, b"no such place: stage ")?;
+    push_number(&mut line, place.stage as u64, b", cluster ")?;
+    push_number(&mut line, place.cluster as u64, b", place ")?;
+    push_number(&mut line, place.transaction as u64, b"\n")?;
+    Ok(line)
 }
 
-fn push_name(line: &mut Vec<u8>, before: &[u8], name: &Word) -> Result<(), AllocError> {
-    line.extend_from_slice(before)?;
-    line.extend_from_slice(name.as_str().as_bytes())?;
-    line.extend_from_slice(b"\n")
-}
-
-/// The number of the reason why a ledger is refused.
-fn number_of(why: LedgerWhy) -> u64 {
+/// The start of the line of a refused ledger, up to the number of the reason.
+fn number_of(why: LedgerWhy) -> &'static [u8]
+    ensures { result.now ≡ number_of why }
+{
     match why {
-        LedgerWhy::Xdr => 1,
-        LedgerWhy::Order => 2,
-        LedgerWhy::TtlHash => 3,
-        LedgerWhy::CodeHash => 4,
-        LedgerWhy::Settings => 5,
-        LedgerWhy::SeqEnd => 6,
+        LedgerWhy::Xdr => b"ledger refused: 1 at ",
+        LedgerWhy::Order => b"ledger refused: 2 at ",
+        LedgerWhy::TtlHash => b"ledger refused: 3 at ",
+        LedgerWhy::CodeHash => b"ledger refused: 4 at ",
+        LedgerWhy::Settings => b"ledger refused: 5 at ",
+        LedgerWhy::SeqEnd => b"ledger refused: 6 at ",
     }
 }
 
 /// The end of the line of a refusal, with the name of its reason.
-fn name_of(why: Why) -> &'static [u8] {
+fn name_of(why: Why) -> &'static [u8]
+    ensures { result.now ≡ name_of why }
+{
     match why {
         Why::End => b": end\n",
         Why::Padding => b": padding\n",
@@ -179,18 +209,23 @@ impl From<NoMemory> for WhyErr {
 }
 
 impl From<ReadXdr> for WhyErr {
+    ghost from_gives = { λ error refusal. refusal ≡ unread error };
+
     fn from(error: ReadXdr) -> WhyErr {
         match error {
             ReadXdr::Bad(error) => WhyErr::Malformed {
                 at: error.at,
                 why: error.why,
             },
-            ReadXdr::NoMemory => WhyErr::NoMemory,
+            // Bytes in memory never stop.
+            ReadXdr::NoMemory | ReadXdr::Stopped => WhyErr::NoMemory,
         }
     }
 }
 
 impl From<LedgerErr> for WhyErr {
+    ghost from_gives = { λ error refusal. refusal ≡ unread_ledger error };
+
     fn from(error: LedgerErr) -> WhyErr {
         match error {
             LedgerErr::Refused(refusal) => WhyErr::Ledger {

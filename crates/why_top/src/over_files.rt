@@ -1,16 +1,23 @@
 //! From a request to the lines: reads the files, and explains what they hold.
 
-ghost use Rattle.std.specs.Prelude.{◌≡◌, IfOk, IfSome};
+ghost use Rattle.std.specs.Prelude.{◌≡◌, [], ◌∷◌, IfOk, IfErr, IfSome, IsTrue};
+ghost use Rattle.ledger_spec.specs.LedgerFile.{are_settings, has_next};
+ghost use Rattle.why_top.specs.Counts.{HasCause, NoLower, file, files_of, option_of};
 ghost use Rattle.why_top.specs.Files.{ExplainsFiles, ExplainsTarget, ExplainsEnvelope, ExplainsPlace};
+ghost use Rattle.why_top.specs.Refused.{IsRefused, IsRefusedTarget};
+ghost use Rattle.why_top.specs.declared.words.Target.TheVariants as targets;
 
 use crate::error::WhyErr;
 use crate::explaining::explain;
 use crate::placing::explain_place;
-use crate::reading::{read_envelope, read_ledger, read_set, read_verdicts};
+use crate::reading::{SET, TX, read_ledger, read_spelled, read_verdicts};
 use crate::words::{Request, Target};
 use edge_io::Files;
+use ledger_file::Ledger;
+use ledger_types::Verdicts;
 use set_place::Place;
 use std::alloc::Global;
+use tx_xdr::{Envelope, TxSet};
 
 /// Reads and checks the files of a request, and makes the lines of the transaction that it names.
 pub fn explain_files<F: Files>(
@@ -19,39 +26,66 @@ pub fn explain_files<F: Files>(
     request: &Request,
 ) -> Result<Vec<u8>, WhyErr>
     ensures explains { IfSome (F.contents files.old) (λ m. IfOk result (λ v. ExplainsFiles request.now m v.items)) }
+    // A refusal says what is wrong with the first file that is refused, or with the place. Only a fault and NoMemory may come
+    // where lines are due.
+    ensures refused { IfSome (F.contents files.old) (λ m. IfErr result (IsRefused request.now m)) }
+    // A fault has the name of a file whose count of failed calls rose. The words are not refused.
+    ensures cause { IfErr result (HasCause (files_of request.now) (F.faults files.old) (F.faults files.new)) }
+    ensures counts { NoLower (F.faults files.old) (F.faults files.new) }
     ensures same { F.contents files.new ≡ F.contents files.old }
 {
-    explain_target(alloc, files, request, request.target)
+    let ledger = read_ledger(alloc, files, &request.ledger)?;
+    let verdicts = read_verdicts(alloc, files, &request.verdicts)?;
+    explain_target(alloc, files, request, request.target, ledger, &verdicts)
 }
 
-/// The lines of the transaction that is this target.
+/// The lines of the transaction that is this target, over the ledger, with the verdicts.
 fn explain_target<F: Files>(
     alloc: Global,
     files: &mut F,
     request: &Request,
     target: Target,
+    ledger: Ledger,
+    verdicts: &Verdicts,
 ) -> Result<Vec<u8>, WhyErr>
-    ensures explains { IfSome (F.contents files.old) (λ m. IfOk result (λ v. ExplainsTarget target request.now m v.items)) }
+    requires settings { IsTrue (are_settings ledger.header.settings) }
+    requires next { IsTrue (has_next ledger.header) }
+    ensures explains { IfSome (F.contents files.old) (λ m. IfOk result (λ v.
+        ExplainsTarget target request.now m ledger.header ledger.entries verdicts.now v.items)) }
+    ensures refused { IfSome (F.contents files.old) (λ m. IfErr result (IsRefusedTarget target request.now m)) }
+    ensures cause { IfErr result (HasCause (file (option_of target) request.now.file ∷ [])
+        (F.faults files.old) (F.faults files.new)) }
+    ensures counts { NoLower (F.faults files.old) (F.faults files.new) }
     ensures same { F.contents files.new ≡ F.contents files.old }
 {
     match target {
-        Target::Envelope => of_envelope(alloc, files, request),
-        Target::InSet(place) => of_place(alloc, files, request, place),
+        Target::Envelope => of_envelope(alloc, files, request, &ledger, verdicts),
+        Target::InSet(place) => of_place(alloc, files, request, place, ledger, verdicts),
     }
 }
 
-/// The lines of the envelope over the ledger, with the verdicts.
-fn of_envelope<F: Files>(alloc: Global, files: &mut F, request: &Request) -> Result<Vec<u8>, WhyErr>
-    ensures explains { IfSome (F.contents files.old) (λ m. IfOk result (λ v. ExplainsEnvelope request.now m v.items)) }
+/// The lines of the envelope.
+fn of_envelope<F: Files>(
+    alloc: Global,
+    files: &mut F,
+    request: &Request,
+    ledger: &Ledger,
+    verdicts: &Verdicts,
+) -> Result<Vec<u8>, WhyErr>
+    requires settings { IsTrue (are_settings ledger.now.header.settings) }
+    requires next { IsTrue (has_next ledger.now.header) }
+    ensures explains { IfSome (F.contents files.old) (λ m. IfOk result (λ v.
+        ExplainsEnvelope request.now m ledger.now.header ledger.now.entries verdicts.now v.items)) }
+    ensures refused { IfSome (F.contents files.old) (λ m. IfErr result (IsRefusedTarget targets.Envelope request.now m)) }
+    ensures cause { IfErr result (HasCause (file 0 request.now.file ∷ []) (F.faults files.old) (F.faults files.new)) }
+    ensures counts { NoLower (F.faults files.old) (F.faults files.new) }
     ensures same { F.contents files.new ≡ F.contents files.old }
 {
-    let ledger = read_ledger(alloc, files, &request.ledger)?;
-    let verdicts = read_verdicts(alloc, files, &request.verdicts)?;
-    let envelope = read_envelope(alloc, files, &request.file, request.base64)?;
+    let envelope: Envelope = read_spelled(alloc, files, TX, &request.file, request.base64)?;
     let lines = explain(
         alloc,
-        &ledger,
-        &verdicts,
+        ledger,
+        verdicts,
         &envelope,
         request.close_time,
         request.form,
@@ -65,21 +99,26 @@ fn of_place<F: Files>(
     files: &mut F,
     request: &Request,
     place: Place,
+    ledger: Ledger,
+    verdicts: &Verdicts,
 ) -> Result<Vec<u8>, WhyErr>
-    ensures explains { IfSome (F.contents files.old) (λ m. IfOk result (λ v. ExplainsPlace place request.now m v.items)) }
+    requires settings { IsTrue (are_settings ledger.header.settings) }
+    requires next { IsTrue (has_next ledger.header) }
+    ensures explains { IfSome (F.contents files.old) (λ m. IfOk result (λ v.
+        ExplainsPlace place request.now m ledger.header ledger.entries verdicts.now v.items)) }
+    ensures refused { IfSome (F.contents files.old) (λ m. IfErr result (IsRefusedTarget (targets.InSet place) request.now m)) }
+    ensures cause { IfErr result (HasCause (file 3 request.now.file ∷ []) (F.faults files.old) (F.faults files.new)) }
+    ensures counts { NoLower (F.faults files.old) (F.faults files.new) }
     ensures same { F.contents files.new ≡ F.contents files.old }
 {
-    let ledger = read_ledger(alloc, files, &request.ledger)?;
-    let verdicts = read_verdicts(alloc, files, &request.verdicts)?;
-    let set = read_set(alloc, files, &request.file, request.base64)?;
-    let lines = explain_place(
+    let set: TxSet = read_spelled(alloc, files, SET, &request.file, request.base64)?;
+    explain_place(
         alloc,
         ledger,
-        &verdicts,
+        verdicts,
         &set,
         request.close_time,
         place,
         request.form,
-    )?;
-    Ok(lines)
+    )
 }

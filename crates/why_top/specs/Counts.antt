@@ -1,0 +1,50 @@
+-- Counts of failed calls as causes of refusals (own).
+use Rattle.std.specs.Prelude.{◌≡◌, ◌⊎◌, ℕ, ◌≤◌, List, [], ◌∷◌, ⊤}
+use Rattle.edge_io.specs.Counts.{Rose}
+use Rattle.why_top.specs.declared.error.WhyErr.{WhyErr}
+use Rattle.why_top.specs.declared.error.WhyErr.TheVariants as refusals
+use Rattle.why_top.specs.declared.words.Request.{Request}
+use Rattle.why_top.specs.declared.words.Target.{Target}
+use Rattle.why_top.specs.declared.words.Target.TheVariants as targets
+
+-- a file option by its number, and the name given for it
+pub record File : Type 0 where
+  pub option : ℕ
+  pub name : List ℕ
+
+abbrev pub file : ℕ → List ℕ → File
+file option name = record { option = option; name = name }
+
+-- the option of the file that has the envelope or the set
+abbrev pub option_of : Target → ℕ
+option_of targets.Envelope = 0
+option_of (targets.InSet place) = 3
+
+-- the files that are read, in order
+abbrev pub files_of : Request → List File
+files_of request =
+    file 1 request.ledger ∷ file 2 request.verdicts ∷ file (option_of request.target) request.file ∷ []
+
+abbrev pub NoLower : (ℕ → ℕ) → (ℕ → ℕ) → Type 0
+NoLower old new = (option : ℕ) → old option ≤ new option
+
+-- the count of a file of this name rose
+abbrev pub HasFaulted : List File → List ℕ → (ℕ → ℕ) → (ℕ → ℕ) → Type 0
+HasFaulted [] name old new = ⊥
+HasFaulted (file ∷ files) name old new =
+    ((file.name ≡ name) × Rose (old file.option) (new file.option)) ⊎ HasFaulted files name old new
+
+-- The refusal of a function over these files: not of words, and a fault has the name of a file whose count rose.
+abbrev pub HasCause : List File → (ℕ → ℕ) → (ℕ → ℕ) → WhyErr → Type 0
+HasCause files old new refusals.Usage = ⊥
+HasCause files old new (refusals.Shown text) = ⊥
+HasCause files old new (refusals.Fault name) = HasFaulted files name old new
+HasCause files old new _ = ⊤
+
+-- the refusal of a function that only computes
+abbrev pub IsOfBytes : WhyErr → Type 0
+IsOfBytes refusals.Usage = ⊥
+IsOfBytes (refusals.Shown text) = ⊥
+IsOfBytes (refusals.Fault name) = ⊥
+IsOfBytes (refusals.TooLong name) = ⊥
+IsOfBytes _ = ⊤
