@@ -46,7 +46,7 @@ check 'tests of tools/links.py and tools/pictures.py' python3 tools/test_pages.p
 check 'links of the documents lead somewhere' python3 tools/links.py
 check 'docs/pictures are what tools/pictures.py draws' python3 tools/pictures.py --check
 check 'docs/ARCHITECTURE.md has each crate' python3 tools/layers.py --check
-check 'definitions stand on no more code, and only published lemmas are cited' python3 tools/crossings.py --check
+check 'definitions stand on no code, and only published lemmas are cited' python3 tools/crossings.py --check
 check 'docs/COSTS.md has the lines of each crate' python3 tools/lines.py --check
 check 'lines, bodies and docstrings are as they have to be' python3 tools/hygiene.py
 check 'tests of tools/hygiene.py' python3 tools/test_hygiene.py

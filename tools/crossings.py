@@ -1,26 +1,21 @@
 #!/usr/bin/env python3
-"""Which crates of definitions stand on code, and that no crate cites another crate's proofs but its published lemmas.
+"""That crates of definitions stand on no code, and that no crate cites another crate's proofs but its published lemmas.
 
-A crate named `*_spec` stands only on crates of definitions, on types and on their codecs (UNDER_DEFINITIONS). Not all obey yet:
-tools/crossings.txt has the crates that each still stands on, and no crate of code joins them. A crate cites no other crate's
-proofs/ but the lemmas that the other one publishes on its page proofs/Lemmas.antt: all other pages there are private.
+A crate named `*_spec` stands only on crates of definitions, on types and on their codecs (UNDER_DEFINITIONS). A crate cites no
+other crate's proofs/ but the lemmas that the other one publishes on its page proofs/Lemmas.antt: all other pages there are
+private.
 
-python3 tools/crossings.py            writes tools/crossings.txt anew, unless a crate breaks a rule
-python3 tools/crossings.py --check    says which rules are broken, and whether the file has what is there; the status is 1 if not
+python3 tools/crossings.py --check    says which rules are broken; the status is 1 if any is
 python3 tools/crossings.py --list     prints how often each crate's published lemmas are cited, and by which crates
 """
 import collections
-import pathlib
 import re
 import sys
 
 from layers import TOP, crates
 
-FILE = pathlib.Path(__file__).with_suffix(".txt")
-HEAD = "# What tools/crossings.py found: crates of definitions that stand on code.\n"
-
 UNDER_DEFINITIONS = """
-    xdr_spec ledger_spec wasm_spec host_spec call_spec apply_spec stage_runs list_laws
+    xdr_spec ledger_spec wasm_spec host_spec module_spec auth_spec call_spec apply_spec stage_runs list_laws
     byte_list budget_meter value_types file_version ledger_types tx_parts invoke_types auth_types tx_results host_interface
     xdr_core value_xdr spelled_order tx_xdr wasm_read
 """.split()
@@ -33,13 +28,10 @@ MADE = ("TheSendSync", "TheKnot")
 
 
 def standing():
-    """Returns, for each crate of definitions, the crates of code that it stands on."""
-    found = {}
+    """Yields each crate of definitions with a crate of code that it stands on."""
     for name, (needs, _) in crates().items():
-        others = sorted(need for need in needs if need not in UNDER_DEFINITIONS)
-        if name.endswith("_spec") and others:
-            found[name] = " ".join(others)
-    return found
+        if name.endswith("_spec"):
+            yield from ((name, need) for need in sorted(needs) if need not in UNDER_DEFINITIONS)
 
 
 def citations():
@@ -62,18 +54,10 @@ def open_pages():
                 yield path, page
 
 
-def known():
-    """Returns what the file says: for each crate of definitions, the crates of code that it stands on."""
-    return dict(re.findall(r"^(\w+) stands on (.*)$", FILE.read_text(encoding="utf-8"), re.M))
-
-
 def faults():
     """Yields a line for each rule that is broken."""
-    old = known()
-    for name, others in standing().items():
-        for other in others.split():
-            if other not in old.get(name, "").split():
-                yield f"{name} is a crate of definitions, and stands on {other}"
+    for name, other in standing():
+        yield f"{name} is a crate of definitions, and stands on {other}"
     for _, other, page, path in citations():
         if page != LEMMAS:
             yield f"{path.relative_to(TOP)} cites {other}'s proofs/{page}: publish the lemma on {other}'s proofs/{LEMMAS}.antt"
@@ -92,17 +76,10 @@ def show():
 def main():
     if sys.argv[1:] == ["--list"]:
         show()
-        return
-    if sys.argv[1:] not in ([], ["--check"]):
+    elif sys.argv[1:] != ["--check"]:
         sys.exit(__doc__)
-    if lines := list(faults()):
+    elif lines := list(faults()):
         sys.exit("\n".join(lines))
-    stands = standing()
-    if not sys.argv[1:]:
-        rows = [f"{name} stands on {stands[name]}\n" for name in sorted(stands)]
-        FILE.write_text(HEAD + "".join(rows), encoding="utf-8")
-    elif stands != known():
-        sys.exit("there is less to mend than tools/crossings.txt says: run tools/crossings.py")
 
 
 if __name__ == "__main__":

@@ -7,8 +7,8 @@ use Rattle.std.proofs.lemmas.Bool.Decides.{Decides-eqb, Decides-and, Decides-lik
 use Rattle.std.proofs.lemmas.Slice.Eq.{bytes_eq-Decides}
 use Rattle.std.proofs.lemmas.List.{length-take-le, length-map}
 use Rattle.std.proofs.lemmas.List.Sums.{sum_by-append, count_by-le-length}
-use Rattle.auth_trees.specs.Pairs.{Pair}
-use Rattle.auth_trees.specs.Noted.{Note, is_child}
+use Rattle.auth_spec.specs.Pairs.{Pair}
+use Rattle.auth_spec.specs.Noted.{Note, is_child}
 use Rattle.auth_notes.specs.declared.noted.Noted.{Noted}
 use Rattle.auth_notes.specs.Recording.{note_of, notes_of}
 use Rattle.auth_notes.specs.Indices.{same_key, number_at, HasPut, count_at, HaveSame, HasOneMore, place_key, row_of, children_at, AreCounts}

@@ -12,11 +12,12 @@ use Rattle.std.proofs.lemmas.Bool.Decides.{Decides-eqb}
 use Rattle.value_types.specs.Equality.{is_same_decides}
 use Rattle.value_types.specs.declared.address.ScAddress.{ScAddress}
 use Rattle.invoke_types.specs.declared.function.Function.{Function}
-use Rattle.auth_trees.specs.Pairs.{Pair, is_below, deeper, deepest}
-use Rattle.auth_trees.specs.Demands.{coded_address, same_address, first_from, is_root, ByNote, ByNothing}
-use Rattle.auth_trees.specs.Noted.{Note, MOST_LEVELS, pairs_in, roots_in, last_child, below_noted, new_place, noted_at}
+use Rattle.auth_spec.specs.Pairs.{Pair, is_below, deeper, deepest}
+use Rattle.auth_spec.specs.Demands.{coded_address, same_address, first_from, is_root, ByNote, ByNothing}
+use Rattle.auth_spec.specs.Noted.{Note, MOST_LEVELS, pairs_in, roots_in, last_child, below_noted, new_place, noted_at}
 use Rattle.auth_notes.specs.Recording.{note_of, notes_of, HasRoot, AreTrees, stays, better, best_of, best, place_by, note_by, new_note, trees_with}
-use Rattle.auth_trees.proofs.Lemmas.{get_left, get_right, all_push, all_same, same_or_not}
+use Rattle.list_laws.proofs.Lemmas.{get_left, get_right, all_push, all_same}
+use Rattle.auth_trees.proofs.Lemmas.{same_or_not}
 use Rattle.auth_notes.proofs.Joining.{stays_by, yields_by}
 
 -- ---- a fold over a filtered list

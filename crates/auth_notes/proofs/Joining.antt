@@ -1,8 +1,8 @@
 -- The better one of nodes, and the best of two classes of nodes.
 use Rattle.std.proofs.Common.{◌≡◌, ℕ, ◌<◌, ◌≤◌, Bool, true, false, cond, ◌||◌, List, [], ◌∷◌, length, fold, Option, Some, None, inl, inr, refl, sym, ap, ◌∙◌, arith}
 use Rattle.std.proofs.lemmas.Bool.Decides.{nat_tests}
-use Rattle.auth_trees.specs.Pairs.{Pair}
-use Rattle.auth_trees.specs.Noted.{Note}
+use Rattle.auth_spec.specs.Pairs.{Pair}
+use Rattle.auth_spec.specs.Noted.{Note}
 use Rattle.auth_trees.proofs.Lemmas.{true_or_false}
 use Rattle.auth_notes.specs.Recording.{stays, better}
 use Rattle.auth_notes.specs.Indices.{joined}

@@ -12,10 +12,11 @@ use Rattle.std.proofs.lemmas.List.Sums.{fold-append}
 use Rattle.value_types.specs.Equality.{is_same_decides}
 use Rattle.value_types.specs.declared.account_id.AccountId.{AccountId}
 use Rattle.value_types.specs.declared.address.ScAddress.TheVariants.{Account}
-use Rattle.auth_trees.specs.Pairs.{Pair}
-use Rattle.auth_trees.specs.Demands.{coded_address, same_address}
-use Rattle.auth_trees.specs.Noted.{Note}
-use Rattle.auth_trees.proofs.Lemmas.{true_or_false, get_left, get_right}
+use Rattle.auth_spec.specs.Pairs.{Pair}
+use Rattle.auth_spec.specs.Demands.{coded_address, same_address}
+use Rattle.auth_spec.specs.Noted.{Note}
+use Rattle.auth_trees.proofs.Lemmas.{true_or_false}
+use Rattle.list_laws.proofs.Lemmas.{get_left, get_right}
 use Rattle.auth_notes.specs.declared.noted.Noted.{Noted}
 use Rattle.auth_notes.specs.Recording.{pair_of, note_of, notes_of, is_above, keeps, better, best_of, best, pair_at}
 use Rattle.auth_notes.specs.Indices.{same_key, number_at, HasPut, spelled, best_at, AreBest, joined}

@@ -12,8 +12,8 @@ use Rattle.value_types.specs.declared.address.ScAddress.{ScAddress}
 use Rattle.value_types.specs.declared.address.ScAddress.TheVariants.{Account}
 use Rattle.auth_notes.specs.declared.noted.Noted.{Noted}
 use Rattle.auth_notes.specs.declared.forest.Forest.{Forest}
-use Rattle.auth_trees.specs.Pairs.{Pair}
-use Rattle.auth_trees.specs.Noted.{Note}
+use Rattle.auth_spec.specs.Pairs.{Pair}
+use Rattle.auth_spec.specs.Noted.{Note}
 use Rattle.auth_notes.specs.Recording.{notes_of, pair_at, better, AreTrees}
 
 -- ---- numbers by keys

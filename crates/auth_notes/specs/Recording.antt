@@ -8,10 +8,10 @@ use Rattle.value_types.specs.declared.address.ScAddress.{ScAddress}
 use Rattle.invoke_types.specs.declared.function.Function.{Function}
 use Rattle.auth_notes.specs.declared.noted.Noted.{Noted}
 use Rattle.auth_notes.specs.declared.noted.Place.{Place}
-use Rattle.auth_trees.specs.Pairs.{Pair, is_below}
-use Rattle.auth_trees.specs.Demands.{same_address, is_root, Choice, ByNote, ByCaller, ByNothing, ByNode}
-use Rattle.auth_trees.specs.Noted.{Note, roots_in, last_child, new_place, noted_at}
-use Rattle.auth_trees.specs.Authorities.{Authorised}
+use Rattle.auth_spec.specs.Pairs.{Pair, is_below}
+use Rattle.auth_spec.specs.Demands.{same_address, is_root, Choice, ByNote, ByCaller, ByNothing, ByNode}
+use Rattle.auth_spec.specs.Noted.{Note, roots_in, last_child, new_place, noted_at}
+use Rattle.auth_spec.specs.Authorities.{Authorised}
 
 -- ---- what is kept
 

@@ -3,7 +3,7 @@
 ghost use Rattle.std.specs.Prelude.{◌≡◌, ◌<◌, ◌^◌, ◌++◌, ◌∷◌, [], true, false, Some, IfOk, vec_len, vec_capacity};
 ghost use Rattle.std.specs.Option.{option_map, is_some};
 ghost use Rattle.value_types.specs.declared.address.ScAddress.TheVariants.{Account};
-ghost use Rattle.auth_trees.specs.Noted.{last_child, new_place};
+ghost use Rattle.auth_spec.specs.Noted.{last_child, new_place};
 ghost use Rattle.auth_notes.specs.Recording.{pair_of, note_of, notes_of, keeps, best, pair_at, place_of, new_note, trees_with};
 ghost use Rattle.auth_notes.specs.Recording.{AreTrees};
 ghost use Rattle.auth_notes.specs.Indices.{number_at, count_at, HaveSame, HasOneMore, spelled, row_of, joined, AreBest, IsForest};

@@ -2,7 +2,7 @@
 
 ghost use Rattle.std.specs.Prelude.{◌≡◌, ◌+◌, ◌<◌, ◌^◌, nat_lt, is_some, IfSome};
 ghost use Rattle.value_types.specs.declared.address.ScAddress.TheVariants.{Account};
-ghost use Rattle.auth_trees.specs.Noted.{is_account, MOST_LEVELS};
+ghost use Rattle.auth_spec.specs.Noted.{is_account, MOST_LEVELS};
 ghost use Rattle.auth_notes.specs.Recording.{pair_of, note_of, stays, trees_with};
 
 use invoke_types::Function;
@@ -47,7 +47,7 @@ pub(crate) fn stays(best: &Noted, later: &Noted) -> bool
 }
 
 /// Whether a tree may have a node this far below its root.
-#[tactic(auto, unfolding(auth_trees::specs::Noted::MOST_LEVELS))]
+#[tactic(auto, unfolding(auth_spec::specs::Noted::MOST_LEVELS))]
 pub(crate) fn may_stand(below: usize) -> bool
     ensures { result ≡ nat_lt below MOST_LEVELS }
 {

@@ -3,13 +3,14 @@
 ghost use Rattle.std.specs.Prelude.{◌≡◌, ◌≤◌, ◌++◌, ◌∷◌, length, option_copied, [], true, false, Some};
 ghost use Rattle.std.specs.List.{slice_get};
 ghost use Rattle.std.specs.Option.{option_map};
-ghost use Rattle.auth_trees.specs.Noted.{no_notes};
-ghost use Rattle.auth_trees.specs.Authorities.{IsDemanded, point_of, undone_to};
+ghost use Rattle.auth_spec.specs.Noted.{no_notes};
+ghost use Rattle.auth_spec.specs.Authorities.{IsDemanded, point_of, undone_to};
 ghost use Rattle.auth_notes.specs.Recording.{notes_of};
 
 use crate::forest::{Forest, grow, new_note, no_trees};
 use crate::noted::{Noted, account_of};
-use auth_trees::{Authority, Demand, Point, is_caller};
+use auth_spec::{Demand, Point};
+use auth_trees::{Authority, is_caller};
 use auth_types::AuthEntry;
 use invoke_types::Function;
 use std::alloc::Global;
@@ -31,7 +32,7 @@ impl Model for Recorder {
     ghost use Rattle.value_types.specs.contracts.address.ScAddress as address;
     ghost use Rattle.invoke_types.specs.contracts.function.Function as function;
     ghost use Rattle.auth_types.specs.contracts.auth_entry.AuthEntry as auth_entry;
-    ghost use Rattle.auth_trees.specs.Authorities.{Authorised, authorised_code};
+    ghost use Rattle.auth_spec.specs.Authorities.{Authorised, authorised_code};
     ghost use Rattle.auth_notes.specs.Recording.{notes_of, recorded};
     ghost use Rattle.auth_notes.specs.Indices.{IsForest};
 

@@ -7,7 +7,7 @@ use Rattle.std.proofs.lemmas.List.{map_push, take_all, take_more, append-nil}
 use Rattle.std.proofs.lemmas.List.Elements.{filter-append}
 use Rattle.std.proofs.lemmas.Option.{slice_get_past, slice_get_read}
 use Rattle.auth_types.specs.Tree.{Tree, node, trees_of}
-use Rattle.auth_trees.specs.Noted.{Note}
+use Rattle.auth_spec.specs.Noted.{Note}
 use Rattle.auth_notes.specs.declared.noted.Noted.{Noted}
 use Rattle.auth_notes.specs.Recording.{pair_of, note_of, notes_of}
 use Rattle.auth_notes.specs.Indices.{same_key, place_key, row_of}

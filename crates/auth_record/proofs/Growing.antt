@@ -9,8 +9,8 @@ use Rattle.auth_types.specs.declared.credentials.Credentials.{Credentials}
 use Rattle.auth_types.specs.declared.invocation.Invocation.{Invocation}
 use Rattle.auth_types.specs.declared.auth_entry.AuthEntry.{AuthEntry}
 use Rattle.auth_notes.specs.declared.noted.Noted.{Noted}
-use Rattle.auth_trees.specs.Demands.{is_root}
-use Rattle.auth_trees.specs.Noted.{Note, MOST_LEVELS, roots_in}
+use Rattle.auth_spec.specs.Demands.{is_root}
+use Rattle.auth_spec.specs.Noted.{Note, MOST_LEVELS, roots_in}
 use Rattle.auth_notes.specs.Recording.{note_of, notes_of}
 use Rattle.record_spec.specs.Trees.{Terms, tree_of, tree_below, credentials_by, next_terms, entry_of, entries_from, terms_after}
 

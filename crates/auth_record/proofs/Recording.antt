@@ -13,8 +13,8 @@ use Rattle.auth_types.specs.declared.auth_entry.AuthEntry.{AuthEntry}
 use Rattle.ledger_types.specs.declared.header.Header.{Header}
 use Rattle.ledger_spec.specs.LedgerMap.{LedgerMap}
 use Rattle.std.proofs.lemmas.Option.{same_Some}
-use Rattle.auth_trees.specs.Noted.{Note, Notes, no_notes, one_more}
-use Rattle.auth_trees.specs.Authorities.{demands_of, noted_back}
+use Rattle.auth_spec.specs.Noted.{Note, Notes, no_notes, one_more}
+use Rattle.auth_spec.specs.Authorities.{demands_of, noted_back}
 use Rattle.host_spec.specs.Acts as values
 use Rattle.host_spec.specs.Hosted.{size_of}
 use Rattle.host_spec.specs.declared.error.HostErr.{HostErr}

@@ -4,7 +4,7 @@ use Rattle.std.specs.List.{slice_get}
 use Rattle.std.specs.Map.{lookup}
 use Rattle.std.specs.Global.{Vec}
 use Rattle.auth_notes.specs.declared.noted.Noted.{Noted}
-use Rattle.auth_trees.specs.Noted.{Note}
+use Rattle.auth_spec.specs.Noted.{Note}
 use Rattle.auth_notes.specs.Recording.{note_of, notes_of}
 use Rattle.auth_notes.specs.Indices.{same_key, row_of}
 

@@ -8,7 +8,7 @@ use Rattle.value_types.specs.declared.account_id.AccountId.{AccountId}
 use Rattle.value_types.specs.declared.value.ScVal.{ScVal}
 use Rattle.auth_types.specs.AuthEntry.{auth_entry_format}
 use Rattle.auth_types.specs.declared.auth_entry.AuthEntry.{AuthEntry}
-use Rattle.auth_trees.specs.Noted.{Notes}
+use Rattle.auth_spec.specs.Noted.{Notes}
 use Rattle.host_spec.specs.declared.error.HostErr.{HostErr}
 use Rattle.host_spec.specs.declared.error.HostErr.TheVariants as ends
 use Rattle.budget_meter.specs.Meter.{Meter}

@@ -5,7 +5,7 @@ ghost use Rattle.value_types.specs.declared.address.ScAddress.TheVariants.{Accou
 ghost use Rattle.auth_types.specs.Views.{tree_of as tree_in};
 ghost use Rattle.auth_types.specs.Tree.{node as tree_with, no_trees, trees_of};
 ghost use Rattle.auth_types.specs.Views.{forest_of};
-ghost use Rattle.auth_trees.specs.Demands.{same_address, is_root};
+ghost use Rattle.auth_spec.specs.Demands.{same_address, is_root};
 ghost use Rattle.auth_notes.specs.Recording.{note_of, notes_of};
 ghost use Rattle.record_spec.specs.Trees.{tree_below, credentials_by, entry_of, entries_of, next_terms};
 ghost use Rattle.auth_record.specs.Children.{list_at, HasAdded, AreChildren};

@@ -3,13 +3,13 @@ use Rattle.std.proofs.Common.{◌≡◌, ◌+◌, ◌-◌, ◌≤◌, ℕ, List,
 use Rattle.std.proofs.lemmas.List.{append-nil, take_at}
 use Rattle.value_types.specs.declared.address.ScAddress.{ScAddress}
 use Rattle.invoke_types.specs.declared.function.Function.{Function}
-use Rattle.auth_trees.specs.declared.demand.Demand.{Demand}
-use Rattle.auth_trees.specs.declared.demand.Demand.TheVariants as demands
-use Rattle.auth_trees.specs.declared.authority.Point.{Point}
-use Rattle.auth_trees.specs.Pairs.{Pair}
-use Rattle.auth_trees.specs.Demands.{Choice, ByNode, ByCaller, ByNothing, ByNote, answer, is_caller, paired}
-use Rattle.auth_trees.specs.Noted.{Note, Notes, MOST_LEVELS, is_account, new_place, noted_at, noting}
-use Rattle.auth_trees.specs.Authorities.{Authorised, marked_in, choice_by, chooses, after_choice, noted_next, IsDemanded, demands_of, point_of, noted_back, undone_to, HasMoreNotes, IsLaterState}
+use Rattle.auth_spec.specs.declared.demand.Demand.{Demand}
+use Rattle.auth_spec.specs.declared.demand.Demand.TheVariants as demands
+use Rattle.auth_spec.specs.declared.point.Point.{Point}
+use Rattle.auth_spec.specs.Pairs.{Pair}
+use Rattle.auth_spec.specs.Demands.{Choice, ByNode, ByCaller, ByNothing, ByNote, answer, is_caller, paired}
+use Rattle.auth_spec.specs.Noted.{Note, Notes, MOST_LEVELS, is_account, new_place, noted_at, noting}
+use Rattle.auth_spec.specs.Authorities.{Authorised, marked_in, choice_by, chooses, after_choice, noted_next, IsDemanded, demands_of, point_of, noted_back, undone_to, HasMoreNotes, IsLaterState}
 use Rattle.auth_trees.proofs.Later.{IsOfAddress, matched_is, take_past}
 
 -- ---- notes

@@ -18,14 +18,15 @@ use Rattle.auth_trees.specs.declared.records.Record.{Record}
 use Rattle.auth_trees.specs.declared.tables.Deepest.{Deepest}
 use Rattle.auth_trees.specs.declared.tables.Tables.{Tables}
 use Rattle.auth_trees.specs.declared.search.Found.{Found}
-use Rattle.auth_trees.specs.Pairs.{Pair, has_pair, is_paired, is_below, deeper, deepest}
-use Rattle.auth_trees.specs.Demands.{Marked, children, function_of, node_at, has_asset, signer, same_address, same_function, authorises, first_from, open_child, open_below, by_child, by_root, chosen, is_root}
+use Rattle.auth_spec.specs.Pairs.{Pair, has_pair, is_paired, is_below, deeper, deepest}
+use Rattle.auth_spec.specs.Demands.{Marked, children, function_of, node_at, has_asset, signer, same_address, same_function, authorises, first_from, open_child, open_below, by_child, by_root, chosen, is_root}
 use Rattle.auth_trees.specs.Listed.{Spot, listed_row, roots, spots, Kept, kept, kept_of, nodes_of_row}
 use Rattle.auth_trees.specs.Flat.{authoriser, is_known, has_record, has_entry, flat, known, deepest_record, first_open, child_in, root_in}
 use Rattle.auth_trees.specs.Flat as program
 use Rattle.auth_trees.specs.Ready.{IsReady, IsMarked, child_found, root_found, found}
 use Rattle.auth_trees.specs.Kept.{place_of, pair_of, pairs_of, marked, IsFit}
-use Rattle.auth_trees.proofs.Lists.{map_map, get_map, all_same, all_map, filter_map_same, filter_all}
+use Rattle.auth_trees.proofs.Lists.{map_map, get_map, all_map, filter_map_same, filter_all}
+use Rattle.list_laws.proofs.Lemmas.{all_same}
 use Rattle.auth_trees.proofs.Listing.{length-nodes_of_row}
 use Rattle.auth_trees.proofs.Spots.{Row, RootAt, ChildAt, roots_at, children_in, one_index, there, kept_at, length-listed_row}
 use Rattle.auth_trees.proofs.Walking.{root_test}

@@ -5,7 +5,7 @@ use Rattle.std.proofs.lemmas.List.{map_push, take_more, length-set}
 use Rattle.std.proofs.lemmas.Bool.Decides.{Decides-eqb, Decides-ltb}
 use Rattle.auth_trees.specs.declared.records.Record.{Record}
 use Rattle.auth_trees.specs.declared.tables.Deepest.{Deepest}
-use Rattle.auth_trees.specs.Pairs.{Pair, is_below, deeper}
+use Rattle.auth_spec.specs.Pairs.{Pair, is_below, deeper}
 use Rattle.auth_trees.specs.Flat.{flat, known, deeper_known, deepest_record}
 
 pub true_or_false : (b : Bool) → (b ≡ true) ⊎ (b ≡ false)

@@ -16,18 +16,19 @@ use Rattle.auth_types.specs.Tree.{Tree, trees_of, list_of_trees}
 use Rattle.auth_types.specs.Views.{tree_of}
 use Rattle.auth_types.specs.InvocationLaws.{trees_there}
 use Rattle.auth_types.specs.declared.auth_entry.AuthEntry.{AuthEntry}
-use Rattle.auth_trees.specs.declared.demand.Demand.TheVariants as demands
+use Rattle.auth_spec.specs.declared.demand.Demand.TheVariants as demands
 use Rattle.auth_trees.specs.declared.records.Record.{Record}
 use Rattle.auth_trees.specs.declared.tables.Tables.{Tables}
 use Rattle.auth_trees.specs.declared.search.Found.{Found}
-use Rattle.auth_trees.specs.Demands.{Marked, node_at, may_authorise, is_caller, chosen, Choice, ByNode, ByNothing, ByCaller, choice_of, choice, answer, demand, paired, after_demand}
+use Rattle.auth_spec.specs.Demands.{Marked, node_at, may_authorise, is_caller, chosen, Choice, ByNode, ByNothing, ByCaller, choice_of, choice, answer, demand, paired, after_demand}
 use Rattle.auth_trees.specs.Listed.{Spot, roots, spots, kept, nodes_of_row}
 use Rattle.auth_trees.specs.Flat.{authoriser, has_record, has_entry}
 use Rattle.auth_trees.specs.Ready.{IsReady, IsMarked, IsCurrent, AreWithin, found}
 use Rattle.auth_trees.specs.Kept.{place_of, pair_of, pairs_of, marked, IsFit, IsKept}
 use Rattle.auth_trees.specs.declared.tables.Deepest.{Deepest}
 use Rattle.auth_trees.proofs.Deepest.{same_or_not, own_path}
-use Rattle.auth_trees.proofs.Lists.{all_same, all_map, all_push, all_take, distinct_take}
+use Rattle.list_laws.proofs.Lemmas.{all_same, all_push}
+use Rattle.auth_trees.proofs.Lists.{all_map, all_take, distinct_take}
 use Rattle.auth_trees.proofs.Listing.{length-nodes_of_row}
 use Rattle.auth_trees.proofs.Spots.{there, length-listed_row}
 use Rattle.auth_trees.proofs.Choosing.{Hits, Finds, are_within, finds_it}

@@ -8,9 +8,9 @@ use Rattle.value_types.specs.declared.address.ScAddress.{ScAddress}
 use Rattle.invoke_types.specs.declared.function.Function.{Function}
 use Rattle.auth_types.specs.Views.{tree_of}
 use Rattle.auth_types.specs.declared.auth_entry.AuthEntry.{AuthEntry}
-use Rattle.auth_trees.specs.declared.demand.Demand.TheVariants as demands
-use Rattle.auth_trees.specs.Pairs.{Pair, has_pair, deepest}
-use Rattle.auth_trees.specs.Demands.{Marked, same_function, authorises, first_from, open_below, by_child, by_root, chosen, may_authorise, is_caller, Choice, ByNode, ByCaller, ByNothing, ByNote, choice_of, choice, answer, demand, paired, after_demand, restored, IsLater}
+use Rattle.auth_spec.specs.declared.demand.Demand.TheVariants as demands
+use Rattle.auth_spec.specs.Pairs.{Pair, has_pair, deepest}
+use Rattle.auth_spec.specs.Demands.{Marked, same_function, authorises, first_from, open_below, by_child, by_root, chosen, may_authorise, is_caller, Choice, ByNode, ByCaller, ByNothing, ByNote, choice_of, choice, answer, demand, paired, after_demand, restored, IsLater}
 
 -- ---- the entry of an answer
 

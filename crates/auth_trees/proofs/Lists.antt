@@ -11,16 +11,6 @@ map_map f g (x ∷ xs) = ap (λ ys. f (g x) ∷ ys) (map_map f g xs)
 
 -- ---- an item by its index
 
-pub get_left : {A : Type 0} (xs ys : List A) (i : ℕ) (x : A) → slice_get xs i ≡ Some x → slice_get (xs ++ ys) i ≡ Some x
-get_left [] ys i x e = absurd cc
-get_left (z ∷ xs) ys zero x e = e
-get_left (z ∷ xs) ys (suc i) x e = get_left xs ys i x e
-
-pub get_right : {A : Type 0} (xs ys : List A) (i j : ℕ) → i ≡ length xs + j → slice_get (xs ++ ys) i ≡ slice_get ys j
-get_right [] ys i j e = let f : i ≡ j = omega arith in ap (slice_get ys) f
-get_right (z ∷ xs) ys zero j e = absurd (omega arith)
-get_right (z ∷ xs) ys (suc i) j e = get_right xs ys i j (omega arith)
-
 pub get_split : {A : Type 0} (xs ys : List A) (i : ℕ) (z : A) → slice_get (xs ++ ys) i ≡ Some z
     → (slice_get xs i ≡ Some z) ⊎ ((j : ℕ) × (i ≡ length xs + j) × (slice_get ys j ≡ Some z))
 get_split [] ys i z e = inr (i, omega arith, e)
@@ -40,17 +30,9 @@ get_map_some f (z ∷ xs) (suc i) y e = get_map_some f xs i y e
 
 -- ---- all items
 
-pub all_same : {A : Type 0} (P Q : A → Type 0) → ((x : A) → P x → Q x) → (xs : List A) → AllByRecursion P xs → AllByRecursion Q xs
-all_same P Q f [] h = tt
-all_same P Q f (x ∷ xs) h = (f x h.0, all_same P Q f xs h.1)
-
 pub all_map : {A B : Type 0} (P : B → Type 0) (f : A → B) (xs : List A) → AllByRecursion (λ x. P (f x)) xs → AllByRecursion P (map f xs)
 all_map P f [] h = tt
 all_map P f (x ∷ xs) h = (h.0, all_map P f xs h.1)
-
-pub all_push : {A : Type 0} (P : A → Type 0) (xs : List A) (y : A) → AllByRecursion P xs → P y → AllByRecursion P (xs ++ y ∷ [])
-all_push P [] y h p = (p, tt)
-all_push P (x ∷ xs) y h p = (h.0, all_push P xs y h.1 p)
 
 pub all_take : {A : Type 0} (P : A → Type 0) (n : ℕ) (xs : List A) → AllByRecursion P xs → AllByRecursion P (take n xs)
 all_take P zero [] h = tt

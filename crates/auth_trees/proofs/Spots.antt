@@ -4,10 +4,11 @@ use Rattle.std.proofs.lemmas.List.{map-append, length-map}
 use Rattle.std.proofs.lemmas.Option.{same_Some}
 use Rattle.auth_types.specs.Tree.{Tree, Trees, node, no_trees, trees, trees_of, list_of_trees, size, trees_size}
 use Rattle.auth_types.specs.InvocationLaws.{trees_there}
-use Rattle.auth_trees.specs.Demands.{children, node_at}
+use Rattle.auth_spec.specs.Demands.{children, node_at}
 use Rattle.auth_trees.specs.Listed.{Spot, below, first, next, listed, listed_row, Kept, kept_of, nodes_of, nodes_of_row}
 use Rattle.auth_trees.specs.Flat.{IsRowAt}
-use Rattle.auth_trees.proofs.Lists.{map_map, get_left, get_right, get_split, get_map, get_map_some}
+use Rattle.auth_trees.proofs.Lists.{map_map, get_split, get_map, get_map_some}
+use Rattle.list_laws.proofs.Lemmas.{get_left, get_right}
 use Rattle.auth_trees.proofs.Listing.{length-nodes_of, length-nodes_of_row}
 
 -- ---- what is kept of them, and how many they are

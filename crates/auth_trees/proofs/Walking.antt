@@ -8,7 +8,7 @@ use Rattle.auth_types.specs.Tree.{Tree, size}
 use Rattle.auth_types.specs.Views.{tree_of, forest_of}
 use Rattle.auth_types.specs.declared.invocation.Invocation.{Invocation}
 use Rattle.auth_trees.specs.declared.nodes.Node.{Node}
-use Rattle.auth_trees.specs.Demands.{same_function, first_from, children}
+use Rattle.auth_spec.specs.Demands.{same_function, first_from, children}
 use Rattle.auth_trees.specs.Listed.{Kept, kept, kept_of, roots}
 use Rattle.auth_types.specs.declared.auth_entry.AuthEntry.{AuthEntry}
 use Rattle.auth_types.specs.Tree.{trees_of}

@@ -12,8 +12,8 @@ use Rattle.auth_types.specs.declared.auth_entry.AuthEntry.{AuthEntry}
 use Rattle.auth_trees.specs.declared.records.Record.{Record}
 use Rattle.auth_trees.specs.declared.tables.Deepest.{Deepest}
 use Rattle.auth_trees.specs.declared.search.Found.{Found}
-use Rattle.auth_trees.specs.Pairs.{Pair, deepest}
-use Rattle.auth_trees.specs.Demands.{same_address, same_function, function_of, children, has_asset, signer}
+use Rattle.auth_spec.specs.Pairs.{Pair, deepest}
+use Rattle.auth_spec.specs.Demands.{same_address, same_function, function_of, children, has_asset, signer}
 use Rattle.auth_trees.specs.Listed.{Kept, kept_of}
 
 -- ---- entries

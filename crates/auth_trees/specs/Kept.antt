@@ -2,24 +2,18 @@
 use Rattle.std.specs.Prelude.{◌≡◌, ℕ, ◌≤◌, List, [], length, map, Option, Some, None, nat_eq, refl}
 use Rattle.std.specs.List.{slice_get, AllByRecursion, IsDistinct}
 use Rattle.std.specs.Option.{option_map}
-use Rattle.std.specs.Coded.{Coded, code_by, coded×, coded_list, coded_ℕ}
+use Rattle.std.specs.Coded.{Coded, code_by, coded×, coded_list}
 use Rattle.value_types.specs.declared.account_id.AccountId.{AccountId}
 use Rattle.auth_types.specs.declared.auth_entry.AuthEntry.{AuthEntry}
 use Rattle.auth_trees.specs.declared.records.Record.{Record}
 use Rattle.auth_trees.specs.declared.tables.Tables.{Tables}
-use Rattle.auth_trees.specs.Pairs.{Pair}
-use Rattle.auth_trees.specs.Demands.{Marked}
+use Rattle.auth_spec.specs.Pairs.{Pair, pair_code}
+use Rattle.auth_spec.specs.Demands.{Marked}
 use Rattle.auth_trees.specs.Listed.{Spot, spots}
 use Rattle.auth_trees.specs.Flat.{authoriser}
 use Rattle.auth_trees.specs.Ready.{IsReady, IsCurrent}
 
 -- ---- how the logic stores pairs and the state
-
-abbrev pub pair_code : Coded Pair
-pair_code =
-    code_by (ℕ × (List ℕ × List ℕ)) (coded× coded_ℕ (coded× (coded_list coded_ℕ) (coded_list coded_ℕ)))
-    (λ p. (p.entry, (p.node, p.path)))
-    (λ q. record { entry = q.0; node = q.1.0; path = q.1.1 }) (λ _. refl)
 
 abbrev pub marked_code : Coded AuthEntry → Coded AccountId → Coded Marked
 marked_code e a =

@@ -8,7 +8,7 @@ use Rattle.auth_trees.specs.declared.records.Record.{Record}
 use Rattle.auth_trees.specs.declared.tables.Deepest.{Deepest}
 use Rattle.auth_trees.specs.declared.tables.Tables.{Tables}
 use Rattle.auth_trees.specs.declared.search.Found.{Found}
-use Rattle.auth_trees.specs.Demands.{first_from, children}
+use Rattle.auth_spec.specs.Demands.{first_from, children}
 use Rattle.auth_trees.specs.Listed.{Kept, kept, roots, nodes_of_row}
 use Rattle.auth_trees.specs.Flat.{has_record, has_entry, deepest_record, IsRowAt, child_in, root_in}
 use Rattle.std.specs.Option.{option_or}

@@ -2,28 +2,19 @@
 
 ghost use Rattle.std.specs.Prelude.{◌≡◌, ◌≤◌, length, option_copied};
 ghost use Rattle.std.specs.List.{slice_get};
-ghost use Rattle.auth_trees.specs.Authorities.{by_entries, IsDemanded, point_of, undone_to};
+ghost use Rattle.auth_spec.specs.Authorities.{by_entries, IsDemanded, point_of, undone_to};
 
-use crate::demand::Demand;
 use crate::marks::Marks;
+use auth_spec::{Demand, Point};
 use auth_types::AuthEntry;
 use invoke_types::Function;
 use std::marker::Model;
 use value_types::ScAddress;
 
-/// A snapshot of an authority.
-#[derive(Clone, Copy, Debug, PartialEq, Eq)]
-pub struct Point {
-    /// The number of nodes that had met demands.
-    pub pairs: usize,
-    /// The number of demands so far, if they are noted; otherwise 0.
-    pub demands: usize,
-}
-
 /// What meets the demands of a run, or notes them: the authorisation entries of a transaction, or a recorder.
 pub trait Authority {
     /// The entries, the source account, the nodes that met demands, and what was noted.
-    ghost authorised: { Self → Rattle.auth_trees.specs.Authorities.Authorised };
+    ghost authorised: { Self → Rattle.auth_spec.specs.Authorities.Authorised };
 
     /// Meets a demand for an address in the frame of a path, if anything does, and keeps what met it. The caller is the contract
     /// that calls the frame directly; for a create it is the frame's own contract.
@@ -88,7 +79,7 @@ impl<A: Authority> Model for Authorising<A> {
     ghost use Rattle.value_types.specs.contracts.address.ScAddress as address;
     ghost use Rattle.invoke_types.specs.contracts.function.Function as function;
     ghost use Rattle.auth_types.specs.contracts.auth_entry.AuthEntry as auth_entry;
-    ghost use Rattle.auth_trees.specs.Authorities.{Authorised, authorised_code};
+    ghost use Rattle.auth_spec.specs.Authorities.{Authorised, authorised_code};
 
     ghost Value = { Authorised };
 

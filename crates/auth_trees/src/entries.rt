@@ -3,8 +3,8 @@
 ghost use Rattle.std.specs.Prelude.{◌≡◌, map, IfOk};
 ghost use Rattle.auth_types.specs.Tree.{trees_of};
 ghost use Rattle.auth_types.specs.Views.{tree_of, forest_of};
-ghost use Rattle.auth_trees.specs.Demands.{is_from_asset, is_stellar_asset, creates_asset, has_asset, have_asset, signer};
-ghost use Rattle.auth_trees.specs.Demands.{may_authorise, is_caller};
+ghost use Rattle.auth_spec.specs.Demands.{is_from_asset, is_stellar_asset, creates_asset, has_asset, have_asset, signer};
+ghost use Rattle.auth_spec.specs.Demands.{may_authorise, is_caller};
 ghost use Rattle.auth_trees.specs.Flat.{authoriser, is_known};
 
 use auth_types::{AuthEntry, Credentials, Invocation};

@@ -5,11 +5,11 @@ ghost use Rattle.std.specs.List.{slice_get};
 ghost use Rattle.value_types.specs.declared.address.ScAddress.{ScAddress};
 ghost use Rattle.invoke_types.specs.declared.function.Function.{Function};
 ghost use Rattle.auth_types.specs.declared.auth_entry.AuthEntry.{AuthEntry};
-ghost use Rattle.auth_trees.specs.declared.demand.Demand.TheVariants.{Matched};
-ghost use Rattle.auth_trees.specs.declared.demand.Demand.{Demand};
-ghost use Rattle.auth_trees.specs.declared.authority.Point.{Point};
-ghost use Rattle.auth_trees.specs.Demands.{Marked, authorises, demand, after_demand, restored, IsLater};
-ghost use Rattle.auth_trees.specs.Authorities.{Authorised, IsDemanded, demands_of, point_of, noted_back, undone_to, IsLaterState};
+ghost use Rattle.auth_spec.specs.declared.demand.Demand.TheVariants.{Matched};
+ghost use Rattle.auth_spec.specs.declared.demand.Demand.{Demand};
+ghost use Rattle.auth_spec.specs.declared.point.Point.{Point};
+ghost use Rattle.auth_spec.specs.Demands.{Marked, authorises, demand, after_demand, restored, IsLater};
+ghost use Rattle.auth_spec.specs.Authorities.{Authorised, IsDemanded, demands_of, point_of, noted_back, undone_to, IsLaterState};
 
 /// An entry that meets a demand is there, and is one of the demanded address.
 pub fn matched_is_of_address()

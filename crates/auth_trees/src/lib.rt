@@ -2,7 +2,6 @@
 #![tactic(auto)]
 
 mod authority;
-mod demand;
 mod entries;
 mod laws;
 mod marks;
@@ -11,8 +10,7 @@ mod records;
 mod search;
 mod tables;
 
-pub use authority::{Authorising, Authority, Point};
-pub use demand::Demand;
+pub use authority::{Authorising, Authority};
 pub use entries::is_caller;
 pub use laws::{
     authority_goes_back, authority_is_later, later_is_later, matched_entry_is_there,

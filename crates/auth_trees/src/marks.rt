@@ -2,14 +2,13 @@
 
 ghost use Rattle.std.specs.Prelude.{◌≡◌, ◌≤◌, [], length, IfOk, option_copied};
 ghost use Rattle.std.specs.List.{slice_get};
-ghost use Rattle.auth_trees.specs.Demands.{demand, after_demand, restored};
+ghost use Rattle.auth_spec.specs.Demands.{demand, after_demand, restored};
 
-use crate::authority::Point;
-use crate::demand::Demand;
 use crate::entries::{is_caller, may_authorise};
 use crate::records::{Record, add};
 use crate::search::find;
 use crate::tables::{Tables, mark, prepare, take};
+use auth_spec::{Demand, Point};
 use auth_types::AuthEntry;
 use invoke_types::Function;
 use std::alloc::Global;
@@ -30,7 +29,7 @@ impl<'a> Model for Marks<'a> {
     ghost use Rattle.std.specs.Prelude.{vec_capacity};
     ghost use Rattle.auth_types.specs.contracts.auth_entry.AuthEntry as auth_entry;
     ghost use Rattle.value_types.specs.contracts.account_id.AccountId as account_id;
-    ghost use Rattle.auth_trees.specs.Demands.{Marked};
+    ghost use Rattle.auth_spec.specs.Demands.{Marked};
     ghost use Rattle.auth_trees.specs.Kept.{marked_code, marked, IsKept};
 
     ghost Value = { Marked };

@@ -2,7 +2,7 @@
 
 ghost use Rattle.std.specs.Prelude.{◌≡◌, ◌≤◌, ℕ, ◌<◌, ◌+◌, ◌++◌, ◌∷◌, [], length, vec_len, vec_capacity, All};
 ghost use Rattle.std.specs.Prelude.{Decides, IfOk, Some, None};
-ghost use Rattle.auth_trees.specs.Pairs.{is_below};
+ghost use Rattle.auth_spec.specs.Pairs.{is_below};
 
 use std::alloc::{AllocError, Global};
 use std::marker::Model;

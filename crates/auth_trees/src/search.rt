@@ -2,7 +2,7 @@
 
 ghost use Rattle.std.specs.Prelude.{◌≡◌, ◌<◌, ◌&&◌, length, map, not, false};
 ghost use Rattle.std.specs.Option.{option_map};
-ghost use Rattle.auth_trees.specs.Demands.{same_function};
+ghost use Rattle.auth_spec.specs.Demands.{same_function};
 ghost use Rattle.auth_types.specs.Views.{forest_of};
 ghost use Rattle.auth_trees.specs.Listed.{kept};
 ghost use Rattle.auth_trees.specs.Flat.{IsRowAt, first_open, open_below, child_in, is_known};

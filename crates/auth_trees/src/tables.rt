@@ -3,7 +3,7 @@
 ghost use Rattle.std.specs.Prelude.{◌≡◌, ℕ, ◌<◌, ◌≤◌, length, map, slice_set, All, IfOk, Some, None, true, false};
 ghost use Rattle.std.specs.Prelude.{if◌then◌else◌};
 ghost use Rattle.std.specs.List.{slice_index_or};
-ghost use Rattle.auth_trees.specs.Pairs.{is_below};
+ghost use Rattle.auth_spec.specs.Pairs.{is_below};
 ghost use Rattle.auth_trees.specs.Flat.{has_record, has_entry, deepest_record, deeper_known, known, flat, authoriser};
 ghost use Rattle.auth_trees.specs.Ready.{IsReady, IsMarked, IsCurrent};
 

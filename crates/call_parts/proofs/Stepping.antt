@@ -13,7 +13,7 @@ use Rattle.ledger_spec.specs.declared.Kept.{Kept}
 use Rattle.wasm_spec.specs.declared.module.Module.{Module}
 use Rattle.wasm_spec.specs.declared.types.ResizableLimits.{ResizableLimits}
 use Rattle.wasm_spec.specs.Stores.{PAGE}
-use Rattle.module_loader.specs.Loading.{module_of}
+use Rattle.module_spec.specs.Loading.{module_of}
 use Rattle.host_spec.specs.Acts as values
 use Rattle.host_spec.specs.declared.error.HostErr.{HostErr}
 use Rattle.contract_storage.specs.Stored.{Stored, IsLater, IsRead}

@@ -4,7 +4,7 @@ use Rattle.budget_meter.specs.declared.kind.Kind.TheVariants.{ComputeSha256Hash,
 use Rattle.value_types.specs.Datum.{Datum, map, members_of}
 use Rattle.value_types.specs.declared.error.ScError.{ScError}
 use Rattle.ledger_types.specs.declared.entry.LedgerEntry.{LedgerEntry}
-use Rattle.module_loader.specs.Loading.{module_of}
+use Rattle.module_spec.specs.Loading.{module_of}
 use Rattle.host_spec.specs.Hosted.{entry, IsMade, IsHosted}
 use Rattle.host_spec.specs.MapRows.{Member}
 use Rattle.host_spec.specs.declared.error.HostErr.{HostErr}

@@ -9,7 +9,7 @@ ghost use Rattle.xdr_spec.specs.Format.{IsBytes};
 ghost use Rattle.value_types.specs.Hash.{hash_of};
 ghost use Rattle.ledger_types.specs.Entry.{entry_format};
 ghost use Rattle.ledger_types.specs.declared.key.LedgerKey.{LedgerKey as LedgerKeyData};
-ghost use Rattle.module_loader.specs.Loading.{module_of};
+ghost use Rattle.module_spec.specs.Loading.{module_of};
 ghost use Rattle.contract_storage.specs.Stored.{IsRead, IsLater};
 ghost use Rattle.contract_storage.specs.contracts.storage.Storage.{the_row};
 ghost use Rattle.call_spec.specs.Errors.{NO_MODULE as NO_MODULE_ERROR};

@@ -2,7 +2,7 @@
 
 ghost use Rattle.std.specs.Prelude.{◌≡◌, length, IfOk, IfErr};
 ghost use Rattle.budget_meter.specs.declared.kind.Kind.TheVariants as kinds;
-ghost use Rattle.module_loader.specs.Loading.{module_of};
+ghost use Rattle.module_spec.specs.Loading.{module_of};
 ghost use Rattle.host_spec.specs.declared.error.HostErr.TheVariants as ends;
 ghost use Rattle.contract_storage.specs.Stored.{IsRead};
 ghost use Rattle.call_spec.specs.Acts.{after, gives, paying};

@@ -17,8 +17,8 @@ use Rattle.ledger_spec.specs.Changes.{asked_life, longer as longer_by}
 use Rattle.stage_runs.specs.Maps.{set_at}
 use Rattle.stage_runs.proofs.Lemmas.{found_set, left_false}
 use Rattle.call_spec.specs.World.{AccessKind, Read, Extend, Write, Judge, Access, World, Env, Authority}
-use Rattle.wasm_machine.specs.Spending.{IsLater}
-use Rattle.wasm_machine.proofs.Lemmas.{same}
+use Rattle.wasm_spec.specs.Spending.{IsLater}
+use Rattle.wasm_spec.proofs.Lemmas.{same}
 use Rattle.host_spec.specs.Acts as values
 use Rattle.call_spec.proofs.Sums.{charged_rises}
 use Rattle.call_spec.specs.Acts.{Act, world_of, then_do, with_state, state_of, lifted, lift}

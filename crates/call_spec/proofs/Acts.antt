@@ -11,8 +11,8 @@ use Rattle.ledger_spec.specs.LedgerMap.{LedgerMap, key_bytes}
 use Rattle.ledger_spec.specs.Seen.{archived, seen_of}
 use Rattle.stage_runs.proofs.Lemmas.{right_false}
 use Rattle.budget_meter.specs.Meter.{Meter}
-use Rattle.wasm_machine.specs.Spending.{IsLater}
-use Rattle.wasm_machine.proofs.Lemmas.{later as further, same}
+use Rattle.wasm_spec.specs.Spending.{IsLater}
+use Rattle.wasm_spec.proofs.Lemmas.{later as further, same}
 use Rattle.host_spec.specs.Acts as values
 use Rattle.call_spec.proofs.Sums.{left, Rising, charged_rises}
 use Rattle.call_spec.specs.World.{AccessKind, Read, Judge, Access, Frame, World}

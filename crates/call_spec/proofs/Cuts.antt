@@ -8,10 +8,10 @@ use Rattle.wasm_spec.specs.Stores.{Store}
 use Rattle.wasm_spec.specs.Runs.{Run, Normal, Branch, Return, Trap, Spent as SpentRun, Stuck, Ask}
 use Rattle.wasm_spec.specs.Meaning.{meaning}
 use Rattle.wasm_spec.specs.Worlds.{Reply, Answers, Quits, Host, after_reply, interp}
-use Rattle.wasm_machine.specs.Spending.{IsLater}
-use Rattle.wasm_machine.proofs.Lemmas.{later, same}
-use Rattle.wasm_run.specs.Laws.{IsLaterReply, NeverLowers, QuitsLater, EndsLater}
-use Rattle.wasm_run.proofs.Lemmas.{sums_grow}
+use Rattle.wasm_spec.specs.Spending.{IsLater}
+use Rattle.wasm_spec.proofs.Lemmas.{later, same}
+use Rattle.wasm_spec.specs.Sums.{IsLaterReply, NeverLowers, QuitsLater, EndsLater}
+use Rattle.wasm_spec.proofs.Lemmas.{sums_grow}
 use Rattle.call_spec.specs.World.{World}
 use Rattle.call_spec.specs.Acts.{Out, Good, Bad, Undeclared, world_of, then_do}
 use Rattle.call_spec.specs.Frames.{HostCalls, asking, returned, runs}

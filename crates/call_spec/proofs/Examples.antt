@@ -34,7 +34,7 @@ use Rattle.host_spec.specs.Errors.{OTHER_TYPE}
 use Rattle.xdr_core.specs.Sizes.{capped}
 use Rattle.call_spec.specs.Acts.{Failed, Spent, Archived, Good, Bad, Undeclared, Act, fails}
 use Rattle.call_spec.specs.Errors.{NO_ENTRY, EXISTS, INVALID_EXTENSION, INVALID_STORAGE_INPUT, HIDDEN_ERROR, TOO_MANY_FRAMES, RESERVED_NAME, REENTERED, NO_FUNCTION, OTHER_SIZE}
-use Rattle.auth_trees.specs.Authorities.{demands_of, noted_back}
+use Rattle.auth_spec.specs.Authorities.{demands_of, noted_back}
 use Rattle.call_spec.specs.World.{Access, outside, World, Env}
 use Rattle.call_spec.specs.Accesses.{leaves, refuses, by_seen, put_kept, entry_size}
 use Rattle.call_spec.specs.Keys.{data_key, data_entry, instance_key, instance_entry, code_entry}

@@ -15,7 +15,7 @@ use Rattle.wasm_spec.specs.Runs.{Run, Normal, Branch, Return, Trap, Spent as Spe
 use Rattle.wasm_spec.specs.Meaning.{meaning}
 use Rattle.host_spec.specs.Words.{meaning as word_meaning}
 use Rattle.host_spec.specs.VecRows.{all_given}
-use Rattle.auth_trees.specs.Authorities.{demands_of, noted_back}
+use Rattle.auth_spec.specs.Authorities.{demands_of, noted_back}
 use Rattle.call_spec.specs.World.{Write, Judge, Frame, World, Authority}
 use Rattle.call_spec.specs.Acts.{Failure, Failed, Spent, Archived, Out, Good, Bad, Undeclared, Act, world_of, after, fails, lift}
 use Rattle.call_spec.specs.Accesses.{puts}
@@ -27,7 +27,7 @@ use Rattle.call_spec.specs.Laws.{Maps, writes_in, IsExtended}
 use Rattle.call_spec.proofs.Acts.{Continues, Sound, Alike, Stopped, Same, Watch, Fine, Told, Leaves, Local, extended_refl, Besides, good_local, bad_local, fails_local, after_local, with_local, frame_local, changed_local, lift_local, paying_local}
 use Rattle.call_spec.proofs.Sums.{all_given_rises}
 use Rattle.call_spec.proofs.Cuts.{whole_later}
-use Rattle.wasm_machine.specs.Spending.{IsLater}
+use Rattle.wasm_spec.specs.Spending.{IsLater}
 use Rattle.call_spec.proofs.Accesses.{free, held, Fair, access_local}
 
 -- ---- nothing is watched

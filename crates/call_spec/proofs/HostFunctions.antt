@@ -5,7 +5,7 @@ use Rattle.std.specs.Option.{option_map}
 use Rattle.ledger_types.specs.declared.header.Header.{Header}
 use Rattle.ledger_spec.specs.LedgerMap.{LedgerMap}
 use Rattle.wasm_spec.specs.declared.module.Module.{Module}
-use Rattle.module_loader.specs.Loading.{row_at}
+use Rattle.module_spec.specs.Loading.{row_at}
 use Rattle.host_interface.specs.Rows.{Row}
 use Rattle.host_interface.specs.declared.kinds.ArgKind.{ArgKind}
 use Rattle.host_interface.specs.declared.import.HostImport.{HostImport}
@@ -22,7 +22,7 @@ use Rattle.call_spec.specs.WholeRuns.{Work, calling, uploading, creating, argume
 use Rattle.call_spec.specs.Laws.{Agree, writes_in, IsExtended}
 use Rattle.call_spec.proofs.Acts.{Sound, Same, Watch, Fine, Leaves, Local, good_local, fails_local, after_local, lift_local, paying_local}
 use Rattle.call_spec.proofs.Accesses.{free, held, Fair}
-use Rattle.wasm_machine.specs.Spending.{IsLater}
+use Rattle.wasm_spec.specs.Spending.{IsLater}
 use Rattle.call_spec.proofs.Sums.{FunctionRises, function_rises}
 use Rattle.call_spec.proofs.Frames.{undoing_local, HostsLocal, framed_local, OpenersLocal}
 use Rattle.call_spec.proofs.Rows.{entering_local, RulesLocal, call_of_local, contract_event_local, frame_answer_local, fail_local, put_local, has_local, get_local, del_local, extend_local, extend_both_local, upload_local, uploads_local, update_local, id_local, calls_local, call_local, try_call_local, creates_local, creates_by_local, auth_local, auth_for_args_local}

@@ -3,7 +3,7 @@ use Rattle.std.proofs.Common.{◌≡◌, ℕ, List, [], ◌∷◌, Some, None, r
 use Rattle.std.specs.Prelude.{codes}
 use Rattle.std.specs.Str.{is_utf8, chars}
 use lib.Utf8.{encode}
-use Rattle.module_loader.specs.Loading.{loaded}
+use Rattle.module_spec.specs.Loading.{loaded}
 use Rattle.value_types.specs.Datum.{void, u32}
 use Rattle.value_types.specs.declared.address.ScAddress.TheVariants.{Contract}
 use Rattle.value_types.specs.Order.{datum_cmp}

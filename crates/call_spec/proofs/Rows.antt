@@ -31,7 +31,7 @@ use Rattle.ledger_spec.specs.Changes.{asked_life, longer}
 use Rattle.wasm_spec.specs.declared.module.Module.{Module}
 use Rattle.wasm_spec.specs.Stores.{Store}
 use Rattle.wasm_spec.specs.Instances.{Start, Missing, WrongArity, Segment, Ready, start_of, function_named}
-use Rattle.module_loader.specs.Loading.{module_of}
+use Rattle.module_spec.specs.Loading.{module_of}
 use Rattle.host_interface.specs.declared.kinds.ArgKind.{ArgKind}
 use Rattle.host_spec.specs.Arguments.{Means, argument, dispatched, tagged_words}
 use Rattle.host_spec.specs.Answers.{Answer, given, value}
@@ -45,8 +45,8 @@ use Rattle.call_spec.specs.Keys.{data_key, data_entry, instance_key, instance_en
 use Rattle.call_spec.specs.Rules.{Rule, applied, charged_then, answered, call_of, nothing, returning}
 use Rattle.call_spec.specs.Storage.{let_in, value_in, lengthens, extends, members, has, gets, deletes, by_storage, with_storage, put_in_copy, has_in_copy, found_in_copy, get_in_copy, del_in_copy, unless_backward, extending, put_contract_data, has_contract_data, get_contract_data, del_contract_data, extend_contract_data_ttl, extend_current_contract_instance_and_code_ttl}
 use Rattle.call_spec.specs.Events.{with_event, emits, update_event, contract_event, fail_with_error}
-use Rattle.auth_trees.specs.Demands.{Choice, ByNode, ByCaller, ByNothing, ByNote}
-use Rattle.auth_trees.specs.Authorities.{choice_by}
+use Rattle.auth_spec.specs.Demands.{Choice, ByNode, ByCaller, ByNothing, ByNote}
+use Rattle.auth_spec.specs.Authorities.{choice_by}
 use Rattle.auth_types.specs.declared.credentials.AddressCredentials.{AddressCredentials}
 use Rattle.auth_types.specs.declared.credentials.Credentials.{Credentials}
 use Rattle.auth_types.specs.declared.credentials.Credentials.TheVariants.{SourceAccount, Address}
@@ -62,7 +62,7 @@ use Rattle.call_spec.specs.Creating.{CONSTRUCTOR, new_instance, is_there, puts_c
 use Rattle.call_spec.specs.Laws.{IsExtended}
 use Rattle.call_spec.proofs.Acts.{Sound, Watch, Local, Besides, good_local, fails_local, after_local, where_local, if_local, with_local, frame_local, sets_local, begins_local, lift_local, paying_local}
 use Rattle.call_spec.proofs.Accesses.{free, held, IsFineAt, Puts, PutsFound, Fair, Still, Gentle, GentleUnless, access_local}
-use Rattle.wasm_machine.proofs.Lemmas.{same}
+use Rattle.wasm_spec.proofs.Lemmas.{same}
 use Rattle.call_spec.proofs.Sums.{dispatched_rises, given_rises}
 use Rattle.call_spec.proofs.Frames.{OpenersLocal, opener_local, denying_local, catching_local}
 

@@ -8,8 +8,8 @@ use Rattle.budget_meter.specs.declared.kind.Kind.{Kind}
 use Rattle.budget_meter.specs.declared.kind.Kind.TheVariants.{VisitObject, DispatchHostFunction, MemCpy, MemAlloc}
 use Rattle.budget_meter.specs.Meter.{Meter, used_after}
 use Rattle.wasm_spec.specs.Runs.{has_room}
-use Rattle.wasm_machine.specs.Spending.{IsLater}
-use Rattle.wasm_machine.proofs.Lemmas.{charged_later, later, same}
+use Rattle.wasm_spec.specs.Spending.{IsLater}
+use Rattle.wasm_spec.proofs.Lemmas.{charged_later, later, same}
 use Rattle.value_types.specs.Datum.{Datum, void, string, symbol}
 use Rattle.value_types.specs.declared.error.ScError.{ScError}
 use Rattle.value_types.specs.declared.value.ScVal.{ScVal}

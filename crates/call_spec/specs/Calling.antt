@@ -8,10 +8,10 @@ use Rattle.value_types.specs.declared.hash.Hash.{Hash}
 use Rattle.value_types.specs.declared.address.ScAddress.{ScAddress}
 use Rattle.value_types.specs.declared.address.ScAddress.TheVariants.{Contract}
 use Rattle.wasm_spec.specs.Instances.{start_of}
-use Rattle.module_loader.specs.Loading.{module_of}
+use Rattle.module_spec.specs.Loading.{module_of}
 use Rattle.host_spec.specs.Errors.{OTHER_TYPE}
 use Rattle.host_spec.specs.Answers.{Answer}
-use Rattle.auth_trees.specs.Authorities.{demands_of, noted_back}
+use Rattle.auth_spec.specs.Authorities.{demands_of, noted_back}
 use Rattle.call_spec.specs.Errors.{RESERVED_NAME, REENTERED}
 use Rattle.call_spec.specs.World.{Copied, World, Env}
 use Rattle.call_spec.specs.Acts.{Failed, Spent, Archived, Out, Good, Bad, Undeclared}

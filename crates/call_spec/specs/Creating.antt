@@ -19,7 +19,7 @@ use Rattle.invoke_types.specs.declared.function.Function.TheVariants as function
 use Rattle.ledger_spec.specs.declared.Kept.{Kept}
 use Rattle.wasm_spec.specs.declared.module.Module.{Module}
 use Rattle.wasm_spec.specs.Instances.{function_named, start_of}
-use Rattle.module_loader.specs.Loading.{module_of}
+use Rattle.module_spec.specs.Loading.{module_of}
 use Rattle.host_spec.specs.Errors.{OTHER_TYPE}
 use Rattle.host_spec.specs.Answers.{Answer}
 use Rattle.call_spec.specs.Errors.{EXISTS, OTHER_SIZE, NO_MODULE, NO_FUNCTION}

@@ -7,8 +7,8 @@ use Rattle.value_types.specs.declared.address.ScAddress.TheVariants as addresses
 use Rattle.invoke_types.specs.declared.function.Function.{Function}
 use Rattle.invoke_types.specs.declared.function.Function.TheVariants.{ContractFn}
 use Rattle.auth_types.specs.declared.auth_entry.AuthEntry.{AuthEntry}
-use Rattle.auth_trees.specs.Demands.{Choice, ByNode, ByCaller, ByNothing, ByNote, paired}
-use Rattle.auth_trees.specs.Authorities.{choice_by, noted_next}
+use Rattle.auth_spec.specs.Demands.{Choice, ByNode, ByCaller, ByNothing, ByNote, paired}
+use Rattle.auth_spec.specs.Authorities.{choice_by, noted_next}
 use Rattle.host_spec.specs.Answers.{Answer}
 use Rattle.call_spec.specs.Errors.{DENIED}
 use Rattle.call_spec.specs.World.{Frame, World, Env}

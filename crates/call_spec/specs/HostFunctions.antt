@@ -6,7 +6,7 @@ use Rattle.host_interface.specs.Rows.{Row}
 use Rattle.host_interface.specs.declared.import.HostImport.{HostImport}
 use Rattle.host_interface.specs.declared.import.HostImport.TheVariants as imports
 use Rattle.wasm_spec.specs.declared.module.Module.{Module}
-use Rattle.module_loader.specs.Loading.{row_at}
+use Rattle.module_spec.specs.Loading.{row_at}
 use Rattle.host_spec.specs.Indices.{arguments_of}
 use Rattle.host_spec.specs.Acts as values
 use Rattle.host_spec.specs.ValueFunctions.{value_function}

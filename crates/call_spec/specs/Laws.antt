@@ -14,7 +14,7 @@ use Rattle.ledger_spec.specs.declared.Kept.{Kept}
 use Rattle.ledger_spec.specs.LedgerMap.{LedgerMap, key_bytes, HasCodeHash}
 use Rattle.stage_runs.specs.Maps.{AgreeOn, has_bytes}
 use Rattle.host_interface.specs.declared.import.HostImport.{HostImport}
-use Rattle.wasm_machine.specs.Spending.{IsLater}
+use Rattle.wasm_spec.specs.Spending.{IsLater}
 use Rattle.host_spec.specs.ValueFunctions.{value_rule}
 use Rattle.call_spec.specs.World.{AccessKind, Read, Extend, Write, Judge, Access, World, Env, next_seq, Authority}
 use Rattle.call_spec.specs.Acts.{Archived, Out, Good, Bad, Undeclared, world_of}

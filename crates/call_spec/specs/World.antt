@@ -14,8 +14,8 @@ use Rattle.ledger_types.specs.declared.verdicts.Verdicts.{Verdicts}
 use Rattle.ledger_spec.specs.LedgerMap.{LedgerMap}
 use Rattle.invoke_types.specs.declared.event.ContractEvent.{ContractEvent}
 use Rattle.auth_types.specs.declared.auth_entry.AuthEntry.{AuthEntry}
-use Rattle.auth_trees.specs.Pairs.{Pair}
-use Rattle.auth_trees.specs.Noted.{Notes}
+use Rattle.auth_spec.specs.Pairs.{Pair}
+use Rattle.auth_spec.specs.Noted.{Notes}
 use Rattle.host_spec.specs.MapRows.{Member}
 
 -- ---- accesses

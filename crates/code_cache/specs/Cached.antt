@@ -4,7 +4,7 @@ use Rattle.std.specs.Ordering.{nat_cmp, is_lt}
 use Rattle.std.specs.List.Sorted.{IsSortedBy}
 use Rattle.std.specs.Cmp.Lexicographic.{slice_cmp}
 use Rattle.value_types.specs.declared.hash.Hash.{Hash}
-use Rattle.module_loader.specs.Loading.{module_of}
+use Rattle.module_spec.specs.Loading.{module_of}
 use Rattle.code_cache.specs.declared.cache.Code.{Code}
 use Rattle.code_cache.specs.declared.cache.Got.{Got}
 use Rattle.code_cache.specs.declared.cache.Got.TheVariants.{Shared, Made}

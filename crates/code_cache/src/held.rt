@@ -1,7 +1,7 @@
 //! A module that is borrowed from a cache, or owned.
 
 ghost use Rattle.std.specs.Prelude.{◌≡◌, ◌<◌, IfOk, vec_len};
-ghost use Rattle.module_loader.specs.Loading.{module_of};
+ghost use Rattle.module_spec.specs.Loading.{module_of};
 
 use crate::cache::{Cache, Got};
 use crate::loaded::Loaded;

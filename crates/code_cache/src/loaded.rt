@@ -1,7 +1,7 @@
 //! A code with the module that it encodes.
 
 ghost use Rattle.std.specs.Prelude.{◌≡◌, IfOk};
-ghost use Rattle.module_loader.specs.Loading.{module_of};
+ghost use Rattle.module_spec.specs.Loading.{module_of};
 
 use byte_list::Blob;
 use module_loader::{LinkedModule, LoadErr, load};

@@ -14,9 +14,9 @@ use Rattle.wasm_run.specs.Suspended.{EventNames}
 use Rattle.wasm_run.specs.declared.instance.Event.{Event}
 use Rattle.wasm_run.specs.declared.instance.Event.TheVariants as event
 use Rattle.host_interface.specs.Rows.{Row, host_rows}
-use Rattle.wasm_check.specs.Linking.{find_row, typed_row, import_row, matches}
+use Rattle.module_spec.specs.Linking.{find_row, typed_row, import_row, matches}
 use Rattle.wasm_check.proofs.Lemmas.{found_is}
-use Rattle.module_loader.specs.Loading.{row_at}
+use Rattle.module_spec.specs.Loading.{row_at}
 use Rattle.host_spec.specs.Indices.{arguments_of}
 
 abbrev HasKinds : Row → Type 0

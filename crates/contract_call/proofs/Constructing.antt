@@ -9,7 +9,7 @@ use Rattle.ledger_types.specs.declared.header.Header.{Header}
 use Rattle.invoke_types.specs.ContractId.{contract_id_payload, contract_id_of}
 use Rattle.wasm_spec.specs.declared.module.Module.{Module}
 use Rattle.wasm_spec.specs.Instances.{function_named}
-use Rattle.module_loader.specs.Loading.{module_of}
+use Rattle.module_spec.specs.Loading.{module_of}
 use Rattle.host_spec.specs.Acts.{charged}
 use Rattle.host_spec.specs.Errors.{OTHER_TYPE}
 use Rattle.host_spec.specs.declared.error.HostErr.{HostErr}

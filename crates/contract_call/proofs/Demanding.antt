@@ -8,10 +8,10 @@ use Rattle.value_types.specs.declared.value.ScVal.{ScVal}
 use Rattle.value_types.specs.declared.address.ScAddress.{ScAddress}
 use Rattle.invoke_types.specs.declared.function.Function.{Function}
 use Rattle.auth_types.specs.declared.auth_entry.AuthEntry.{AuthEntry}
-use Rattle.auth_trees.specs.declared.demand.Demand.{Demand}
-use Rattle.auth_trees.specs.declared.demand.Demand.TheVariants as demands
-use Rattle.auth_trees.specs.Demands.{Marked, Choice, ByNode, ByCaller, ByNothing, ByNote, answer}
-use Rattle.auth_trees.specs.Authorities.{Authorised, choice_by, chooses, after_choice, IsDemanded}
+use Rattle.auth_spec.specs.declared.demand.Demand.{Demand}
+use Rattle.auth_spec.specs.declared.demand.Demand.TheVariants as demands
+use Rattle.auth_spec.specs.Demands.{Marked, Choice, ByNode, ByCaller, ByNothing, ByNote, answer}
+use Rattle.auth_spec.specs.Authorities.{Authorised, choice_by, chooses, after_choice, IsDemanded}
 use Rattle.auth_trees.proofs.Lemmas.{later_demanded}
 use Rattle.host_spec.specs.declared.error.HostErr.{HostErr}
 use Rattle.host_spec.specs.declared.error.HostErr.TheVariants as ends

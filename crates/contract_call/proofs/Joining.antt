@@ -1,7 +1,7 @@
 -- Acts one after another, as calls of the program do them.
 use Rattle.std.proofs.Common.{◌≡◌, List, [], Option, Result, Ok, Err, sym, ap, ◌∙◌, subst}
 use Rattle.budget_meter.specs.Meter.{Meter}
-use Rattle.auth_trees.specs.Noted.{Notes}
+use Rattle.auth_spec.specs.Noted.{Notes}
 use Rattle.host_spec.specs.declared.error.HostErr.{HostErr}
 use Rattle.host_spec.specs.declared.error.HostErr.TheVariants as ends
 use Rattle.call_spec.specs.World.{AccessKind, Access, World}

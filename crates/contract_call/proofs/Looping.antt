@@ -15,8 +15,8 @@ use Rattle.wasm_run.specs.Traps as traps
 use Rattle.wasm_run.specs.declared.instance.Event.{Event}
 use Rattle.wasm_run.specs.declared.instance.Event.TheVariants as event
 use Rattle.host_interface.specs.Rows.{Row}
-use Rattle.module_loader.specs.Loading.{row_at}
-use Rattle.auth_trees.specs.Noted.{Notes}
+use Rattle.module_spec.specs.Loading.{row_at}
+use Rattle.auth_spec.specs.Noted.{Notes}
 use Rattle.host_spec.specs.declared.error.HostErr.{HostErr}
 use Rattle.host_spec.specs.declared.error.HostErr.TheVariants as ends
 use Rattle.call_spec.specs.World.{Access, World, Env}
@@ -30,7 +30,7 @@ use Rattle.contract_call.specs.Worlds.{authority_of, world_in, ending, leaving_b
 use Rattle.contract_storage.proofs.Lemmas.{again}
 use Rattle.contract_call.specs.Worlds.{MayRun}
 use Rattle.contract_call.specs.Running.{DoesOver, StaysIn}
-use Rattle.auth_trees.specs.Authorities.{Authorised, IsLaterState}
+use Rattle.auth_spec.specs.Authorities.{Authorised, IsLaterState}
 use Rattle.auth_trees.proofs.Lemmas.{later_self, later_twice}
 use Rattle.contract_call.specs.declared.host.Host.{Host}
 use Rattle.contract_call.specs.declared.place.Place.{Place}

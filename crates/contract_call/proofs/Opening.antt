@@ -16,7 +16,7 @@ use Rattle.object_store.specs.Shown.{shown_of}
 use Rattle.host_spec.specs.declared.error.HostErr.{HostErr}
 use Rattle.host_spec.specs.declared.error.HostErr.TheVariants as ends
 use Rattle.contract_storage.specs.Stored.{Stored, IsLater}
-use Rattle.auth_trees.specs.Authorities.{Authorised, IsLaterState}
+use Rattle.auth_spec.specs.Authorities.{Authorised, IsLaterState}
 use Rattle.auth_trees.proofs.Lemmas.{later_self}
 use Rattle.call_spec.specs.World.{AccessKind, Access, Frame, World, Env}
 use Rattle.call_spec.specs.Acts.{Act, Failure, Failed, Spent, Archived, Out, Good, Bad, Undeclared, after, world_of}

@@ -12,10 +12,10 @@ use Rattle.wasm_spec.specs.Runs.{Run, Normal, Branch, Return, Trap, Spent, Stuck
 use Rattle.wasm_spec.specs.Typing.{◌>>=◌}
 use Rattle.wasm_spec.specs.Meaning.{meaning}
 use Rattle.wasm_spec.proofs.Lemmas.{CallGood, HasTypes, begins, meaning_good}
-use Rattle.wasm_check.specs.Linking.{ImportLinked, Linked, import_row}
+use Rattle.module_spec.specs.Linking.{ImportLinked, Linked, import_row}
 use Rattle.wasm_check.proofs.Lemmas.{same_import}
-use Rattle.module_loader.specs.Loading.{IsModule, accepted, loaded}
-use Rattle.module_loader.specs.declared.error.Flaw.{Flaw}
+use Rattle.module_spec.specs.Loading.{IsModule, accepted, loaded}
+use Rattle.module_spec.specs.declared.flaw.Flaw.{Flaw}
 use Rattle.module_loader.proofs.Lemmas.{exact}
 use Rattle.contract_call.specs.Possible.{IsPossible, IsWord, PossibleLaw}
 

@@ -16,7 +16,7 @@ use Rattle.host_frame.specs.Answered.{answer_of}
 use Rattle.host_frame.specs.declared.answer.Answer.{Answer as Answer'}
 use Rattle.std.specs.Prelude.{All}
 use Rattle.auth_types.specs.AuthEntry.{auth_entry_format}
-use Rattle.auth_trees.specs.Authorities.{Authorised}
+use Rattle.auth_spec.specs.Authorities.{Authorised}
 use Rattle.auth_trees.proofs.Lemmas.{later_twice}
 use Rattle.call_spec.specs.World.{Access, World, Env, next_seq}
 use Rattle.call_spec.specs.Acts.{Act, Good, after, gives, lift}

@@ -4,7 +4,7 @@ use Rattle.std.specs.Prelude.{Vec}
 use Rattle.std.specs.declared.alloc.Global.{Global}
 use Rattle.budget_meter.specs.Meter.{Meter}
 use Rattle.object_store.specs.Shown.{shown_of}
-use Rattle.auth_trees.specs.Noted.{Notes}
+use Rattle.auth_spec.specs.Noted.{Notes}
 use Rattle.host_spec.specs.declared.error.HostErr.{HostErr}
 use Rattle.host_spec.specs.declared.error.HostErr.TheVariants as ends
 use Rattle.call_spec.specs.World.{Access, World}

@@ -8,7 +8,7 @@ use Rattle.value_types.specs.declared.hash.Hash.{Hash}
 use Rattle.value_types.specs.declared.address.ScAddress.{ScAddress}
 use Rattle.value_types.specs.declared.address.ScAddress.TheVariants as addresses
 use Rattle.wasm_spec.specs.declared.module.Module.{Module}
-use Rattle.module_loader.specs.Loading.{module_of}
+use Rattle.module_spec.specs.Loading.{module_of}
 use Rattle.host_spec.specs.Acts.{charged}
 use Rattle.call_spec.specs.Errors.{RESERVED_NAME, REENTERED}
 use Rattle.call_spec.specs.World.{Copied, World, Env}

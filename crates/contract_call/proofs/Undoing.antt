@@ -27,9 +27,9 @@ use Rattle.call_spec.specs.Outcomes.{Says, trace_of}
 use Rattle.host_ledger.specs.Traced.{Tells}
 use Rattle.contract_call.specs.Worlds.{world_around, leaving_by, DoesAround, Stays}
 use Rattle.contract_call.specs.Undone.{IsMark, IsWithin, IsBack, Undoes, Catches}
-use Rattle.auth_trees.specs.Pairs.{Pair}
-use Rattle.auth_trees.specs.Authorities.{Authorised, point_of, demands_of, noted_back, undone_to, IsLaterState}
-use Rattle.auth_trees.specs.declared.authority.Point.{Point}
+use Rattle.auth_spec.specs.Pairs.{Pair}
+use Rattle.auth_spec.specs.Authorities.{Authorised, point_of, demands_of, noted_back, undone_to, IsLaterState}
+use Rattle.auth_spec.specs.declared.point.Point.{Point}
 use Rattle.auth_trees.proofs.Lemmas.{goes_back_to, later_back}
 use Rattle.contract_call.specs.declared.host.Host.{Host}
 use Rattle.contract_call.specs.declared.place.Place.{Place}

@@ -9,8 +9,8 @@ use Rattle.value_types.specs.declared.address.ScAddress.TheVariants as addresses
 use Rattle.invoke_types.specs.declared.function.Function.{Function}
 use Rattle.invoke_types.specs.declared.function.Function.TheVariants.{ContractFn}
 use Rattle.auth_types.specs.declared.auth_entry.AuthEntry.{AuthEntry}
-use Rattle.auth_trees.specs.declared.demand.Demand.{Demand}
-use Rattle.auth_trees.specs.declared.demand.Demand.TheVariants.{Matched, ByInvoker, Denied, Noted, NoMemory}
+use Rattle.auth_spec.specs.declared.demand.Demand.{Demand}
+use Rattle.auth_spec.specs.declared.demand.Demand.TheVariants.{Matched, ByInvoker, Denied, Noted, NoMemory}
 use Rattle.host_spec.specs.Answers.{Answer}
 use Rattle.host_spec.specs.declared.error.HostErr.{HostErr}
 use Rattle.host_spec.specs.declared.error.HostErr.TheVariants as ends

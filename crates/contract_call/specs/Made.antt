@@ -9,7 +9,7 @@ use Rattle.value_types.specs.declared.address.ScAddress.{ScAddress}
 use Rattle.value_types.specs.declared.value.ScVal.{ScVal}
 use Rattle.wasm_spec.specs.declared.module.Module.{Module}
 use Rattle.wasm_spec.specs.Instances.{function_named}
-use Rattle.module_loader.specs.Loading.{module_of}
+use Rattle.module_spec.specs.Loading.{module_of}
 use Rattle.host_spec.specs.Answers.{value}
 use Rattle.host_spec.specs.Errors.{OTHER_TYPE}
 use Rattle.host_spec.specs.declared.error.HostErr.{HostErr}

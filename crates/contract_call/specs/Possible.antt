@@ -9,7 +9,7 @@ use Rattle.wasm_spec.specs.Stores.{Store}
 use Rattle.wasm_spec.specs.Instances.{Ready, start_of}
 use Rattle.wasm_spec.specs.Runs.{Run, Normal, Branch, Return, Trap, Spent, Stuck, Ask}
 use Rattle.wasm_spec.specs.Meaning.{meaning}
-use Rattle.module_loader.specs.Loading.{module_of, row_at}
+use Rattle.module_spec.specs.Loading.{module_of, row_at}
 
 -- one word of 64 bits
 abbrev pub IsWord : List Value → Type 0

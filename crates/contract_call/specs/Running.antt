@@ -2,7 +2,7 @@
 use Rattle.std.specs.Prelude.{◌≡◌, ℕ, [], List, length, Result}
 use Rattle.std.specs.Option.{option_map}
 use Rattle.value_types.specs.Datum.{Datum}
-use Rattle.auth_trees.specs.Authorities.{IsLaterState}
+use Rattle.auth_spec.specs.Authorities.{IsLaterState}
 use Rattle.wasm_spec.specs.declared.module.Module.{Module}
 use Rattle.wasm_spec.specs.Stores.{Store}
 use Rattle.wasm_run.specs.Suspended.{Suspended, IsFresh}

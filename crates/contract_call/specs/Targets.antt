@@ -8,7 +8,7 @@ use Rattle.value_types.specs.declared.hash.Hash.{Hash}
 use Rattle.value_types.specs.declared.address.ScAddress.{ScAddress}
 use Rattle.wasm_spec.specs.declared.module.Module.{Module}
 use Rattle.wasm_spec.specs.Instances.{start_of}
-use Rattle.module_loader.specs.Loading.{module_of}
+use Rattle.module_spec.specs.Loading.{module_of}
 use Rattle.call_spec.specs.Errors.{RESERVED_NAME, REENTERED}
 use Rattle.call_spec.specs.World.{Copied, Env}
 use Rattle.call_spec.specs.Acts.{Act, after, gives, only_where, with_world, paying}

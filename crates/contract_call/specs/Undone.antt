@@ -3,7 +3,7 @@ use Rattle.std.specs.Prelude.{◌≡◌, ◌≤◌, length, take, Result, Ok, Er
 use Rattle.value_types.specs.declared.value.ScVal.{ScVal}
 use Rattle.value_types.specs.declared.value.ScVal.TheVariants as values
 use Rattle.contract_storage.specs.Stored.{IsRestored}
-use Rattle.auth_trees.specs.Authorities.{point_of, undone_to}
+use Rattle.auth_spec.specs.Authorities.{point_of, undone_to}
 use Rattle.host_spec.specs.declared.error.HostErr.{HostErr}
 use Rattle.host_spec.specs.declared.error.HostErr.TheVariants as ends
 use Rattle.call_spec.specs.Frames.{passed_on}

@@ -4,7 +4,7 @@ use Rattle.value_types.specs.Datum.{Datum}
 use Rattle.value_types.specs.Views.{datums}
 use Rattle.value_types.specs.declared.hash.Hash.{Hash}
 use Rattle.auth_types.specs.AuthEntry.{auth_entry_format}
-use Rattle.auth_trees.specs.Authorities.{IsLaterState}
+use Rattle.auth_spec.specs.Authorities.{IsLaterState}
 use Rattle.host_spec.specs.declared.error.HostErr.{HostErr}
 use Rattle.contract_storage.specs.Stored.{IsLater}
 use Rattle.call_spec.specs.World.{Access, Frame, World, Authority, Env}

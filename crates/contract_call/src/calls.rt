@@ -56,7 +56,8 @@ use crate::words::{
 };
 use crate::works::NewContract;
 use auth_parts::Asked;
-use auth_trees::{Authority, Demand};
+use auth_spec::Demand;
+use auth_trees::Authority;
 use call_parts::{clone_copy, start_instance};
 use contract_storage::Watch;
 use entry_lookup::Ground;

@@ -4,7 +4,8 @@ ghost use Rattle.std.specs.Prelude.{◌≡◌};
 
 use crate::host::Host;
 use crate::targets::ContractCall;
-use auth_trees::{Authority, Demand};
+use auth_spec::Demand;
+use auth_trees::Authority;
 use contract_storage::{End, Met, Moment, Watch};
 use entry_lookup::Ground;
 use host_spec::HostErr;

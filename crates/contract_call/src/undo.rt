@@ -15,7 +15,8 @@ ghost use Rattle.host_ledger.specs.Spelled.{IsKeySpelled};
 
 use crate::errors::HIDDEN_ERROR;
 use crate::host::Host;
-use auth_trees::{Authority, Point as MarksPoint};
+use auth_spec::Point as MarksPoint;
+use auth_trees::Authority;
 use contract_storage::{Point, Watch};
 use entry_lookup::Ground;
 use host_spec::HostErr;

@@ -1,2 +1,3 @@
+mod Items
 pub mod Lemmas
 mod Twice

@@ -7,12 +7,13 @@ use Rattle.wasm_spec.specs.declared.module.Module.{Module}
 use Rattle.wasm_read.specs.Reading.{module_at}
 use Rattle.wasm_read.proofs.Lemmas.{module_again, module_takes}
 use Rattle.host_interface.specs.Rows.{host_rows}
-use Rattle.wasm_check.specs.Linking.{ImportLinked, import_ok}
-use Rattle.wasm_check.specs.Outside.{exports_differ, rules_ok}
+use Rattle.module_spec.specs.Linking.{ImportLinked, import_ok}
+use Rattle.module_spec.specs.Outside.{exports_differ, rules_ok}
 use Rattle.wasm_check.proofs.Lemmas.{and_true, both_true, outside_back, outside_on, same_import}
-use Rattle.module_loader.specs.Loading.{IsExact, ModuleOfIsExact, IsLoaded, IsLoadedUnlessMemory, Gives, IsModuleOf, accepted, by_function, by_import, first_failing, function_ok, judged, judged_if, loaded, module_of}
-use Rattle.module_loader.specs.declared.error.Flaw.{Flaw}
-use Rattle.module_loader.specs.declared.error.Flaw.TheVariants.{NotAModule, Ill, Unlinked}
+use Rattle.module_loader.specs.Results.{IsExact, ModuleOfIsExact, IsLoadedUnlessMemory, Gives, IsModuleOf}
+use Rattle.module_spec.specs.Loading.{IsLoaded, accepted, by_function, by_import, first_failing, function_ok, judged, judged_if, loaded, module_of}
+use Rattle.module_spec.specs.declared.flaw.Flaw.{Flaw}
+use Rattle.module_spec.specs.declared.flaw.Flaw.TheVariants.{NotAModule, Ill, Unlinked}
 use Rattle.module_loader.specs.declared.error.LoadErr.{LoadErr}
 use Rattle.module_loader.specs.declared.error.LoadErr.TheVariants.{Flawed, NoMemory}
 use Rattle.module_loader.proofs.Failing.{all_pass, false_unless, first_fails, found_failing, none_fails}

@@ -7,10 +7,10 @@ use Rattle.wasm_spec.specs.declared.module.Function.{Function}
 use Rattle.wasm_spec.specs.declared.module.Module.{Module}
 use Rattle.wasm_spec.specs.Binary.{locals_count}
 use Rattle.wasm_spec.specs.Typing.{FunctionTyped, MOST_LOCALS, body_context, result_of}
-use Rattle.wasm_check.specs.Check.{Shape, body_check}
+use Rattle.module_spec.specs.Check.{Shape, body_check}
 use Rattle.wasm_check.specs.declared.error.Fault.TheVariants.{Ill}
 use Rattle.wasm_check.proofs.Lemmas.{Same, and_true, both_true, checked_typed, judged, many_locals, no_type}
-use Rattle.module_loader.specs.Loading.{function_ok, has_type}
+use Rattle.module_spec.specs.Loading.{function_ok, has_type}
 use Rattle.module_loader.proofs.Failing.{true_unless}
 
 some_back : (o : Option Shape) → is_some o ≡ true → (s : Shape) × (o ≡ Some s)

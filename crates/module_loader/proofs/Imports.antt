@@ -8,7 +8,7 @@ use Rattle.wasm_spec.specs.declared.module.Import.{Import}
 use Rattle.wasm_spec.specs.declared.module.Module.{Module}
 use Rattle.wasm_spec.specs.Typing.{◌>>=◌}
 use Rattle.host_interface.specs.Rows.{Row, host_rows}
-use Rattle.wasm_check.specs.Linking.{ImportLinked, IsFirstUnlinked, import_row}
+use Rattle.module_spec.specs.Linking.{ImportLinked, IsFirstUnlinked, import_row}
 use Rattle.wasm_check.proofs.Lemmas.{same_import}
 
 -- the row of an index, from the rows in their order

@@ -1,6 +1,6 @@
 //! Laws of loading. Each law is the contract of a function with an empty body.
 
-ghost use Rattle.module_loader.specs.Loading.{IsExact, ModuleOfIsExact};
+ghost use Rattle.module_loader.specs.Results.{IsExact, ModuleOfIsExact};
 
 /// The defined result of loading is exactly the one that the standard's relations allow.
 pub fn loaded_is_exact()

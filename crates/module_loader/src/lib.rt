@@ -6,7 +6,7 @@ mod laws;
 mod linked;
 mod loading;
 
-pub use error::{Flaw, LoadErr};
+pub use error::LoadErr;
 pub use laws::{loaded_is_exact, module_of_is_exact};
 pub use linked::LinkedModule;
 pub use loading::{link, load};

@@ -2,9 +2,9 @@
 
 ghost use Rattle.std.specs.Prelude.{◌≡◌, ◌<◌, length, Some, option_map};
 ghost use Rattle.host_interface.specs.Rows.{host_rows, row_of};
-ghost use Rattle.wasm_check.specs.Linking.{Linked};
+ghost use Rattle.module_spec.specs.Linking.{Linked};
 ghost use Rattle.wasm_spec.specs.Typing.{Typed};
-ghost use Rattle.module_loader.specs.Loading.{row_at};
+ghost use Rattle.module_spec.specs.Loading.{row_at};
 
 use host_interface::TableRow;
 use std::marker::Model;
@@ -26,10 +26,10 @@ impl Model for LinkedModule {
 
     ghost coded = { modules.the_row.coded };
 
-    ghost use Rattle.wasm_check.specs.Linking.{Linked};
+    ghost use Rattle.module_spec.specs.Linking.{Linked};
     ghost use Rattle.wasm_spec.specs.Typing.{Typed};
     ghost use Rattle.host_interface.specs.Rows.{host_rows, rows_of};
-    ghost use Rattle.module_loader.specs.Loading.{HasRows};
+    ghost use Rattle.module_loader.specs.Results.{HasRows};
 
     ghost view = { λ m. m.valid };
 

@@ -4,15 +4,17 @@ ghost use Rattle.std.specs.Prelude.{◌≡◌, ◌<◌, ◌^◌, length, IfOk, I
 ghost use Rattle.wasm_spec.specs.Binary.{ModuleBytes};
 ghost use Rattle.wasm_spec.specs.Typing.{Typed};
 ghost use Rattle.host_interface.specs.Rows.{host_rows, rows_of};
-ghost use Rattle.wasm_check.specs.Linking.{Linked};
-ghost use Rattle.module_loader.specs.declared.error.Flaw.TheVariants.{Unlinked};
+ghost use Rattle.module_spec.specs.Linking.{Linked};
+ghost use Rattle.module_spec.specs.declared.flaw.Flaw.TheVariants.{Unlinked};
 ghost use Rattle.module_loader.specs.declared.error.LoadErr.TheVariants.{Flawed};
-ghost use Rattle.module_loader.specs.Loading.{HasRows, IsLoadedUnlessMemory, IsModuleOf, ReportsFlaw, ReportsIll};
-ghost use Rattle.module_loader.specs.Loading.{ReportsUnlinked, Gives, loaded, module_of};
+ghost use Rattle.module_loader.specs.Results.{HasRows, IsLoadedUnlessMemory, IsModuleOf, ReportsFlaw, ReportsIll};
+ghost use Rattle.module_loader.specs.Results.{ReportsUnlinked, Gives};
+ghost use Rattle.module_spec.specs.Loading.{loaded, module_of};
 
-use crate::error::{Flaw, LoadErr};
+use crate::error::LoadErr;
 use crate::linked::LinkedModule;
 use host_interface::TableRow;
+use module_spec::Flaw;
 use std::alloc::Global;
 use wasm_check::{CheckErr, ValidModule, check, host_row};
 use wasm_read::{ReadModErr, read_module};

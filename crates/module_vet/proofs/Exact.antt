@@ -1,8 +1,8 @@
 -- The defined verdict is exactly the true one.
 use Rattle.std.proofs.Common.{◌≡◌, ℕ, List, Result, Ok, Err, refl, sym, ap, ◌∙◌, subst}
 use Rattle.wasm_spec.specs.declared.module.Module.{Module}
-use Rattle.module_loader.specs.Loading.{loaded}
-use Rattle.module_loader.specs.declared.error.Flaw.{Flaw}
+use Rattle.module_spec.specs.Loading.{loaded}
+use Rattle.module_spec.specs.declared.flaw.Flaw.{Flaw}
 use Rattle.module_loader.specs.declared.error.LoadErr.{LoadErr}
 use Rattle.module_loader.specs.declared.error.LoadErr.TheVariants.{Flawed, NoMemory}
 use Rattle.module_loader.proofs.Lemmas.{exact as loaded_exact}

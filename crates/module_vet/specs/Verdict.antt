@@ -2,8 +2,8 @@
 use Rattle.std.specs.Prelude.{◌≡◌, ◌↔◌, ℕ, List, [], ◌∷◌, length, Result, Ok, Err, ⊤}
 use Rattle.wasm_spec.specs.declared.module.Module.{Module}
 use Rattle.wasm_spec.specs.declared.types.ResizableLimits.{ResizableLimits}
-use Rattle.module_loader.specs.Loading.{IsLoaded, IsModule, loaded}
-use Rattle.module_loader.specs.declared.error.Flaw.{Flaw}
+use Rattle.module_spec.specs.Loading.{IsLoaded, IsModule, loaded}
+use Rattle.module_spec.specs.declared.flaw.Flaw.{Flaw}
 use Rattle.module_loader.specs.declared.error.LoadErr.{LoadErr}
 use Rattle.module_loader.specs.declared.error.LoadErr.TheVariants.{Flawed, NoMemory}
 use Rattle.module_vet.specs.declared.Sizes.{Sizes}

@@ -5,8 +5,9 @@ ghost use Rattle.std.specs.Prelude.{◌≡◌, IfOk};
 ghost use Rattle.module_vet.specs.Line.{valid_line};
 ghost use Rattle.module_vet.specs.Verdict.{GivesVerdict, IsExact, IsVerdictUnlessMemory, least_pages, sizes_of, verdict_of};
 
+pub use module_loader::LoadErr as VetErr;
 use module_loader::load;
-pub use module_loader::{Flaw, LoadErr as VetErr};
+pub use module_spec::Flaw;
 use std::alloc::{AllocError, Global};
 use text_lines::push_number;
 use wasm_spec::{Module, ResizableLimits};

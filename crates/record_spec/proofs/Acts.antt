@@ -4,8 +4,8 @@ use Rattle.std.specs.Prelude.{if◌then◌else◌}
 use Rattle.budget_meter.specs.Meter.{Meter}
 use Rattle.budget_meter.specs.declared.kind.Kind.{Kind}
 use Rattle.value_types.specs.declared.error.ScError.{ScError}
-use Rattle.auth_trees.specs.Noted.{Notes}
-use Rattle.auth_trees.specs.Authorities.{demands_of}
+use Rattle.auth_spec.specs.Noted.{Notes}
+use Rattle.auth_spec.specs.Authorities.{demands_of}
 use Rattle.host_spec.specs.Acts as values
 use Rattle.call_spec.specs.World.{Frame, World}
 use Rattle.call_spec.specs.Acts.{Failure, Failed, Spent, Archived, Out, Good, Bad, Undeclared, Act, world_of, then_do, after, gives, fails, only_where, with_world, with_frame, sets, state_of, with_state, lifted, lift, paying, begins}

@@ -14,7 +14,7 @@ use Rattle.ledger_types.specs.declared.verdicts.Verdicts.{Verdicts}
 use Rattle.ledger_spec.specs.LedgerMap.{LedgerMap}
 use Rattle.auth_types.specs.AuthEntry.{auth_entry_format}
 use Rattle.auth_types.specs.declared.auth_entry.AuthEntry.{AuthEntry}
-use Rattle.auth_trees.specs.Noted.{Notes}
+use Rattle.auth_spec.specs.Noted.{Notes}
 use Rattle.call_spec.specs.World.{World}
 use Rattle.call_spec.specs.Acts.{Failed, Spent, Archived, Out, Good, Bad, Undeclared, world_of}
 use Rattle.call_spec.specs.HostFunctions.{MOST_FRAMES, opener_of}

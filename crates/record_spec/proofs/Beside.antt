@@ -11,8 +11,8 @@ use Rattle.ledger_types.specs.declared.verdicts.Verdicts.{Verdicts}
 use Rattle.ledger_spec.specs.LedgerMap.{LedgerMap}
 use Rattle.auth_types.specs.AuthEntry.{auth_entry_format}
 use Rattle.auth_types.specs.declared.auth_entry.AuthEntry.{AuthEntry}
-use Rattle.auth_trees.specs.Noted.{Note, Notes, pairs_in, roots_in}
-use Rattle.auth_trees.specs.Authorities.{demands_of}
+use Rattle.auth_spec.specs.Noted.{Note, Notes, pairs_in, roots_in}
+use Rattle.auth_spec.specs.Authorities.{demands_of}
 use Rattle.call_spec.specs.World.{World, Env}
 use Rattle.call_spec.specs.Acts.{Failed, Spent, Archived, Out, Good, Bad, Undeclared, Act, world_of}
 use Rattle.call_spec.specs.WholeRuns.{all_allowed}

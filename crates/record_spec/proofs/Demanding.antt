@@ -5,9 +5,9 @@ use Rattle.std.proofs.lemmas.List.{append-nil, map-append}
 use Rattle.value_types.specs.declared.address.ScAddress.{ScAddress}
 use Rattle.value_types.specs.declared.address.ScAddress.TheVariants as addresses
 use Rattle.invoke_types.specs.declared.function.Function.{Function}
-use Rattle.auth_trees.specs.Demands.{Marked, Choice, ByNode, ByCaller, ByNothing, ByNote, creates_asset, may_authorise, is_caller, chosen, choice_of, choice, paired}
-use Rattle.auth_trees.specs.Noted.{Note, Notes, MOST_LEVELS, pairs_in, roots_in, new_place, is_account, noting, with_note}
-use Rattle.auth_trees.specs.Authorities.{choice_by, noted_next, demands_of}
+use Rattle.auth_spec.specs.Demands.{Marked, Choice, ByNode, ByCaller, ByNothing, ByNote, creates_asset, may_authorise, is_caller, chosen, choice_of, choice, paired}
+use Rattle.auth_spec.specs.Noted.{Note, Notes, MOST_LEVELS, pairs_in, roots_in, new_place, is_account, noting, with_note}
+use Rattle.auth_spec.specs.Authorities.{choice_by, noted_next, demands_of}
 use Rattle.call_spec.specs.World.{World}
 use Rattle.call_spec.specs.Acts.{Failed, Spent, Archived, Out, Good, Bad, Undeclared, world_of}
 use Rattle.call_spec.specs.Demands.{with_choice, proves_root, owes, met, demanded}

@@ -11,8 +11,8 @@ use Rattle.wasm_spec.specs.Runs.{Run}
 use Rattle.wasm_spec.specs.Meaning.{meaning}
 use Rattle.host_spec.specs.Words.{meaning as word_meaning}
 use Rattle.host_spec.specs.VecRows.{all_given}
-use Rattle.auth_trees.specs.Noted.{Note, Notes, pairs_in, roots_in, one_more}
-use Rattle.auth_trees.specs.Authorities.{demands_of, noted_back}
+use Rattle.auth_spec.specs.Noted.{Note, Notes, pairs_in, roots_in, one_more}
+use Rattle.auth_spec.specs.Authorities.{demands_of, noted_back}
 use Rattle.call_spec.specs.World.{Write, Frame, World, next_seq}
 use Rattle.call_spec.specs.Acts.{Failure, Failed, Spent, Archived, Out, Good, Bad, Undeclared, Act, world_of, after, lift}
 use Rattle.call_spec.specs.Accesses.{puts}

@@ -13,11 +13,11 @@ use Rattle.std.proofs.lemmas.List.Sums.{length-filter}
 use Rattle.std.proofs.lemmas.Slice.Eq.{bytes_eq-Decides}
 use Rattle.value_types.specs.declared.address.ScAddress.{ScAddress}
 use Rattle.invoke_types.specs.declared.function.Function.{Function}
-use Rattle.auth_trees.specs.Pairs.{Pair, is_below, deeper, deepest}
-use Rattle.auth_trees.specs.Demands.{same_address, creates_asset, is_caller, is_root, ByNote, ByCaller, ByNothing}
-use Rattle.auth_trees.specs.Noted.{Note, MOST_LEVELS, pairs_in, roots_in, is_child, last_child, below_noted, new_place, noted_at}
-use Rattle.auth_trees.specs.Noted.{noting, is_account, with_note}
-use Rattle.auth_trees.proofs.Lemmas.{get_left, get_right}
+use Rattle.auth_spec.specs.Pairs.{Pair, is_below, deeper, deepest}
+use Rattle.auth_spec.specs.Demands.{same_address, creates_asset, is_caller, is_root, ByNote, ByCaller, ByNothing}
+use Rattle.auth_spec.specs.Noted.{Note, MOST_LEVELS, pairs_in, roots_in, is_child, last_child, below_noted, new_place, noted_at}
+use Rattle.auth_spec.specs.Noted.{noting, is_account, with_note}
+use Rattle.list_laws.proofs.Lemmas.{get_left, get_right}
 use Rattle.record_spec.proofs.Lists.{split_at, mapped, filter_here, kept_at, First, fails, finds, search_first}
 use Rattle.record_spec.proofs.Lists.{first_is, nothing_first}
 

@@ -2,7 +2,7 @@
 use Rattle.std.proofs.Common.{ℕ, zero, suc, List, Option, Some, None}
 use Rattle.std.specs.Option.{option_map}
 use Rattle.wasm_spec.specs.declared.module.Module.{Module}
-use Rattle.module_loader.specs.Loading.{row_at}
+use Rattle.module_spec.specs.Loading.{row_at}
 use Rattle.host_interface.specs.Rows.{Row}
 use Rattle.host_interface.specs.declared.kinds.ArgKind.{ArgKind}
 use Rattle.host_interface.specs.declared.import.HostImport.{HostImport}

@@ -6,8 +6,8 @@ use Rattle.std.specs.Option.{option_or}
 use Rattle.std.proofs.lemmas.Bool.{cond_both, or_cases}
 use Rattle.std.proofs.lemmas.Option.{same_Some, slice_get-map}
 use Rattle.std.proofs.lemmas.List.Elements.{All-filter, All-from_recursion, filter-append, recursion_from_All}
-use Rattle.auth_trees.specs.Demands.{first_from}
-use Rattle.auth_trees.proofs.Lemmas.{get_right}
+use Rattle.auth_spec.specs.Demands.{first_from}
+use Rattle.list_laws.proofs.Lemmas.{get_right}
 
 -- ---- an item by its index
 

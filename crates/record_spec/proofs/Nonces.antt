@@ -46,8 +46,8 @@ use Rattle.auth_types.specs.declared.invocation.Invocation.{Invocation}
 use Rattle.auth_types.specs.declared.credentials.AddressCredentials.{AddressCredentials}
 use Rattle.auth_types.specs.declared.credentials.Credentials.{Credentials}
 use Rattle.auth_types.specs.declared.credentials.Credentials.TheVariants.{SourceAccount, Address}
-use Rattle.auth_trees.specs.Demands.{same_address, is_root}
-use Rattle.auth_trees.specs.Noted.{Note, roots_in, is_account}
+use Rattle.auth_spec.specs.Demands.{same_address, is_root}
+use Rattle.auth_spec.specs.Noted.{Note, roots_in, is_account}
 use Rattle.host_spec.specs.Acts.{charged, charged_if}
 use Rattle.call_spec.specs.Errors.{DENIED, EXPIRED}
 use Rattle.call_spec.specs.World.{World, Env, Write, next_seq}

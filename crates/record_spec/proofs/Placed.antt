@@ -13,10 +13,10 @@ use Rattle.auth_types.specs.Tree.{Tree, node, trees_of}
 use Rattle.auth_types.specs.Views.{tree_of as viewed, invocation_of}
 use Rattle.auth_types.specs.declared.credentials.Credentials.TheVariants.{SourceAccount}
 use Rattle.auth_types.specs.declared.auth_entry.AuthEntry.{AuthEntry}
-use Rattle.auth_trees.specs.Demands.{same_address, function_of, children, node_at, creates_asset, has_asset, have_asset, signer}
-use Rattle.auth_trees.specs.Demands.{authorises}
-use Rattle.auth_trees.specs.Noted.{Note, MOST_LEVELS, roots_in, is_child, is_account}
-use Rattle.auth_trees.proofs.Lemmas.{all_push, all_same}
+use Rattle.auth_spec.specs.Demands.{same_address, function_of, children, node_at, creates_asset, has_asset, have_asset, signer}
+use Rattle.auth_spec.specs.Demands.{authorises}
+use Rattle.auth_spec.specs.Noted.{Note, MOST_LEVELS, roots_in, is_child, is_account}
+use Rattle.list_laws.proofs.Lemmas.{all_push, all_same}
 use Rattle.record_spec.specs.Trees.{Terms, children_of, tree_below, tree_of, signed_by, credentials_by, next_terms, entry_of}
 use Rattle.record_spec.specs.Trees.{entries_from, entries_of, terms_after}
 use Rattle.record_spec.proofs.Lists.{get_map, all_get, all_kept, filter_here}

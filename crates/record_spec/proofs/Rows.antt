@@ -23,13 +23,13 @@ use Rattle.ledger_spec.specs.declared.Kept.{Kept}
 use Rattle.wasm_spec.specs.declared.module.Module.{Module}
 use Rattle.wasm_spec.specs.Stores.{Store}
 use Rattle.wasm_spec.specs.Instances.{Start, Missing, WrongArity, Segment, Ready, start_of, function_named}
-use Rattle.module_loader.specs.Loading.{module_of}
+use Rattle.module_spec.specs.Loading.{module_of}
 use Rattle.host_interface.specs.declared.kinds.ArgKind.{ArgKind}
 use Rattle.host_spec.specs.Arguments.{Means, argument, dispatched, tagged_words}
 use Rattle.host_spec.specs.Answers.{Answer, given, value}
 use Rattle.host_spec.specs.Calls.{with_argument}
 use Rattle.host_spec.specs.MapRows.{Member, value_at}
-use Rattle.auth_trees.specs.Demands.{creates_asset}
+use Rattle.auth_spec.specs.Demands.{creates_asset}
 use Rattle.call_spec.specs.Errors.{INVALID_STORAGE_INPUT, INVALID_EXTENSION, RESERVED_NAME, REENTERED}
 use Rattle.call_spec.specs.World.{AccessKind, Read, Extend, Write, Copied, Frame, World, next_seq}
 use Rattle.call_spec.specs.Acts.{Act, world_of, after, gives, fails, only_where, with_frame, sets, lift}

@@ -4,7 +4,7 @@ use Rattle.value_types.specs.declared.address.ScAddress.{ScAddress}
 use Rattle.value_types.specs.Equality.{is_same_decides}
 use Rattle.invoke_types.specs.declared.function.Function.{Function}
 use Rattle.invoke_types.specs.Equality.{coded_function}
-use Rattle.auth_trees.specs.Demands.{coded_address, same_address, same_function}
+use Rattle.auth_spec.specs.Demands.{coded_address, same_address, same_function}
 
 -- addresses that are the same are equal
 pub address_is : (a b : ScAddress) → same_address a b ≡ true → a ≡ b

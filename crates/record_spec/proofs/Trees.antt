@@ -16,11 +16,11 @@ use Rattle.invoke_types.specs.declared.function.Function.{Function}
 use Rattle.auth_types.specs.InvocationLaws.{tree_of-invocation}
 use Rattle.auth_types.specs.Tree.{Tree}
 use Rattle.auth_types.specs.declared.auth_entry.AuthEntry.{AuthEntry}
-use Rattle.auth_trees.specs.Pairs.{Pair, has_pair, is_paired, deepest}
-use Rattle.auth_trees.specs.Demands.{same_address, same_function, function_of, children, Marked, first_from}
-use Rattle.auth_trees.specs.Demands.{open_child, open_below, by_child, by_root, chosen}
-use Rattle.auth_trees.specs.Noted.{Note, MOST_LEVELS, pairs_in, roots_in, is_child}
-use Rattle.auth_trees.proofs.Lemmas.{get_left}
+use Rattle.auth_spec.specs.Pairs.{Pair, has_pair, is_paired, deepest}
+use Rattle.auth_spec.specs.Demands.{same_address, same_function, function_of, children, Marked, first_from}
+use Rattle.auth_spec.specs.Demands.{open_child, open_below, by_child, by_root, chosen}
+use Rattle.auth_spec.specs.Noted.{Note, MOST_LEVELS, pairs_in, roots_in, is_child}
+use Rattle.list_laws.proofs.Lemmas.{get_left}
 use Rattle.record_spec.specs.Trees.{Terms, children_of, tree_below, tree_of, credentials_by, entry_of, entries_of, terms_after}
 use Rattle.record_spec.proofs.Lists.{split_at, get_here, get_first, get_map, mapped, filter_here, kept_at, any_found}
 use Rattle.record_spec.proofs.Lists.{first_is, nothing_first}

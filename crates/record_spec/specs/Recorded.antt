@@ -5,7 +5,7 @@ use Rattle.std.specs.Option.{option_map}
 use Rattle.value_types.specs.Datum.{Datum}
 use Rattle.value_types.specs.declared.account_id.AccountId.{AccountId}
 use Rattle.auth_types.specs.declared.auth_entry.AuthEntry.{AuthEntry}
-use Rattle.auth_trees.specs.Noted.{Notes, no_notes}
+use Rattle.auth_spec.specs.Noted.{Notes, no_notes}
 use Rattle.ledger_types.specs.declared.header.Header.{Header}
 use Rattle.ledger_spec.specs.LedgerMap.{LedgerMap}
 use Rattle.tx_parts.specs.declared.account.MuxedAccount.{MuxedAccount}

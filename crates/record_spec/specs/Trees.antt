@@ -9,8 +9,8 @@ use Rattle.auth_types.specs.Views.{invocation_of}
 use Rattle.auth_types.specs.declared.credentials.Credentials.{Credentials}
 use Rattle.auth_types.specs.declared.credentials.Credentials.TheVariants.{SourceAccount, Address}
 use Rattle.auth_types.specs.declared.auth_entry.AuthEntry.{AuthEntry}
-use Rattle.auth_trees.specs.Demands.{same_address}
-use Rattle.auth_trees.specs.Noted.{Note, MOST_LEVELS, is_child, roots_in}
+use Rattle.auth_spec.specs.Demands.{same_address}
+use Rattle.auth_spec.specs.Noted.{Note, MOST_LEVELS, is_child, roots_in}
 
 -- ---- trees
 

@@ -14,8 +14,8 @@ use Rattle.ledger_spec.specs.LedgerFile.{ledger_of}
 use Rattle.ledger_spec.specs.declared.LedgerRefusal.{LedgerRefusal}
 use Rattle.ledger_types.specs.Verdicts.{verdicts_format}
 use Rattle.module_vet.specs.Verdict.{verdict_of}
-use Rattle.module_loader.specs.declared.error.Flaw.{Flaw}
-use Rattle.module_loader.specs.declared.error.Flaw.TheVariants as flaw
+use Rattle.module_spec.specs.declared.flaw.Flaw.{Flaw}
+use Rattle.module_spec.specs.declared.flaw.Flaw.TheVariants as flaw
 use Rattle.module_vet.specs.declared.Sizes.{Sizes}
 use Rattle.schedule_runs.specs.Plans.{first_incomplete}
 use Rattle.schedule_runs.specs.Schedule.{schedule_format}

@@ -39,7 +39,7 @@ use Rattle.ledger_types.specs.Verdicts.{verdicts_format}
 use Rattle.ledger_types.specs.declared.header.Header.{Header}
 use Rattle.ledger_types.specs.declared.verdicts.Verdicts.{Verdicts}
 use Rattle.module_vet.specs.Verdict.{IsVerdict}
-use Rattle.module_loader.specs.declared.error.Flaw.{Flaw}
+use Rattle.module_spec.specs.declared.flaw.Flaw.{Flaw}
 use Rattle.module_vet.specs.declared.Sizes.{Sizes}
 use Rattle.schedule_runs.specs.Plans.{first_incomplete, run_stopped, steps_of}
 use Rattle.schedule_runs.specs.Schedule.{schedule_format}

@@ -3,8 +3,8 @@ use Rattle.std.specs.Prelude.{ℕ, List, Result, Ok, Err}
 use Rattle.edge_io.specs.Contents.{FileMap}
 use Rattle.module_vet.specs.Line.{valid_line}
 use Rattle.module_vet.specs.Verdict.{verdict_of}
-use Rattle.module_loader.specs.declared.error.Flaw.{Flaw}
-use Rattle.module_loader.specs.declared.error.Flaw.TheVariants as flaw
+use Rattle.module_spec.specs.declared.flaw.Flaw.{Flaw}
+use Rattle.module_spec.specs.declared.flaw.Flaw.TheVariants as flaw
 use Rattle.module_vet.specs.declared.Sizes.{Sizes}
 use Rattle.soroban_top.specs.Judged.{content_of}
 use Rattle.soroban_top.specs.Steps.{◌>>=◌}

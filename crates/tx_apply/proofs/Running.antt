@@ -33,7 +33,7 @@ use Rattle.call_spec.specs.Invoked.{Invoked, unsuccessful, by_writes, by_end, by
 use Rattle.call_spec.specs.Laws.{Maps}
 use Rattle.contract_storage.specs.Footprint.{IsFootprint}
 use Rattle.contract_storage.specs.Stored.{Stored}
-use Rattle.auth_trees.specs.Authorities.{Authorised}
+use Rattle.auth_spec.specs.Authorities.{Authorised}
 use Rattle.contract_call.specs.Worlds.{authority_of, world_around}
 use Rattle.contract_call.specs.Ended.{IsEnd, EndsBy}
 use Rattle.contract_call.specs.declared.host.Host.{Host}

@@ -14,7 +14,7 @@ use Rattle.wasm_spec.specs.declared.instructions.Control.TheVariants as jump
 use Rattle.wasm_spec.specs.Code.{Code, end, plain, control, block, loop, choose, BlockType}
 use Rattle.wasm_spec.specs.Typing.{◌>>=◌, Context, inside, signature_of, taken_types, Applies, PlainTyped, label, CallTyped, ControlTyped, CodeTyped, result_of, function_type}
 use Rattle.wasm_check.proofs.Passed.{all_back, all_on}
-use Rattle.wasm_check.specs.Check.{Shape, shape, nothing, anything, push, push_result, same_type, may_be, pop_from, pop_any, pop, pops, pop_result, is_empty, ends, either, check_select, check_signature, check_plain, same_label, check_call, check_table, check_control, check_code, body_check}
+use Rattle.module_spec.specs.Check.{Shape, shape, nothing, anything, push, push_result, same_type, may_be, pop_from, pop_any, pop, pops, pop_result, is_empty, ends, either, check_select, check_signature, check_plain, same_label, check_call, check_table, check_control, check_code, body_check}
 
 -- operands of this shape
 

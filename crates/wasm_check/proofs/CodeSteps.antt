@@ -10,7 +10,7 @@ use Rattle.wasm_spec.specs.Typing.{◌>>=◌, Context}
 use Rattle.wasm_check.specs.declared.error.Fault.{Fault}
 use Rattle.wasm_check.specs.declared.error.Fault.TheVariants.{Ill, NoMemory}
 use Rattle.wasm_spec.specs.declared.types.ValueType.{ValueType}
-use Rattle.wasm_check.specs.Check.{Shape, nothing, anything, pops, ends, check_code, body_check}
+use Rattle.module_spec.specs.Check.{Shape, nothing, anything, pops, ends, check_code, body_check}
 use Rattle.wasm_check.specs.Checks.{Checks, ChecksOn, IsChecked}
 
 -- sizes

@@ -6,7 +6,7 @@ use Rattle.std.proofs.Common.{◌≡◌, ℕ, ◌<◌, Bool, true, false, not, �
 use Rattle.list_laws.specs.Twice.{stand_twice}
 use Rattle.list_laws.proofs.Lemmas.{Holds, found_twice, order}
 use Rattle.wasm_spec.specs.declared.module.Export.{Export}
-use Rattle.wasm_check.specs.Outside.{is_new, exports_differ}
+use Rattle.module_spec.specs.Outside.{is_new, exports_differ}
 
 abbrev pub name_of : Export → List ℕ
 name_of export = export.name

@@ -9,7 +9,7 @@ use Rattle.wasm_spec.specs.Binary.{locals_count}
 use Rattle.wasm_spec.specs.Typing.{FunctionTyped, CodeTyped, body_context, result_of, MOST_LOCALS}
 use Rattle.wasm_check.specs.declared.error.Fault.{Fault}
 use Rattle.wasm_check.specs.declared.error.Fault.TheVariants.{Ill, NoMemory}
-use Rattle.wasm_check.specs.Check.{body_check}
+use Rattle.module_spec.specs.Check.{body_check}
 use Rattle.wasm_check.specs.Checks.{IsChecked}
 use Rattle.wasm_check.specs.Errors.{Judges}
 use Rattle.wasm_check.proofs.CheckLaws.{checked_typed, typed_checked}

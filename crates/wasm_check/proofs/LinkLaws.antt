@@ -15,8 +15,8 @@ use Rattle.wasm_spec.specs.declared.types.ValueType.TheVariants.{I64}
 use Rattle.wasm_spec.specs.declared.types.FuncType.{FuncType}
 use Rattle.wasm_spec.specs.declared.module.Import.{Import}
 use Rattle.wasm_spec.specs.declared.module.Module.{Module}
-use Rattle.wasm_check.specs.Check.{same_type}
-use Rattle.wasm_check.specs.Linking.{SomeOf, IsHostImport, ImportLinked, one_i64, type_matches, matches, with_type, find_row, typed_row, import_ok}
+use Rattle.module_spec.specs.Check.{same_type}
+use Rattle.module_spec.specs.Linking.{SomeOf, IsHostImport, ImportLinked, one_i64, type_matches, matches, with_type, find_row, typed_row, import_ok}
 use Rattle.wasm_check.proofs.OutsideLaws.{Same, same_and, same_all, same_type_true, same_type_refl}
 use Rattle.wasm_check.proofs.Passed.{and_true, both_true}
 

@@ -20,8 +20,8 @@ use Rattle.wasm_spec.specs.declared.module.Data.{Data}
 use Rattle.wasm_spec.specs.declared.module.Module.{Module}
 use Rattle.wasm_spec.specs.Typing.{TypeValid, LimitsValid, TableValid, MemoryValid, GlobalValid, ElementValid, DataValid, ExportValid, AreDistinct, OutsideValid, function_indices, constant_type, count_of, MOST_PAGES, MOST_ELEMENTS}
 use Rattle.wasm_spec.specs.Binary.{type_indices}
-use Rattle.wasm_check.specs.Check.{same_type}
-use Rattle.wasm_check.specs.Outside.{is_type, max_ok, limits_ok, element_ok, data_ok, types_ok, sizes_ok, values_ok, rules_ok, is_new, exports_differ}
+use Rattle.module_spec.specs.Check.{same_type}
+use Rattle.module_spec.specs.Outside.{is_type, max_ok, limits_ok, element_ok, data_ok, types_ok, sizes_ok, values_ok, rules_ok, is_new, exports_differ}
 use Rattle.wasm_check.proofs.Passed.{and_true, both_true, all_back, all_on}
 
 -- two ways to say the same

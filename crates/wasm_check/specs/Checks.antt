@@ -1,6 +1,6 @@
 -- Results of the code's validation against validation as a function (own).
 use Rattle.std.specs.Prelude.{◌≡◌, Option, Some, None, Result, Ok, Err}
-use Rattle.wasm_check.specs.Check.{Shape}
+use Rattle.module_spec.specs.Check.{Shape}
 use Rattle.wasm_check.specs.declared.error.Fault.{Fault}
 use Rattle.wasm_check.specs.declared.error.Fault.TheVariants.{Ill, NoMemory}
 

@@ -5,8 +5,8 @@ ghost use Rattle.std.specs.List.{list_all};
 ghost use Rattle.wasm_spec.specs.Code.{Code};
 ghost use Rattle.wasm_spec.specs.Views.{before, code_of};
 ghost use Rattle.wasm_spec.specs.Typing.{inside, label};
-ghost use Rattle.wasm_check.specs.Check.{check_plain, check_control, check_call, check_table, check_indirect, check_by_signature};
-ghost use Rattle.wasm_check.specs.Check.{check_code, body_check, pops, same_label};
+ghost use Rattle.module_spec.specs.Check.{check_plain, check_control, check_call, check_table, check_indirect};
+ghost use Rattle.module_spec.specs.Check.{check_by_signature, check_code, body_check, pops, same_label};
 ghost use Rattle.wasm_check.specs.Checks.{Checks, ChecksOn, IsChecked};
 ghost use Rattle.wasm_check.specs.Contexts.{context_in};
 

@@ -4,8 +4,8 @@ ghost use Rattle.std.specs.Prelude.{◌≡◌, option_map};
 ghost use Rattle.std.specs.List.{list_all};
 ghost use Rattle.wasm_spec.specs.declared.types.ValueType.TheVariants.{I64};
 ghost use Rattle.host_interface.specs.Rows.{host_rows, row_of};
-ghost use Rattle.wasm_check.specs.Check.{same_type as same};
-ghost use Rattle.wasm_check.specs.Linking.{one_i64, type_matches, with_type, find_row, import_row};
+ghost use Rattle.module_spec.specs.Check.{same_type as same};
+ghost use Rattle.module_spec.specs.Linking.{one_i64, type_matches, with_type, find_row, import_row};
 
 use crate::operands::same_type;
 use host_interface::{TableRow, row_named};

@@ -5,7 +5,7 @@ ghost use Rattle.wasm_spec.specs.Binary.{locals_count};
 ghost use Rattle.wasm_spec.specs.Typing.{Typed, FunctionTyped, OutsideValid, body_context, result_of, local_types, MOST_LOCALS};
 ghost use Rattle.wasm_code.specs.Placed.{IsCompiled};
 ghost use Rattle.wasm_check.specs.Errors.{Judges, ReportsIll, ReportsFunction};
-ghost use Rattle.wasm_check.specs.Check.{body_check};
+ghost use Rattle.module_spec.specs.Check.{body_check};
 ghost use Rattle.wasm_check.specs.Checks.{IsChecked};
 ghost use Rattle.std.specs.List.{AllByRecursion};
 ghost use Rattle.std.specs.Bool.{OnTrue, OnFalse};

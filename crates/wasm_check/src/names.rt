@@ -2,7 +2,7 @@
 
 ghost use Rattle.std.specs.Prelude.{◌≡◌, IfOk};
 ghost use Rattle.std.specs.Str.{bytes_eq};
-ghost use Rattle.wasm_check.specs.Outside.{exports_differ};
+ghost use Rattle.module_spec.specs.Outside.{exports_differ};
 
 use std::alloc::{AllocError, Global};
 use std::collections::BTreeSet;

@@ -2,8 +2,8 @@
 
 ghost use Rattle.std.specs.Prelude.{◌≡◌, ◌≢◌, [], ◌∷◌, Some, None, option_map, MatchBool};
 ghost use Rattle.wasm_spec.specs.Typing.{taken_types};
-ghost use Rattle.wasm_check.specs.Check.{Shape, nothing, anything, push, pop, pop_any, pops, pop_result, push_result, ends};
-ghost use Rattle.wasm_check.specs.Check.{is_empty, same_type as same, may_be, either, check_select, check_signature};
+ghost use Rattle.module_spec.specs.Check.{Shape, nothing, anything, push, pop, pop_any, pops, pop_result, push_result, ends};
+ghost use Rattle.module_spec.specs.Check.{is_empty, same_type as same, may_be, either, check_select, check_signature};
 ghost use Rattle.wasm_check.specs.Checks.{Checks};
 ghost use Rattle.wasm_check.specs.Popped.{Pops};
 
@@ -22,7 +22,7 @@ pub struct Stack {
 
 impl Model for Stack {
     ghost use Rattle.std.specs.Prelude.{reverse};
-    ghost use Rattle.wasm_check.specs.Check.{Shape};
+    ghost use Rattle.module_spec.specs.Check.{Shape};
 
     ghost Value = { Shape };
 

@@ -5,8 +5,8 @@ ghost use Rattle.std.specs.List.{list_all};
 ghost use Rattle.wasm_spec.specs.declared.module.Import.{Import};
 ghost use Rattle.wasm_spec.specs.declared.module.Function.{Function};
 ghost use Rattle.wasm_spec.specs.Typing.{constant_type, constant_of, constant_global, count_of};
-ghost use Rattle.wasm_check.specs.Outside.{is_type, type_ok, max_ok, limits_ok, table_ok, memory_ok, global_ok, functions_ok};
-ghost use Rattle.wasm_check.specs.Outside.{element_ok, data_ok, export_ok, types_ok, sizes_ok, values_ok, rules_ok};
+ghost use Rattle.module_spec.specs.Outside.{is_type, type_ok, max_ok, limits_ok, table_ok, memory_ok, global_ok, functions_ok};
+ghost use Rattle.module_spec.specs.Outside.{element_ok, data_ok, export_ok, types_ok, sizes_ok, values_ok, rules_ok};
 
 use crate::operands::same_type;
 use wasm_spec::{

@@ -20,7 +20,7 @@ use Rattle.wasm_spec.specs.Effects.{Effect, Leaves, Grows, Faults, Lacks, effect
 use Rattle.wasm_spec.specs.Runs.{State, Run, Normal, Branch, Return, Trap, Spent, Stuck, Ask, has_room, charged_if, charged, executed, effect_run, then_do, carried, whole, onto, leave, again, turns}
 use Rattle.wasm_spec.specs.Spending.{Enough, paid}
 use Rattle.wasm_spec.specs.Meaning.{Calls, at_zero, label_for, same_function_type, matching_call, typed_call, element_call, indirect_call, control_run, exec, arguments, with_arguments, back_in, finish, start_locals, enter, too_deep, ask, own_call, is_import, any_call, call_of}
-use Rattle.wasm_machine.specs.Spending.{IsLater}
+use Rattle.wasm_spec.specs.Spending.{IsLater}
 use Rattle.wasm_machine.proofs.LeftLaws.{later_enough, executed_is, paid_enough, some_left}
 
 -- the state with another count, where both are enough

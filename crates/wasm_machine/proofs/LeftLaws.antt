@@ -10,7 +10,7 @@ use Rattle.wasm_spec.specs.Stores.{Store}
 use Rattle.wasm_spec.specs.Runs.{State, Run, Spent, has_room, charged_if, charged, counted, executed}
 use Rattle.wasm_spec.specs.Spending.{Enough, paid, PaidIfRoom}
 use Rattle.wasm_spec.specs.Meaning.{beginning}
-use Rattle.wasm_machine.specs.Spending.{IsLater}
+use Rattle.wasm_spec.specs.Spending.{IsLater}
 
 no_room : (b : Bool) (m : Meter) → has_room m.limits (used_after m WasmInsnExec 1) ≡ b → m.limits.instructions ≤ m.used.instructions → 1 ≤ m.terms.wasm_insn_exec.instructions.constant → b ≡ false
 no_room false m e le one = refl

@@ -12,6 +12,5 @@ mod Sim
 mod SimCalls
 mod SimCode
 mod SimStart
-mod Spends
 mod Stack
 mod Ways

@@ -6,4 +6,3 @@ pub mod Numbers
 pub mod MachineState
 pub mod Quick
 pub mod Says
-pub mod Spending

@@ -8,7 +8,7 @@ ghost use Rattle.wasm_code.specs.declared.step.Step.TheVariants as flat;
 ghost use Rattle.wasm_code.specs.Ops.{step_of, plain_of};
 ghost use Rattle.wasm_machine.specs.MachineState.{machine_of, CanMove, IsMove, Moves};
 ghost use Rattle.wasm_machine.specs.Quick.{is_plain, is_quick, IsQuick};
-ghost use Rattle.wasm_machine.specs.Spending.{IsLater};
+ghost use Rattle.wasm_spec.specs.Spending.{IsLater};
 
 use crate::jumps::jump;
 use crate::machine::{MachineState, Outcome, Quick};
@@ -175,7 +175,7 @@ fn execute_plain(
 }
 
 /// Charges and executes the next step, which is the instruction `op`.
-#[tactic(auto, using(crate::proofs::Spends::same))]
+#[tactic(auto, using(wasm_spec::proofs::Lemmas::same))]
 pub fn take_plain(
     source: &Module,
     code: &FlatCode,
@@ -197,7 +197,7 @@ pub fn take_plain(
 }
 
 /// Charges and executes the next step, which is the branch `op`.
-#[tactic(auto, using(crate::proofs::Spends::same))]
+#[tactic(auto, using(wasm_spec::proofs::Lemmas::same))]
 pub fn take_branch(
     source: &Module,
     code: &FlatCode,

@@ -5,7 +5,7 @@ ghost use Rattle.wasm_spec.specs.Runs.{Run};
 ghost use Rattle.wasm_machine.specs.Behaves.{Behaves};
 ghost use Rattle.wasm_machine.specs.MachineState.{machine_of};
 ghost use Rattle.wasm_machine.specs.Says.{Says, IsLess};
-ghost use Rattle.wasm_machine.specs.Spending.{IsLater};
+ghost use Rattle.wasm_spec.specs.Spending.{IsLater};
 
 use crate::machine::{MachineState, Outcome, Quick};
 use crate::quick::{is_plain, is_quick, take_branch, take_plain};

@@ -8,7 +8,7 @@ ghost use Rattle.wasm_code.specs.declared.step.Step.TheVariants as flat;
 ghost use Rattle.wasm_code.specs.Ops.{step_of};
 ghost use Rattle.wasm_machine.specs.MachineState.{IsMove, machine_of, CanMove, Moves};
 ghost use Rattle.wasm_machine.specs.Quick.{is_quick};
-ghost use Rattle.wasm_machine.specs.Spending.{IsLater};
+ghost use Rattle.wasm_spec.specs.Spending.{IsLater};
 
 use crate::calls::{call, call_import, call_indirect};
 use crate::jumps::leave;
@@ -28,7 +28,7 @@ fn is_free(op: &Op) -> bool
 }
 
 /// Executes `memory.grow`. A growth past the memory's largest size fails without a charge.
-#[tactic(auto, using(crate::proofs::Spends::same, crate::proofs::Spends::charged_later))]
+#[tactic(auto, using(wasm_spec::proofs::Lemmas::same, wasm_spec::proofs::Lemmas::charged_later))]
 fn grow(machine: &mut MachineState, budget: &mut Budget) -> Result<Outcome, AllocError>
     requires pc { machine.old.pc < 2 ^ 63 }
     requires moves { affects (effect_of plain.MemoryGrow machine.old.operands machine.old.locals.items machine.old.store)
@@ -101,7 +101,7 @@ fn call_by_table(
 }
 
 /// Executes a step that has been charged, other than a quick one.
-#[tactic(auto, using(crate::proofs::Spends::same))]
+#[tactic(auto, using(wasm_spec::proofs::Lemmas::same))]
 fn execute(
     source: &Module,
     code: &FlatCode,
@@ -148,7 +148,7 @@ fn pay_and_execute(
 }
 
 /// Executes the next step, which is `op` and not quick.
-#[tactic(auto, using(crate::proofs::Spends::same))]
+#[tactic(auto, using(wasm_spec::proofs::Lemmas::same))]
 pub fn take(
     source: &Module,
     code: &FlatCode,

@@ -5,9 +5,10 @@ use Rattle.wasm_spec.specs.declared.values.Value.TheVariants as value
 use Rattle.wasm_spec.specs.Runs.{Run, Normal, Branch, Return, Trap, Spent, Stuck, Ask}
 use Rattle.wasm_spec.specs.Meaning.{MOST_CALLS, call_of, beginning, meaning}
 use Rattle.wasm_spec.specs.Worlds.{Reply, Answers, Quits, Host, End, after_reply, interp}
-use Rattle.wasm_machine.specs.Spending.{IsLater}
+use Rattle.wasm_spec.specs.Spending.{IsLater}
 use Rattle.wasm_machine.proofs.Lemmas.{Alike, Twins, begins_enough, call_alike}
-use Rattle.wasm_run.specs.Laws.{IsLaterReply, NeverLowers, SameWithMore}
+use Rattle.wasm_spec.specs.Sums.{IsLaterReply, NeverLowers}
+use Rattle.wasm_run.specs.Laws.{SameWithMore}
 
 module _ {W Q : Type 0} (host : Host W Q) (never : NeverLowers host) where
   reply_same : (b : Meter) (x : Reply W Q) (go og : ℕ → List ℕ → Meter → W → End W Q) → IsLaterReply b x → ((v : ℕ) (bytes : List ℕ) (c : Meter) (w : W) → IsLater b c → og v bytes c w ≡ go v bytes c w) → after_reply x og ≡ after_reply x go

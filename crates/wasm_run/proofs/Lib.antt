@@ -1,8 +1,6 @@
 mod Counts
 mod Expressions
 mod Fold
-pub mod Lemmas
 mod Starts
-mod Sums
 mod Suspends
 mod Walks

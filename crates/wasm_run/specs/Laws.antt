@@ -7,12 +7,11 @@ use Rattle.wasm_spec.specs.declared.module.Module.{Module}
 use Rattle.wasm_spec.specs.Typing.{Typed}
 use Rattle.wasm_spec.specs.Stores.{Store}
 use Rattle.wasm_spec.specs.Runs.{State, Run, Spent, charged, executed}
-use Rattle.wasm_spec.specs.Spending.{GoesOnSpending, Enough, PaidIfRoom}
+use Rattle.wasm_spec.specs.Spending.{IsLater, GoesOnSpending, Enough, PaidIfRoom}
 use Rattle.wasm_spec.specs.Meaning.{MOST_CALLS, call_of, beginning, meaning}
 use Rattle.wasm_spec.specs.Instances.{Ready, start_of}
-use Rattle.wasm_spec.specs.Worlds.{Reply, Answers, Quits, Host, End, Returned, Trapped, Exhausted, Quit, Broken, after_reply}
-use Rattle.wasm_spec.specs.Worlds.{interp}
-use Rattle.wasm_machine.specs.Spending.{IsLater}
+use Rattle.wasm_spec.specs.Worlds.{Host, Returned, Trapped, Exhausted, Broken, after_reply, interp}
+use Rattle.wasm_spec.specs.Sums.{NeverLowers}
 use Rattle.wasm_run.specs.declared.instance.Event.{Event}
 use Rattle.wasm_run.specs.declared.instance.Event.TheVariants as event
 use Rattle.wasm_run.specs.Suspended.{Suspended, Awaits, Tells}
@@ -72,39 +71,9 @@ abbrev pub CountNeverEnds : Type 0
 CountNeverEnds = (s : State) (go : State → Run) → Enough s → 1 ≤ s.meter.terms.wasm_insn_exec.instructions.constant
     → executed Spent s go ≡ charged WasmInsnExec 1 Spent (record s { left = s.left - 1 }) go
 
--- a reply of a host that lowers no sum and keeps the limits and terms
-abbrev pub IsLaterReply : {W Q : Type 0} → Meter → Reply W Q → Type 0
-IsLaterReply b (Answers w v memory c) = IsLater b c
-IsLaterReply b (Quits q) = Unit {0}
-
--- each reply of the host is such a reply
-abbrev pub NeverLowers : {W Q : Type 0} → Host W Q → Type 0
-NeverLowers {W} {Q} host = (f : ℕ) (args memory : List ℕ) (b : Meter) (w : W) → IsLaterReply b (host f args memory b w)
-
 -- With a host that never lowers the sums, a larger count does not change a call's outcome.
 abbrev pub SameWithMore : Type 0 → Type 0 → Type 0
 SameWithMore W Q = (host : Host W Q) (m : Module) (f : ℕ) (args : List ℕ) (store : Store) (b : Meter) (w : W) (count : ℕ)
     → NeverLowers host → b.limits.instructions < 2 ^ 64 → 1 ≤ b.terms.wasm_insn_exec.instructions.constant → 2 ^ 64 - 1 ≤ count
     → interp host (call_of m MOST_CALLS f (reverse (map value.I64 args)) (record (beginning store b) { left = count })) w
     ≡ interp host (meaning m f args store b) w
-
--- the sums
-
--- the host quits with sums that are no lower than before the call
-abbrev pub QuitsLater : {W Q : Type 0} → (Q → Meter) → Host W Q → Type 0
-QuitsLater {W} {Q} sums host =
-    (f : ℕ) (args memory : List ℕ) (b : Meter) (w : W) (q : Q) → host f args memory b w ≡ Quits q → IsLater b (sums q)
-
--- the end of a run has sums that are no lower, with the same limits and terms
-abbrev pub EndsLater : {W Q : Type 0} → (Q → Meter) → Meter → End W Q → Type 0
-EndsLater sums b (Returned results c w) = IsLater b c
-EndsLater sums b (Trapped kind c w) = IsLater b c
-EndsLater sums b (Exhausted c w) = IsLater b c
-EndsLater sums b (Quit q) = IsLater b (sums q)
-EndsLater sums b Broken = Unit {0}
-
--- With a host that never lowers the sums, no call lowers them. So a host whose functions call modules never lowers them either,
--- by induction on the calls that can still be opened.
-abbrev pub SumsGrow : Type 0 → Type 0 → Type 0
-SumsGrow W Q = (sums : Q → Meter) (host : Host W Q) (m : Module) (f : ℕ) (args : List ℕ) (store : Store) (b : Meter) (w : W)
-    → NeverLowers host → QuitsLater sums host → EndsLater sums b (interp host (meaning m f args store b) w)

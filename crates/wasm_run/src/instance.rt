@@ -9,7 +9,7 @@ ghost use Rattle.wasm_spec.specs.Runs.{Run};
 ghost use Rattle.wasm_spec.specs.Meaning.{meaning};
 ghost use Rattle.wasm_spec.specs.Code.{BlockType};
 ghost use Rattle.wasm_run.specs.Suspended.{suspended, Does, Awaits, Tells, EventNames, StandsAfter, IsNearer, IsNew, work};
-ghost use Rattle.wasm_machine.specs.Spending.{IsLater};
+ghost use Rattle.wasm_spec.specs.Spending.{IsLater};
 ghost use Rattle.std.specs.Borrow.{sem};
 ghost use Rattle.wasm_run.specs.Lending.{LendsMemory};
 

@@ -1,7 +1,8 @@
 //! Laws of runs. Each law is the contract of a function with an empty body.
 
 ghost use Rattle.wasm_run.specs.Laws.{EventsFold, NeverBreaks, EachSpends, EnoughAtFirst, EnoughAfterEach, EnoughWhenLater};
-ghost use Rattle.wasm_run.specs.Laws.{CountNeverEnds, SameWithMore, SumsGrow};
+ghost use Rattle.wasm_run.specs.Laws.{CountNeverEnds, SameWithMore};
+ghost use Rattle.wasm_spec.specs.Sums.{SumsGrow};
 
 /// The outcome of a call with a host follows from the call's events.
 pub fn events_fold<W, Q>()

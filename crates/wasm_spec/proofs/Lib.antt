@@ -3,3 +3,5 @@ mod RunLaws
 mod Sound
 mod SoundCalls
 mod SoundStart
+mod Spends
+mod Sums

@@ -10,6 +10,7 @@ pub mod Opcodes
 pub mod Runs
 pub mod Spending
 pub mod Stores
+pub mod Sums
 pub mod Typing
 pub mod Views
 pub mod Worlds

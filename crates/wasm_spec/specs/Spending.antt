@@ -4,6 +4,13 @@ use Rattle.budget_meter.specs.declared.kind.Kind.TheVariants.{WasmInsnExec}
 use Rattle.budget_meter.specs.Meter.{Meter, used_after}
 use Rattle.wasm_spec.specs.Runs.{State, Run, Spent, has_room}
 
+-- the limits and terms are equal, and no sum is lower
+pub record IsLater (old new : Meter) : Type 0 where
+  pub limits : new.limits ≡ old.limits
+  pub terms : new.terms ≡ old.terms
+  pub instructions : old.used.instructions ≤ new.used.instructions
+  pub memory : old.used.memory ≤ new.used.memory
+
 -- the same limits and terms, with more instructions spent
 pub record SpendsMore (old new : Meter) : Type 0 where
   pub limits : new.limits ≡ old.limits

@@ -1,7 +1,7 @@
 use Rattle.std.proofs.Common.{◌≡◌, ℕ, List, [], ◌∷◌, ◌++◌, sym, ap, ◌∙◌, subst, arith}
 use Rattle.std.proofs.lemmas.List.{map_push}
 use Rattle.auth_notes.specs.declared.noted.Noted.{Noted}
-use Rattle.auth_trees.specs.Noted.{Note}
+use Rattle.auth_spec.specs.Noted.{Note}
 use Rattle.auth_notes.specs.Recording.{note_of, notes_of, AreTrees}
 use Rattle.auth_notes.specs.Indices.{AreBest, AreCounts}
 use Rattle.auth_notes.proofs.Finding.{few_trees}

@@ -1,5 +1,5 @@
 use Rattle.std.proofs.Common.{◌≡◌, ◌∷◌, [], ◌++◌, ℕ, List, count_by, ap, ap₂, ◌∙◌}
-use Rattle.auth_trees.specs.Noted.{Note, is_child}
+use Rattle.auth_spec.specs.Noted.{Note, is_child}
 use Rattle.auth_notes.specs.Recording.{pair_of, notes_of}
 use Rattle.auth_notes.specs.Indices.{count_at, place_key, children_at}
 use Rattle.auth_notes.proofs.Counting.{children_are}

@@ -1,5 +1,5 @@
 use Rattle.std.proofs.Common.{◌≡◌, ℕ, List, [], IfOk, refl, ap, sym, subst, ◌∙◌, arith}
-use Rattle.auth_trees.specs.Authorities.{Authorised}
+use Rattle.auth_spec.specs.Authorities.{Authorised}
 use Rattle.contract_storage.specs.Stored.{Stored}
 use Rattle.host_ledger.specs.Traced.{IsRecorded}
 use Rattle.call_spec.specs.World.{Authority}

@@ -1,7 +1,7 @@
 use Rattle.std.proofs.Common.{◌≡◌, ◌+◌, ◌*◌, drop}
 use Rattle.auth_types.specs.Tree.{size, row_size, trees_of}
 use Rattle.auth_types.specs.Views.{tree_of, forest_of}
-use Rattle.auth_trees.specs.Demands.{have_asset}
+use Rattle.auth_spec.specs.Demands.{have_asset}
 use Rattle.auth_trees.proofs.entries.+assets.Given as goal
 
 abbrev pub invariant-have_asset-loop-tree : goal.invariant-have_asset-loop-tree

@@ -1,6 +1,6 @@
 use Rattle.std.proofs.Common.{◌≡◌, map, drop}
 use Rattle.auth_trees.specs.Listed.{kept}
-use Rattle.auth_trees.specs.Demands.{first_from}
+use Rattle.auth_spec.specs.Demands.{first_from}
 use Rattle.auth_trees.specs.Flat.{child_in}
 use Rattle.auth_trees.specs.Ready.{child_found}
 use Rattle.auth_trees.proofs.search.find_child.Given as goal

@@ -1,5 +1,5 @@
 use Rattle.std.proofs.Common.{◌≡◌, rules, sym, ◌∙◌, false}
-use Rattle.auth_trees.specs.Pairs.{is_below}
+use Rattle.auth_spec.specs.Pairs.{is_below}
 use Rattle.auth_trees.proofs.Deepest.{none_deepest, deepest_more, as_long, none_of_none}
 use Rattle.auth_trees.proofs.tables.find_deepest.Goals as goal
 use Rattle.auth_trees.proofs.tables.find_deepest.Goals.{then-note, else-note}

@@ -1,6 +1,6 @@
 use Rattle.std.specs.Prelude.{length, is_some}
 use Rattle.budget_meter.specs.declared.kind.Kind.TheVariants.{VmInstantiation}
-use Rattle.module_loader.specs.Loading.{module_of}
+use Rattle.module_spec.specs.Loading.{module_of}
 use Rattle.call_spec.specs.Errors.{NO_MODULE}
 use Rattle.call_spec.specs.Acts.{gives, only_where}
 use Rattle.call_parts.proofs.Joining.{returns_charges}

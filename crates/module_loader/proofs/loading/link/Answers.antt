@@ -5,8 +5,8 @@ use Rattle.wasm_spec.specs.Binary.{type_indices}
 use Rattle.wasm_spec.specs.declared.module.Import.{Import}
 use Rattle.wasm_spec.specs.declared.module.Module.{Module}
 use Rattle.host_interface.specs.Rows.{host_rows, rows_of}
-use Rattle.wasm_check.specs.Linking.{Linked}
-use Rattle.module_loader.specs.Loading.{HasRows, ReportsUnlinked}
+use Rattle.module_spec.specs.Linking.{Linked}
+use Rattle.module_loader.specs.Results.{HasRows, ReportsUnlinked}
 use Rattle.module_loader.proofs.loading.link.Goals as goal
 
 pub rows_of-requires : goal.rows_of-requires

@@ -2,8 +2,8 @@ use Rattle.std.proofs.Common.{◌≡◌, ℕ, ◌<◌, Some, length, get_or, map
 use Rattle.std.proofs.Math.Seq.{take-length}
 use Rattle.std.specs.Prelude.{option_map}
 use Rattle.host_interface.specs.Rows.{host_rows, row_of, rows_of}
-use Rattle.wasm_check.specs.Linking.{import_row}
-use Rattle.module_loader.specs.Loading.{ReportsUnlinked}
+use Rattle.module_spec.specs.Linking.{import_row}
+use Rattle.module_loader.specs.Results.{ReportsUnlinked}
 use Rattle.module_loader.proofs.Imports.{all_linked, first_unlinked, rows_more}
 use Rattle.module_loader.proofs.loading.rows_of.Goals as goal
 

@@ -10,8 +10,8 @@ use Rattle.contract_storage.specs.Watched.{Seen}
 use Rattle.host_spec.specs.declared.error.HostErr.{HostErr}
 use Rattle.auth_types.specs.AuthEntry.{auth_entry_format}
 use Rattle.auth_types.specs.declared.auth_entry.AuthEntry.{AuthEntry}
-use Rattle.auth_trees.specs.Demands.{Marked}
-use Rattle.auth_trees.specs.Authorities.{Authorised, by_entries}
+use Rattle.auth_spec.specs.Demands.{Marked}
+use Rattle.auth_spec.specs.Authorities.{Authorised, by_entries}
 use Rattle.call_spec.specs.World.{next_seq, Authority}
 use Rattle.call_spec.specs.Footprints.{by_footprint}
 use Rattle.call_spec.specs.Invoked as spec

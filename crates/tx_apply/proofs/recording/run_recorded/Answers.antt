@@ -1,8 +1,8 @@
 use Rattle.std.proofs.Common.{◌≡◌, ℕ, List, [], All, None, refl, ap, sym, subst, ◌∙◌, arith}
 use Rattle.auth_types.specs.AuthEntry.{auth_entry_format}
 use Rattle.auth_types.specs.declared.auth_entry.AuthEntry.{AuthEntry}
-use Rattle.auth_trees.specs.Demands.{Marked}
-use Rattle.auth_trees.specs.Authorities.{Authorised, by_entries}
+use Rattle.auth_spec.specs.Demands.{Marked}
+use Rattle.auth_spec.specs.Authorities.{Authorised, by_entries}
 use Rattle.contract_storage.specs.Stored.{Stored}
 use Rattle.host_ledger.specs.Traced.{IsRecorded}
 use Rattle.call_spec.specs.World.{Authority}

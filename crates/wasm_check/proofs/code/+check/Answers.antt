@@ -2,7 +2,7 @@ use Rattle.std.proofs.Common.{◌≡◌, ◌+◌, ◌∷◌, drop, Some, Err, ap
 use Rattle.std.proofs.lemmas.Result.{err_from_is_err_and}
 use Rattle.wasm_spec.specs.Views.{before, code_of}
 use Rattle.wasm_spec.specs.Typing.{Context, inside}
-use Rattle.wasm_check.specs.Check.{Shape, nothing, check_code}
+use Rattle.module_spec.specs.Check.{Shape, nothing, check_code}
 use Rattle.wasm_check.specs.Checks.{ChecksOn}
 use Rattle.wasm_check.specs.Contexts.{context_in}
 use Rattle.wasm_check.proofs.CodeSteps.{weight_at, drop_item, all_err, body_ends}

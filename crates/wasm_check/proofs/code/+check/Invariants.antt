@@ -1,7 +1,7 @@
 use Rattle.std.proofs.Common.{◌≡◌, ◌+◌, ◌*◌, drop}
 use Rattle.wasm_spec.specs.Code.{size_of}
 use Rattle.wasm_spec.specs.Views.{code_of}
-use Rattle.wasm_check.specs.Check.{check_code}
+use Rattle.module_spec.specs.Check.{check_code}
 use Rattle.wasm_check.specs.Contexts.{context_in}
 use Rattle.wasm_check.proofs.CodeSteps.{weight}
 use Rattle.wasm_check.proofs.code.+check.Given as goal

@@ -1,6 +1,6 @@
 use Rattle.std.proofs.Common.{◌≡◌, ◌≤◌, length, take}
 use Rattle.std.specs.Prelude.{reverse}
-use Rattle.wasm_check.specs.Check.{pops}
+use Rattle.module_spec.specs.Check.{pops}
 use Rattle.wasm_check.proofs.code.pop_arguments.Given as goal
 
 abbrev pub invariant-loop-left : goal.invariant-loop-left

@@ -2,7 +2,7 @@ use Rattle.std.proofs.Common.{sym, ap, ap₂, ◌∙◌, List, ℕ}
 use Rattle.std.specs.List.{find}
 use Rattle.host_interface.specs.Named.{is_named}
 use Rattle.host_interface.specs.Rows.{host_rows}
-use Rattle.wasm_check.specs.Linking.{with_type}
+use Rattle.module_spec.specs.Linking.{with_type}
 use Rattle.wasm_check.proofs.LinkLaws.{host_by_name}
 use Rattle.wasm_check.proofs.linking.find_row.Goals as goal
 

@@ -1,5 +1,5 @@
 use Rattle.std.proofs.Common.{sym, ap, ◌∙◌}
-use Rattle.wasm_check.specs.Outside.{exports_differ, rules_ok}
+use Rattle.module_spec.specs.Outside.{exports_differ, rules_ok}
 use Rattle.wasm_check.proofs.Passed.{on_ok, on_true, on_false, never}
 use Rattle.wasm_check.proofs.OutsideLaws.{outside_back, outside_on}
 use Rattle.wasm_check.proofs.module.is_valid_outside.Goals as goal

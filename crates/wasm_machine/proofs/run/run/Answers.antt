@@ -11,7 +11,7 @@ use Rattle.wasm_machine.proofs.Ways.{never_fails, behaves_ahead}
 use Rattle.wasm_machine.proofs.Measure.{move_lighter, asks_lighter}
 use Rattle.wasm_machine.proofs.Events.{move_is, says_done, says_trap, says_spent, says_ask}
 use Rattle.wasm_machine.proofs.QuickLaws.{found, plain_is_quick, quick_move, quick_goes, quick_traps, quick_spent}
-use Rattle.wasm_machine.proofs.Spends.{later}
+use Rattle.wasm_spec.proofs.Lemmas.{later}
 use Rattle.wasm_machine.proofs.run.run.Goals as goal
 
 pub next_step-next-requires : goal.next_step-next-requires

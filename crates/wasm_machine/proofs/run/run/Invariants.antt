@@ -3,7 +3,7 @@ use Rattle.wasm_spec.specs.Runs.{Run}
 use Rattle.wasm_machine.specs.Behaves.{Behaves}
 use Rattle.wasm_machine.specs.MachineState.{machine_of}
 use Rattle.wasm_machine.specs.Says.{work_of}
-use Rattle.wasm_machine.specs.Spending.{IsLater}
+use Rattle.wasm_spec.specs.Spending.{IsLater}
 use Rattle.wasm_machine.proofs.run.run.Given as goal
 
 abbrev pub invariant-loop-machine : goal.invariant-loop-machine

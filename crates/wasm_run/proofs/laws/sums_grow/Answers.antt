@@ -1,4 +1,4 @@
-use Rattle.wasm_run.proofs.Sums.{sums_grow}
+use Rattle.wasm_spec.proofs.Lemmas.{sums_grow}
 use Rattle.wasm_run.proofs.laws.sums_grow.Goals as goal
 
 pub returns : goal.returns

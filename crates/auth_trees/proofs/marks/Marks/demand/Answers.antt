@@ -1,7 +1,7 @@
 use Rattle.std.proofs.Common.{◌≡◌, ◌<◌, List, length, sym, ap, ◌∙◌, subst, arith, true, false, vec_capacity}
 use Rattle.auth_trees.specs.declared.records.Record.{Record}
-use Rattle.auth_trees.specs.Pairs.{Pair}
-use Rattle.auth_trees.specs.Demands.{Marked, may_authorise, is_caller, demand, after_demand}
+use Rattle.auth_spec.specs.Pairs.{Pair}
+use Rattle.auth_spec.specs.Demands.{Marked, may_authorise, is_caller, demand, after_demand}
 use Rattle.auth_trees.specs.Listed.{spots}
 use Rattle.auth_trees.specs.Ready.{IsCurrent}
 use Rattle.auth_trees.specs.Kept.{marked}

@@ -1,7 +1,7 @@
 use Rattle.std.proofs.Common.{◌≡◌, ◌≤◌, List, map, length, sym, ap, ap₂, ◌∙◌, vec_capacity, rules, arith}
 use Rattle.auth_types.specs.declared.auth_entry.AuthEntry.{AuthEntry}
 use Rattle.auth_trees.specs.declared.records.Record.{Record}
-use Rattle.auth_trees.specs.Pairs.{Pair}
+use Rattle.auth_spec.specs.Pairs.{Pair}
 use Rattle.auth_trees.specs.Flat.{authoriser}
 use Rattle.auth_trees.specs.Kept.{pairs_of}
 use Rattle.auth_trees.proofs.Keeping.{kept_none, no_pairs}

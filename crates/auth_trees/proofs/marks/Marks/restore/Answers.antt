@@ -1,6 +1,6 @@
 use Rattle.std.proofs.Common.{List, take, ap, ◌∙◌}
-use Rattle.auth_trees.specs.Pairs.{Pair}
-use Rattle.auth_trees.specs.Demands.{Marked}
+use Rattle.auth_spec.specs.Pairs.{Pair}
+use Rattle.auth_spec.specs.Demands.{Marked}
 use Rattle.auth_trees.specs.Kept.{marked}
 use Rattle.auth_trees.proofs.Keeping.{kept_less, pairs_less}
 use Rattle.auth_trees.proofs.marks.Marks.restore.Goals as goal

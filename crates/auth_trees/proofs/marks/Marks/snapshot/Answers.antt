@@ -1,5 +1,5 @@
 use Rattle.std.proofs.Common.{◌≡◌, length, rules, sym, ap, ◌∙◌}
-use Rattle.auth_trees.specs.Demands.{Marked}
+use Rattle.auth_spec.specs.Demands.{Marked}
 use Rattle.auth_trees.proofs.Keeping.{length-pairs}
 use Rattle.auth_trees.proofs.marks.Marks.snapshot.Goals as goal
 

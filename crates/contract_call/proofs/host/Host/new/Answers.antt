@@ -1,6 +1,6 @@
 use Rattle.std.proofs.Common.{All, rules, sym, subst}
 use Rattle.auth_types.specs.AuthEntry.{auth_entry_format}
-use Rattle.auth_trees.specs.Authorities.{Authorised}
+use Rattle.auth_spec.specs.Authorities.{Authorised}
 use Rattle.contract_call.proofs.host.Host.new.Goals as goal
 
 pub returns-clause-ready : goal.returns-clause-ready

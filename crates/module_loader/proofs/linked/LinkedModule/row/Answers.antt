@@ -1,8 +1,8 @@
 use Rattle.std.proofs.Common.{◌<◌, length, sym, ap, ◌∙◌, subst}
 use Rattle.wasm_spec.specs.declared.module.Module.{Module}
 use Rattle.host_interface.specs.Rows.{host_rows, row_of}
-use Rattle.wasm_check.specs.Linking.{import_row}
-use Rattle.module_loader.specs.Loading.{row_at}
+use Rattle.module_spec.specs.Linking.{import_row}
+use Rattle.module_spec.specs.Loading.{row_at}
 use Rattle.module_loader.proofs.Imports.{row_found}
 use Rattle.module_loader.proofs.linked.LinkedModule.row.Goals as goal
 

@@ -9,7 +9,7 @@ use Rattle.wasm_spec.specs.declared.types.FuncType.{FuncType}
 use Rattle.wasm_spec.specs.declared.module.Import.{Import}
 use Rattle.wasm_spec.specs.declared.module.Module.{Module}
 use Rattle.host_interface.specs.Rows.{Row}
-use Rattle.wasm_check.specs.Check.{same_type}
+use Rattle.module_spec.specs.Check.{same_type}
 
 -- some item of the list has the property
 abbrev pub SomeOf : {A : Type 0} → (A → Type 0) → List A → Type 0

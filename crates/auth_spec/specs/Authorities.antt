@@ -6,13 +6,13 @@ use Rattle.value_types.specs.declared.account_id.AccountId.{AccountId}
 use Rattle.value_types.specs.declared.address.ScAddress.{ScAddress}
 use Rattle.invoke_types.specs.declared.function.Function.{Function}
 use Rattle.auth_types.specs.declared.auth_entry.AuthEntry.{AuthEntry}
-use Rattle.auth_trees.specs.declared.demand.Demand.{Demand}
-use Rattle.auth_trees.specs.declared.demand.Demand.TheVariants as demands
-use Rattle.auth_trees.specs.declared.authority.Point.{Point}
-use Rattle.auth_trees.specs.Pairs.{Pair}
-use Rattle.auth_trees.specs.Demands.{Marked, Choice, choice, answer, paired}
-use Rattle.auth_trees.specs.Noted.{Note, Notes, noting, after_noting, after_undoing}
-use Rattle.auth_trees.specs.Kept.{pair_code}
+use Rattle.auth_spec.specs.declared.demand.Demand.{Demand}
+use Rattle.auth_spec.specs.declared.demand.Demand.TheVariants as demands
+use Rattle.auth_spec.specs.declared.point.Point.{Point}
+use Rattle.auth_spec.specs.Pairs.{Pair}
+use Rattle.auth_spec.specs.Demands.{Marked, Choice, choice, answer, paired}
+use Rattle.auth_spec.specs.Noted.{Note, Notes, noting, after_noting, after_undoing}
+use Rattle.auth_spec.specs.Pairs.{pair_code}
 
 -- ---- the state
 

@@ -1,7 +1,8 @@
 -- The nodes of authorisation entries that met demands (own, after CAP-0046-11).
-use Rattle.std.specs.Prelude.{ℕ, ◌&&◌, List, length, nat_eq, nat_lt, Bool, Option, Some, None, if◌then◌else◌}
+use Rattle.std.specs.Prelude.{ℕ, ◌&&◌, List, length, nat_eq, nat_lt, Bool, Option, Some, None, if◌then◌else◌, refl}
 use Rattle.std.specs.List.{list_any, starts_with, filter, fold}
 use Rattle.std.specs.Str.{bytes_eq}
+use Rattle.std.specs.Coded.{Coded, code_by, coded×, coded_list, coded_ℕ}
 
 -- A node of an authorisation entry that met a demand, and the path of the frame that demanded it. The entry is given by its
 -- index, the node by the indices of the children that lead to it from the root.
@@ -31,3 +32,11 @@ deeper (Some best) later = if nat_lt (length later.path) (length best.path) then
 -- one.
 abbrev pub deepest : List Pair → List ℕ → ℕ → Option Pair
 deepest pairs path entry = fold deeper None (filter (λ pair. nat_eq pair.entry entry && is_below path pair.path) pairs)
+
+-- ---- how the logic stores pairs
+
+abbrev pub pair_code : Coded Pair
+pair_code =
+    code_by (ℕ × (List ℕ × List ℕ)) (coded× coded_ℕ (coded× (coded_list coded_ℕ) (coded_list coded_ℕ)))
+    (λ p. (p.entry, (p.node, p.path)))
+    (λ q. record { entry = q.0; node = q.1.0; path = q.1.1 }) (λ _. refl)

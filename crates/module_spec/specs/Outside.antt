@@ -15,7 +15,7 @@ use Rattle.wasm_spec.specs.declared.module.Element.{Element}
 use Rattle.wasm_spec.specs.declared.module.Data.{Data}
 use Rattle.wasm_spec.specs.declared.module.Module.{Module}
 use Rattle.wasm_spec.specs.Typing.{MOST_PAGES, MOST_ELEMENTS, constant_type, count_of}
-use Rattle.wasm_check.specs.Check.{same_type}
+use Rattle.module_spec.specs.Check.{same_type}
 use Rattle.std.specs.Str.{bytes_eq}
 
 abbrev pub is_type : Option ValueType → ValueType → Bool

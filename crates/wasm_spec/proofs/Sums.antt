@@ -20,9 +20,9 @@ use Rattle.wasm_spec.specs.Effects.{Effect, Leaves, Grows, Faults, Lacks, effect
 use Rattle.wasm_spec.specs.Runs.{State, Run, Normal, Branch, Return, Trap, Spent, Stuck, Ask, has_room, charged_if, charged, counted, executed, effect_run, then_do, carried, whole, onto, leave, again, turns}
 use Rattle.wasm_spec.specs.Meaning.{Calls, at_zero, label_for, same_function_type, matching_call, typed_call, element_call, indirect_call, control_run, exec, arguments, with_arguments, back_in, finish, start_locals, enter, too_deep, ask, own_call, is_import, any_call, call_of, MOST_CALLS, beginning, meaning}
 use Rattle.wasm_spec.specs.Worlds.{Reply, Answers, Quits, Host, End, Returned, Trapped, Exhausted, Quit, Broken, after_reply, interp}
-use Rattle.wasm_machine.specs.Spending.{IsLater}
-use Rattle.wasm_machine.proofs.Lemmas.{later, same}
-use Rattle.wasm_run.specs.Laws.{IsLaterReply, NeverLowers, QuitsLater, EndsLater, SumsGrow}
+use Rattle.wasm_spec.specs.Spending.{IsLater}
+use Rattle.wasm_spec.proofs.Spends.{later, same}
+use Rattle.wasm_spec.specs.Sums.{IsLaterReply, NeverLowers, QuitsLater, EndsLater, SumsGrow}
 
 -- The sums at each end and call of the run are no lower than those of b. An answer that lowers none leads to such a run again.
 abbrev pub Rises : Meter → Run → Type 0

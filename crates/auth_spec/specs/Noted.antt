@@ -6,8 +6,8 @@ use Rattle.std.specs.Option.{option_map, unwrap_or}
 use Rattle.value_types.specs.declared.address.ScAddress.{ScAddress}
 use Rattle.value_types.specs.declared.address.ScAddress.TheVariants.{Account}
 use Rattle.invoke_types.specs.declared.function.Function.{Function}
-use Rattle.auth_trees.specs.Pairs.{Pair, deepest}
-use Rattle.auth_trees.specs.Demands.{same_address, first_from, is_caller, is_root, Choice, ByNote, ByCaller, ByNothing}
+use Rattle.auth_spec.specs.Pairs.{Pair, deepest}
+use Rattle.auth_spec.specs.Demands.{same_address, first_from, is_caller, is_root, Choice, ByNote, ByCaller, ByNothing}
 
 -- ---- the state
 

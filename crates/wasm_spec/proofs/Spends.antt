@@ -2,7 +2,7 @@
 use Rattle.std.proofs.Common.{◌≡◌, ℕ, refl, sym, ◌∙◌, subst, arith}
 use Rattle.budget_meter.specs.declared.kind.Kind.{Kind}
 use Rattle.budget_meter.specs.Meter.{Meter, used_after}
-use Rattle.wasm_machine.specs.Spending.{IsLater}
+use Rattle.wasm_spec.specs.Spending.{IsLater}
 
 pub same : (b : Meter) → IsLater b b
 same b = record { limits = refl; terms = refl; instructions = omega arith; memory = omega arith }

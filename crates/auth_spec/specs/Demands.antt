@@ -21,9 +21,9 @@ use Rattle.auth_types.specs.Views.{tree_of}
 use Rattle.auth_types.specs.declared.credentials.Credentials.{Credentials}
 use Rattle.auth_types.specs.declared.credentials.Credentials.TheVariants as credentials
 use Rattle.auth_types.specs.declared.auth_entry.AuthEntry.{AuthEntry}
-use Rattle.auth_trees.specs.declared.demand.Demand.{Demand}
-use Rattle.auth_trees.specs.declared.demand.Demand.TheVariants as demands
-use Rattle.auth_trees.specs.Pairs.{Pair, has_pair, is_paired, deepest}
+use Rattle.auth_spec.specs.declared.demand.Demand.{Demand}
+use Rattle.auth_spec.specs.declared.demand.Demand.TheVariants as demands
+use Rattle.auth_spec.specs.Pairs.{Pair, has_pair, is_paired, deepest}
 
 -- ---- equality: two addresses, and two functions, are the same where all their parts are
 

@@ -1,0 +1,4 @@
+pub mod Pairs
+pub mod Demands
+pub mod Noted
+pub mod Authorities

@@ -1,0 +1,4 @@
+pub mod Check
+pub mod Linking
+pub mod Loading
+pub mod Outside
