@@ -22,7 +22,7 @@ use Rattle.ledger_types.proofs.Lemmas.{key_ranked}
 use Rattle.ledger_spec.specs.declared.Kept.{Kept}
 use Rattle.ledger_spec.specs.LedgerMap.{LedgerMap, key_bytes, find, IsKeptAt}
 use Rattle.contract_storage.specs.Layered.{set_at}
-use Rattle.contract_storage.specs.Overlays.{over_entry, over, IsHeldAt, IsLaid}
+use Rattle.contract_storage.specs.Overlays.{kept_in, over_entry, over, IsHeldAt, IsLaid}
 use Rattle.contract_storage.specs.Differences.{change_all, IsDifference, AreDifferences, is_kept, removal, difference, differences}
 use Rattle.contract_storage.specs.declared.changes.Change.{Change}
 use Rattle.contract_storage.specs.declared.layer.Overlay.{Overlay}
@@ -71,9 +71,9 @@ viewed : (base : LedgerMap) (k : LedgerKey) (o : Overlay) → Viewed base (k, o)
 viewed base k Same = refl
 viewed base k Gone = removed base k (find base k) refl
 viewed base k (Now kept) =
-    elim (is_kept (find base k) kept.value) as (λ b. is_kept (find base k) kept.value ≡ b → Viewed base (k, Now kept) (cond b None (Some (record { key = k; now = Some kept.value })))) [
-      | true ↦ λ p. kept_is (find base k) kept.value p
-      | false ↦ λ p. record { key-is = refl; now-is = refl; differs = not_kept (find base k) kept.value p }
+    elim (is_kept (find base k) (kept_in kept)) as (λ b. is_kept (find base k) (kept_in kept) ≡ b → Viewed base (k, Now kept) (cond b None (Some (record { key = k; now = Some (kept_in kept) })))) [
+      | true ↦ λ p. kept_is (find base k) (kept_in kept) p
+      | false ↦ λ p. record { key-is = refl; now-is = refl; differs = not_kept (find base k) (kept_in kept) p }
     ] refl
 
 -- ---- the order of the keys

@@ -65,6 +65,15 @@ written_kept n key entry live_until e fits hashed early lt =
     subst (λ (k : LedgerKey). IsKeptAt (key_bytes k) (record { entry = written n entry; live_until = live_until })) (sym e)
     (record { fits = written_fits n entry early fits; numbered = lt; keyed = refl; hashed = hashed })
 
+-- an entry stays at its key with another life
+pub kept_longer : (bytes : List ℕ) (old new : Kept) (life : ℕ) → IsKeptAt bytes old → new ≡ record old { live_until = life } → life < 2 ^ 32 → IsKeptAt bytes new
+kept_longer bytes old new life h e lt =
+    subst (IsKeptAt bytes) (sym e) (record { fits = h.fits; numbered = lt; keyed = h.keyed; hashed = h.hashed })
+
+-- the entry that an access finds
+pub found_there : (s : Stored) (key : LedgerKey) (kept : Kept) → live kept ≡ seen s.n s.map key → get s.map (key_bytes key) ≡ Some kept
+found_there s key kept e = (live_is s.n (get s.map (key_bytes key)) kept (sym e)).there
+
 pub fits_key : (key : LedgerKey) (entry : LedgerEntry) → key ≡ key_of entry → entry_format.fits entry → key_format.fits key
 fits_key key entry e h = rw e (key_of_fits entry h)
 

@@ -1,6 +1,5 @@
 -- Changes over a ground, and back.
 use Rattle.std.specs.Prelude.{is_some, cond}
-use Rattle.std.specs.Global.{Box}
 use Rattle.std.specs.List.{AllByRecursion}
 use Rattle.std.specs.Map.{lookup}
 use Rattle.std.specs.BTreeMap.{insert_entry, is_at}
@@ -20,7 +19,8 @@ use Rattle.ledger_types.proofs.Lemmas.{key_ranked}
 use Rattle.ledger_spec.specs.declared.Kept.{Kept}
 use Rattle.ledger_spec.specs.LedgerMap.{LedgerMap, key_bytes}
 use Rattle.contract_storage.specs.Layered.{history, set_at, with_write}
-use Rattle.contract_storage.specs.Overlays.{unboxed, overlay_of, over_entry, laid, over, before, past, layered, or_same, IsThere}
+use Rattle.contract_storage.specs.Overlays.{kept_in, overlay_of, over_entry, laid, over, before, past, layered, or_same, IsThere}
+use Rattle.contract_storage.specs.declared.layer.Shared.{Shared}
 use Rattle.contract_storage.specs.declared.layer.Overlay.{Overlay}
 use Rattle.contract_storage.specs.declared.layer.Undo.{Undo}
 
@@ -70,6 +70,9 @@ found g es k fits =
     ∙ ap (given (get g (ranked_key k))) (at_lookup k es)
     ∙ sym (over_gets g es (ranked_key k))
     ∙ ap (get (over g es)) (key_ranked k fits)
+
+pub one_kept : (a b : Kept) → Some a ≡ Some b → a ≡ b
+one_kept a b e = cc
 
 -- ---- a change more
 
@@ -162,13 +165,13 @@ pub past_length : (g m : LedgerMap) (us : List Undo) → length (past g m us) �
 past_length g m [] = refl
 past_length g m (u ∷ us) = ap suc (past_length g m us)
 
-after_change : (below : Option Kept) (now : Option (Box Kept)) → over_entry below (overlay_of now) ≡ option_map unboxed now
+after_change : (below : Option Kept) (now : Option Shared) → over_entry below (overlay_of now) ≡ option_map kept_in now
 after_change below None = refl
 after_change below (Some kept) = refl
 
-pub wrote : (g : LedgerMap) (es : List (LedgerKey × Overlay)) (us : List Undo) (k : LedgerKey) (now : Option (Box Kept)) → key_format.fits k
+pub wrote : (g : LedgerMap) (es : List (LedgerKey × Overlay)) (us : List Undo) (k : LedgerKey) (now : Option Shared) → key_format.fits k
     → layered g (insert_entry key_cmp es k (overlay_of now)) (us ++ record { key = k; before = or_same (lookup (is_at (key_cmp k)) es) } ∷ [])
-    ≡ with_write (layered g es us) (key_bytes k) (option_map unboxed now)
+    ≡ with_write (layered g es us) (key_bytes k) (option_map kept_in now)
 wrote g es us k now fits =
     let u : Undo = record { key = k; before = or_same (lookup (is_at (key_cmp k)) es) } in
     let c = overlay_of now in
@@ -177,7 +180,7 @@ wrote g es us k now fits =
     ap₂ (λ (x : LedgerMap) (y : List LedgerMap). record { base = g; map = x; past = y })
     (moved
     ∙ ap (set_at (over g es) (ranked_key k)) (after_change (get g (ranked_key k)) now)
-    ∙ ap (λ (b : List ℕ). set_at (over g es) b (option_map unboxed now)) (key_ranked k fits))
+    ∙ ap (λ (b : List ℕ). set_at (over g es) b (option_map kept_in now)) (key_ranked k fits))
     (ap (λ (x : LedgerMap). past g x (us ++ u ∷ [])) moved
     ∙ past_more g (laid g (over g es) k c) us u
     ∙ ap (λ (x : LedgerMap). past g x us ++ x ∷ []) back)
@@ -246,10 +249,10 @@ all_wrote es us k c b h = all_more (insert_entry key_cmp es k c) us (record { ke
 
 -- ---- the same with names for what the code has
 
-pub wrote_as : (g : LedgerMap) (es fs : List (LedgerKey × Overlay)) (us ws : List Undo) (k named again : LedgerKey) (now : Option (Box Kept)) (c b : Overlay) (o : Option Overlay) → key_format.fits k
+pub wrote_as : (g : LedgerMap) (es fs : List (LedgerKey × Overlay)) (us ws : List Undo) (k named again : LedgerKey) (now : Option Shared) (c b : Overlay) (o : Option Overlay) → key_format.fits k
     → named ≡ k → again ≡ k → c ≡ overlay_of now → b ≡ or_same o → o ≡ lookup (is_at (key_cmp named)) es
     → fs ≡ insert_entry key_cmp es named c → ws ≡ us ++ record { key = again; before = b } ∷ []
-    → layered g fs ws ≡ with_write (layered g es us) (key_bytes k) (option_map unboxed now)
+    → layered g fs ws ≡ with_write (layered g es us) (key_bytes k) (option_map kept_in now)
 wrote_as g es fs us ws k named again now c b o fits same_named same is was had e i =
     ap₂ (layered g)
     (e ∙ ap₂ (insert_entry key_cmp es) same_named is)

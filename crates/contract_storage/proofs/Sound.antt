@@ -1,6 +1,5 @@
 -- What is true of all overlays and undo records stays true.
 use Rattle.std.specs.Prelude.{cond, IfSome}
-use Rattle.std.specs.Global.{Box}
 use Rattle.std.specs.List.{AllByRecursion}
 use Rattle.std.specs.Map.{lookup}
 use Rattle.std.specs.BTreeMap.{insert_entry, is_at}
@@ -17,8 +16,9 @@ use Rattle.ledger_spec.specs.declared.Kept.{Kept}
 use Rattle.ledger_spec.specs.LedgerMap.{LedgerMap, key_bytes, IsKeptAt, IsLedgerMap}
 use Rattle.ledger_spec.proofs.Lemmas.{kept_at}
 use Rattle.entry_lookup.specs.Found.{kept_of}
-use Rattle.contract_storage.specs.Overlays.{overlay_of, or_same, IsThere, IsHeldAt, IsLaid, IsSound, undone}
+use Rattle.contract_storage.specs.Overlays.{kept_in, overlay_of, or_same, IsThere, IsHeldAt, IsLaid, IsSound, undone}
 use Rattle.entry_lookup.specs.declared.ground.Found.{Found}
+use Rattle.contract_storage.specs.declared.layer.Shared.{Shared}
 use Rattle.contract_storage.specs.declared.layer.Overlay.{Overlay}
 use Rattle.contract_storage.specs.declared.layer.Undo.{Undo}
 use Rattle.contract_storage.proofs.Laying.{order, antisymmetric, equal_from, all_less, all_still, all_wrote}
@@ -54,7 +54,7 @@ held_before : (es : List (LedgerKey × Overlay)) (k : LedgerKey) (o : Option Ove
 held_before es k None h f e = tt
 held_before es k (Some o) h f e = held_at es k o h f e
 
-held_now : (bytes : List ℕ) (now : Option (Box Kept)) → IfSome now (λ kept. IsKeptAt bytes kept.value) → IsHeldAt bytes (overlay_of now)
+held_now : (bytes : List ℕ) (now : Option Shared) → IfSome now (λ kept. IsKeptAt bytes (kept_in kept)) → IsHeldAt bytes (overlay_of now)
 held_now bytes None h = tt
 held_now bytes (Some kept) h = h
 
@@ -75,8 +75,8 @@ fewer : {X : Type 0} (P : X → Type 0) (xs : List X) (x : X) → AllByRecursion
 fewer P [] x h = (tt, h.0)
 fewer P (y ∷ xs) x h = let r = fewer P xs x h.1 in ((h.0, r.0), r.1)
 
-wrote_here : (es : List (LedgerKey × Overlay)) (us : List Undo) (k : LedgerKey) (now : Option (Box Kept)) (o : Option Overlay) → IsSound es us → key_format.fits k
-    → IfSome now (λ kept. IsKeptAt (key_bytes k) kept.value) → o ≡ lookup (is_at (key_cmp k)) es
+wrote_here : (es : List (LedgerKey × Overlay)) (us : List Undo) (k : LedgerKey) (now : Option Shared) (o : Option Overlay) → IsSound es us → key_format.fits k
+    → IfSome now (λ kept. IsKeptAt (key_bytes k) (kept_in kept)) → o ≡ lookup (is_at (key_cmp k)) es
     → IsSound (insert_entry key_cmp es k (overlay_of now)) (us ++ record { key = k; before = or_same o } ∷ [])
 wrote_here es us k now o s f kept e = record {
   there = all_wrote es us k (overlay_of now) (or_same o) s.there;
@@ -85,8 +85,8 @@ wrote_here es us k now o s f kept e = record {
 }
 
 -- a layer stays sound after a write
-pub wrote_sound : (es fs : List (LedgerKey × Overlay)) (us ws : List Undo) (k named again : LedgerKey) (now : Option (Box Kept)) (c b : Overlay) (o : Option Overlay) → IsSound es us
-    → key_format.fits k → IfSome now (λ kept. IsKeptAt (key_bytes k) kept.value) → named ≡ k → again ≡ k → c ≡ overlay_of now → b ≡ or_same o → o ≡ lookup (is_at (key_cmp named)) es
+pub wrote_sound : (es fs : List (LedgerKey × Overlay)) (us ws : List Undo) (k named again : LedgerKey) (now : Option Shared) (c b : Overlay) (o : Option Overlay) → IsSound es us
+    → key_format.fits k → IfSome now (λ kept. IsKeptAt (key_bytes k) (kept_in kept)) → named ≡ k → again ≡ k → c ≡ overlay_of now → b ≡ or_same o → o ≡ lookup (is_at (key_cmp named)) es
     → fs ≡ insert_entry key_cmp es named c → ws ≡ us ++ record { key = again; before = b } ∷ [] → IsSound fs ws
 wrote_sound es fs us ws k named again now c b o s f kept same_named same is was had e i =
     let at : o ≡ lookup (is_at (key_cmp k)) es = had ∙ ap (λ (q : LedgerKey). lookup (is_at (key_cmp q)) es) same_named in

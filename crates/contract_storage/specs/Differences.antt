@@ -11,6 +11,7 @@ use Rattle.ledger_types.specs.declared.key.LedgerKey.{LedgerKey}
 use Rattle.ledger_spec.specs.declared.Kept.{Kept}
 use Rattle.ledger_spec.specs.LedgerMap.{LedgerMap, find, key_bytes, IsKeptAt}
 use Rattle.contract_storage.specs.Layered.{set_at}
+use Rattle.contract_storage.specs.Overlays.{kept_in}
 use Rattle.contract_storage.specs.declared.layer.Overlay.{Overlay}
 use Rattle.contract_storage.specs.declared.layer.Overlay.TheVariants.{Same, Gone, Now}
 use Rattle.contract_storage.specs.declared.changes.Change.{Change}
@@ -50,8 +51,8 @@ removal key (Some found) = Some (record { key = key; now = None })
 abbrev pub difference : LedgerMap → LedgerKey × Overlay → Option Change
 difference base (key, Same) = None
 difference base (key, Gone) = removal key (find base key)
-difference base (key, Now kept) =
-    if is_kept (find base key) kept.value then None else Some (record { key = key; now = Some kept.value })
+difference base (key, Now shared) =
+    if is_kept (find base key) (kept_in shared) then None else Some (record { key = key; now = Some (kept_in shared) })
 
 -- the changes of all keys with overlays
 abbrev pub differences : LedgerMap → List (LedgerKey × Overlay) → List Change

@@ -1,6 +1,5 @@
 -- The writes that a layer keeps, as maps (own).
 use Rattle.std.specs.Prelude.{◌≡◌, ℕ, true, List, [], ◌∷◌, Option, Some, None, is_some}
-use Rattle.std.specs.Global.{Box}
 use Rattle.std.specs.List.{AllByRecursion}
 use Rattle.std.specs.Map.{lookup}
 use Rattle.std.specs.BTreeMap.{is_at}
@@ -11,24 +10,25 @@ use Rattle.ledger_types.specs.declared.key.LedgerKey.{LedgerKey}
 use Rattle.ledger_spec.specs.declared.Kept.{Kept}
 use Rattle.ledger_spec.specs.LedgerMap.{LedgerMap, key_bytes, IsKeptAt}
 use Rattle.contract_storage.specs.Layered.{Layered, set_at}
+use Rattle.contract_storage.specs.declared.layer.Shared.{Shared}
 use Rattle.contract_storage.specs.declared.layer.Overlay.{Overlay}
 use Rattle.contract_storage.specs.declared.layer.Overlay.TheVariants.{Same, Gone, Now}
 use Rattle.contract_storage.specs.declared.layer.Undo.{Undo}
 
--- the entry in a box
-abbrev pub unboxed : Box Kept → Kept
-unboxed kept = kept.value
+-- an entry that may be shared, with its live-until ledger
+abbrev pub kept_in : Shared → Kept
+kept_in shared = record { entry = shared.entry.value; live_until = shared.live_until }
 
 -- what a write of this entry leaves at its key
-abbrev pub overlay_of : Option (Box Kept) → Overlay
+abbrev pub overlay_of : Option Shared → Overlay
 overlay_of None = Gone
-overlay_of (Some kept) = Now kept
+overlay_of (Some shared) = Now shared
 
 -- the entry at a key, given the entry in the ground
 abbrev pub over_entry : Option Kept → Overlay → Option Kept
 over_entry below Same = below
 over_entry below Gone = None
-over_entry below (Now kept) = Some kept.value
+over_entry below (Now shared) = Some (kept_in shared)
 
 -- the map with one overlay
 abbrev pub laid : LedgerMap → LedgerMap → LedgerKey → Overlay → LedgerMap
@@ -66,7 +66,7 @@ IsThere es u = is_some (lookup (is_at (key_cmp u.key)) es) ≡ true
 abbrev pub IsHeldAt : List ℕ → Overlay → Type 0
 IsHeldAt bytes Same = Unit {0}
 IsHeldAt bytes Gone = Unit {0}
-IsHeldAt bytes (Now kept) = IsKeptAt bytes kept.value
+IsHeldAt bytes (Now shared) = IsKeptAt bytes (kept_in shared)
 
 -- a key within its XDR format, and its overlay
 pub record IsLaid (e : LedgerKey × Overlay) : Type 0 where

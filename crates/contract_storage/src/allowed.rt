@@ -1,31 +1,18 @@
 //! What an access that is allowed does to the entries. It notes nothing.
 
-ghost use Rattle.std.specs.Prelude.{◌≡◌, IfOk, nat_lt, false};
+ghost use Rattle.std.specs.Prelude.{◌≡◌, nat_lt, false};
 ghost use Rattle.ledger_types.specs.Key.{key_format};
 ghost use Rattle.ledger_types.specs.Entry.{entry_format, key_of as key_of_entry};
 ghost use Rattle.ledger_spec.specs.LedgerMap.{HasCodeHash};
-ghost use Rattle.entry_lookup.specs.Found.{kept_of};
 ghost use Rattle.contract_storage.specs.Acts.{Performs, puts, deletes, makes, extends};
 
 use crate::access::StoErr;
 use crate::sight::Sight;
 use crate::storage::Storage;
 use crate::watch::Watch;
-use entry_lookup::{Found, Ground};
-use ledger_spec::Kept;
+use entry_lookup::Ground;
 use ledger_types::{LedgerEntry, LedgerKey};
 use value_types::{ScError, ScErrorCode};
-use xdr_core::NoMemory;
-
-// Clones an entry that is found, with another live-until ledger.
-fn living_until(found: Found<'_>, live_until: u32) -> Result<Kept, NoMemory>
-    ensures { IfOk result (λ kept. kept ≡ record (kept_of found.entry) { live_until = live_until }) }
-{
-    Ok(Kept {
-        entry: found.entry.clone()?,
-        live_until,
-    })
-}
 
 impl<'a, G: Ground, W: Watch> Storage<'a, G, W> {
     /// Puts an entry at its key.
@@ -99,9 +86,9 @@ impl<'a, G: Ground, W: Watch> Storage<'a, G, W> {
         if !self.is_longer(found.live_until, threshold, life) {
             return Ok(());
         }
-        let Ok(kept) = living_until(found, life) else {
+        let Ok(now) = self.living_until(key, found, life) else {
             return Err(StoErr::NoMemory);
         };
-        self.settle(key, Some(kept))
+        self.settle(key, Some(now))
     }
 }

@@ -5,10 +5,10 @@ ghost use Rattle.std.specs.List.{AllByRecursion, cons_option};
 ghost use Rattle.ledger_types.specs.Key.{key_format};
 ghost use Rattle.entry_lookup.specs.Found.{kept_of};
 ghost use Rattle.std.specs.Option.{option_map};
-ghost use Rattle.contract_storage.specs.Overlays.{over as over_in, IsLaid};
+ghost use Rattle.contract_storage.specs.Overlays.{kept_in, over as over_in, IsLaid};
 ghost use Rattle.contract_storage.specs.Differences.{is_kept, difference, AreDifferences};
 
-use crate::layer::Overlay;
+use crate::layer::{Overlay, Shared};
 use entry_lookup::{Found, Ground};
 use ledger_spec::Kept;
 use ledger_types::LedgerKey;
@@ -24,22 +24,24 @@ pub struct Change {
 }
 
 // Clones an entry with its live-until ledger.
-fn clone_kept(kept: &Kept) -> Result<Kept, NoMemory>
-    ensures { IfOk result (λ clone. clone ≡ kept.now) }
+fn clone_kept(shared: &Shared) -> Result<Kept, NoMemory>
+    ensures { IfOk result (λ clone. clone ≡ kept_in shared.now) }
 {
     Ok(Kept {
-        entry: kept.entry.clone()?,
-        live_until: kept.live_until,
+        entry: shared.entry.as_ref().clone()?,
+        live_until: shared.live_until,
     })
 }
 
 // Tests whether the ground has this entry, with this live-until ledger.
-fn is_kept(found: Option<Found<'_>>, kept: &Kept) -> bool
-    ensures { result ≡ is_kept (option_map kept_of found.entry) kept.now }
+fn is_kept(found: Option<Found<'_>>, shared: &Shared) -> bool
+    ensures { result ≡ is_kept (option_map kept_of found.entry) (kept_in shared.now) }
 {
     match found {
         None => false,
-        Some(found) => found.live_until == kept.live_until && *found.entry == kept.entry,
+        Some(found) => {
+            found.live_until == shared.live_until && found.entry == shared.entry.as_ref()
+        }
     }
 }
 
@@ -60,11 +62,11 @@ fn change_of<G: Ground>(
             }
             None
         }
-        Overlay::Now(kept) => {
-            if is_kept(base.find(key), kept) {
+        Overlay::Now(shared) => {
+            if is_kept(base.find(key), shared) {
                 return Ok(None);
             }
-            Some(clone_kept(kept)?)
+            Some(clone_kept(shared)?)
         }
     };
     let key = key.clone()?;

@@ -1,6 +1,6 @@
 //! Writes over the entries of a ledger, and how to undo them.
 
-ghost use Rattle.std.specs.Prelude.{◌≡◌, ◌≤◌, ◌+◌, OnOk, OnErr, IfOk, IfSome, [], length, take};
+ghost use Rattle.std.specs.Prelude.{◌≡◌, ◌≤◌, ◌+◌, OnOk, OnErr, IfOk, IfSome, Some, [], length, take};
 ghost use Rattle.std.specs.Option.{option_map};
 ghost use Rattle.std.specs.BTreeMap.{insert_entry};
 ghost use Rattle.ledger_types.specs.KeyOrder.{key_cmp};
@@ -8,17 +8,24 @@ ghost use Rattle.ledger_types.specs.Key.{key_format};
 ghost use Rattle.ledger_spec.specs.LedgerMap.{find as find_in, key_bytes, IsKeptAt};
 ghost use Rattle.entry_lookup.specs.Found.{kept_of};
 ghost use Rattle.contract_storage.specs.Layered.{history, with_write};
-ghost use Rattle.contract_storage.specs.Overlays.{unboxed, overlay_of, or_same, IsThere};
+ghost use Rattle.contract_storage.specs.Overlays.{kept_in, overlay_of, or_same, IsThere};
 ghost use Rattle.contract_storage.specs.Differences.{AreDifferences};
 
 use crate::changes::{Change, changes_of};
 use entry_lookup::{Found, Ground};
-use ledger_spec::Kept;
-use ledger_types::LedgerKey;
+use ledger_types::{LedgerEntry, LedgerKey};
 use std::alloc::{AllocFailed, Global};
 use std::collections::BTreeMap;
 use std::marker::Model;
+use std::rc::Rc;
 use xdr_core::NoMemory;
+
+/// An entry with its live-until ledger. A longer life shares the entry with what it replaces, so that it copies none.
+#[derive(Drop)]
+pub(crate) struct Shared {
+    pub entry: Rc<LedgerEntry>,
+    pub live_until: u32,
+}
 
 /// The state of a key that was written.
 #[derive(Drop)]
@@ -28,7 +35,7 @@ pub(crate) enum Overlay {
     /// The key has no entry.
     Gone,
     /// The key has this entry.
-    Now(Box<Kept>),
+    Now(Shared),
 }
 
 /// How to undo a write: its key, with the state before.
@@ -95,16 +102,36 @@ impl<'a, G: Ground> Layer<'a, G> {
             Some(overlay) => match overlay {
                 Overlay::Same => find_below(self.base, key),
                 Overlay::Gone => None,
-                Overlay::Now(kept) => Some(found_of(kept)),
+                Overlay::Now(shared) => Some(found_of(shared)),
+            },
+        }
+    }
+
+    /// Shares the entry that was found at a key. Only an entry of the ground is cloned.
+    pub(crate) fn share(
+        &self,
+        alloc: Global,
+        key: &LedgerKey,
+        found: Found<'_>,
+    ) -> Result<Rc<LedgerEntry>, NoMemory>
+        requires fits { key_format.fits key.now }
+        requires there { find_in self.now.map key.now ≡ Some (kept_of found) }
+        ensures { IfOk result (λ entry. entry.value ≡ (kept_of found.entry).entry) }
+    {
+        match self.over.get(key) {
+            None => cloned(alloc, found.entry),
+            Some(overlay) => match overlay {
+                Overlay::Same | Overlay::Gone => cloned(alloc, found.entry),
+                Overlay::Now(shared) => Ok(shared.entry.clone()?),
             },
         }
     }
 
     /// Writes an entry at a key, or removes the entry there. Running out of memory changes nothing.
-    pub(crate) fn write(&mut self, key: &LedgerKey, now: Option<Box<Kept>>) -> Result<(), NoMemory>
+    pub(crate) fn write(&mut self, key: &LedgerKey, now: Option<Shared>) -> Result<(), NoMemory>
         requires fits { key_format.fits key.now }
-        requires kept { IfSome now (λ kept. IsKeptAt (key_bytes key.now) kept.value) }
-        ensures ok { OnOk result (self.new ≡ with_write self.old (key_bytes key.now) (option_map unboxed now)) }
+        requires kept { IfSome now (λ shared. IsKeptAt (key_bytes key.now) (kept_in shared)) }
+        ensures ok { OnOk result (self.new ≡ with_write self.old (key_bytes key.now) (option_map kept_in now)) }
         ensures err { OnErr result (self.new ≡ self.old) }
     {
         let named = key.clone()?;
@@ -147,12 +174,12 @@ impl<'a, G: Ground> Layer<'a, G> {
 }
 
 // Returns what a write of this entry leaves at its key.
-fn overlay_of(now: Option<Box<Kept>>) -> Overlay
+fn overlay_of(now: Option<Shared>) -> Overlay
     ensures { result ≡ overlay_of now }
 {
     match now {
         None => Overlay::Gone,
-        Some(kept) => Overlay::Now(kept),
+        Some(shared) => Overlay::Now(shared),
     }
 }
 
@@ -166,13 +193,20 @@ fn or_same(before: Option<Overlay>) -> Overlay
     }
 }
 
+// Clones an entry of the ground, so that it can be shared.
+fn cloned(alloc: Global, entry: &LedgerEntry) -> Result<Rc<LedgerEntry>, NoMemory>
+    ensures { IfOk result (λ clone. clone.value ≡ entry.now) }
+{
+    Ok(Rc::new(alloc, entry.clone()?)?)
+}
+
 // Borrows an entry.
-fn found_of(kept: &Kept) -> Found<'_>
-    ensures { kept_of result ≡ kept.now }
+fn found_of(shared: &Shared) -> Found<'_>
+    ensures { kept_of result ≡ kept_in shared.now }
 {
     Found {
-        entry: &kept.entry,
-        live_until: kept.live_until,
+        entry: shared.entry.as_ref(),
+        live_until: shared.live_until,
     }
 }
 

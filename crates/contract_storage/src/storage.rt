@@ -5,11 +5,12 @@ ghost use Rattle.std.specs.Prelude.{IsSomeAnd, true, false, OnOk, OnErr};
 ghost use Rattle.std.specs.Option.{option_map};
 ghost use Rattle.ledger_types.specs.Key.{key_format};
 ghost use Rattle.ledger_types.specs.Entry.{entry_format, key_of as key_of_entry};
-ghost use Rattle.ledger_spec.specs.LedgerMap.{key_bytes, IsKeptAt, HasCodeHash};
+ghost use Rattle.ledger_spec.specs.LedgerMap.{find, key_bytes, IsKeptAt, HasCodeHash};
+ghost use Rattle.entry_lookup.specs.Found.{kept_of};
 ghost use Rattle.ledger_spec.specs.Seen.{seen};
 ghost use Rattle.ledger_spec.specs.Changes.{asked_life, furthest as furthest_in, written as written_in};
 ghost use Rattle.contract_storage.specs.Layered.{set_at};
-ghost use Rattle.contract_storage.specs.Overlays.{unboxed};
+ghost use Rattle.contract_storage.specs.Overlays.{kept_in};
 ghost use Rattle.contract_storage.specs.Differences.{AreDifferences};
 ghost use Rattle.contract_storage.specs.Stored.{HasBounds, starting, with_map, with_touched, IsRestored};
 ghost use Rattle.contract_storage.specs.Footprint.{IsFootprint};
@@ -19,16 +20,17 @@ ghost use Rattle.contract_storage.specs.Acts.{sight_seen, life_of_put, IsSeenAt,
 use crate::access::{Access, StoErr};
 use crate::changes::Change;
 use crate::footprint::{allows, declared_keys};
-use crate::layer::Layer;
+use crate::layer::{Layer, Shared};
 use crate::sight::{Sight, sight_of};
 use crate::touched::{Touch, Touched};
 use crate::watch::{Moment, Outcome, Watch};
-use entry_lookup::Ground;
+use entry_lookup::{Found, Ground};
 use ledger_spec::{Kept, first_life, is_temporary};
 use ledger_types::{LedgerEntry, LedgerKey, Settings};
 use std::alloc::Global;
 use std::collections::BTreeMap;
 use std::marker::Model;
+use std::rc::Rc;
 use xdr_core::NoMemory;
 
 /// A snapshot of a storage.
@@ -129,14 +131,15 @@ fn outcome_of<T>(answer: &Result<T, StoErr>) -> Outcome {
     }
 }
 
-// Puts an entry into a box.
-fn boxed(alloc: Global, now: Option<Kept>) -> Result<Option<Box<Kept>>, NoMemory>
-    ensures { IfOk result (λ made. option_map unboxed made ≡ now) }
+// Makes an entry one that can be shared.
+fn shared(alloc: Global, kept: Kept) -> Result<Shared, NoMemory>
+    ensures { IfOk result (λ shared. kept_in shared ≡ kept) }
 {
-    match now {
-        None => Ok(None),
-        Some(kept) => Ok(Some(Box::new(alloc, kept)?)),
-    }
+    let Kept { entry, live_until } = kept;
+    Ok(Shared {
+        entry: Rc::new(alloc, entry)?,
+        live_until,
+    })
 }
 
 impl<'a, G: Ground, W: Watch> Storage<'a, G, W> {
@@ -295,6 +298,23 @@ impl<'a, G: Ground, W: Watch> Storage<'a, G, W> {
         sight_of(self.n, self.layer.find(key))
     }
 
+    /// Shares the live entry that was found at a key, with another live-until ledger. Only an entry of the ground is cloned.
+    pub(crate) fn living_until(
+        &self,
+        key: &LedgerKey,
+        found: Found<'_>,
+        live_until: u32,
+    ) -> Result<Shared, NoMemory>
+        requires fits { key_format.fits key.now }
+        requires there { find self.now.map key.now ≡ Some (kept_of found) }
+        ensures { IfOk result (λ shared. kept_in shared ≡ record (kept_of found.entry) { live_until = live_until }) }
+    {
+        Ok(Shared {
+            entry: self.layer.share(self.alloc, key, found)?,
+            live_until,
+        })
+    }
+
     /// Returns the live-until ledger of an entry that is put, or `None` if the key is archived.
     pub(crate) fn life_of_put(&self, key: &LedgerKey, entry: &LedgerEntry) -> Option<u32>
         requires { key_format.fits key.now }
@@ -345,20 +365,21 @@ impl<'a, G: Ground, W: Watch> Storage<'a, G, W> {
         ensures stays { OnErr result (self.new ≡ self.old) }
     {
         let kept = written(self.n, entry, live_until);
-        self.settle(key, Some(kept))
+        let Ok(now) = shared(self.alloc, kept) else {
+            return Err(StoErr::NoMemory);
+        };
+        self.settle(key, Some(now))
     }
 
     /// Writes an entry at a key, or removes the entry there.
-    pub(crate) fn settle(&mut self, key: &LedgerKey, now: Option<Kept>) -> Result<(), StoErr>
+    pub(crate) fn settle(&mut self, key: &LedgerKey, now: Option<Shared>) -> Result<(), StoErr>
         requires fits { key_format.fits key.now }
-        requires kept { IfSome now (IsKeptAt (key_bytes key.now)) }
-        ensures ok { OnOk result (self.new ≡ with_map self.old (set_at self.old.map (key_bytes key.now) now)) }
+        requires kept { IfSome now (λ shared. IsKeptAt (key_bytes key.now) (kept_in shared)) }
+        ensures ok { OnOk result (self.new ≡ with_map self.old
+            (set_at self.old.map (key_bytes key.now) (option_map kept_in now))) }
         ensures err { IfErr result (λ e. e ≡ StoErr.NoMemory) }
         ensures stays { OnErr result (self.new ≡ self.old) }
     {
-        let Ok(now) = boxed(self.alloc, now) else {
-            return Err(StoErr::NoMemory);
-        };
         match self.layer.write(key, now) {
             Ok(()) => Ok(()),
             Err(_) => Err(StoErr::NoMemory),

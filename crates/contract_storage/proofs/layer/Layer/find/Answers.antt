@@ -21,10 +21,10 @@ returns-in-Gone-clause-found g c =
 
 pub returns-in-Now-clause-found : goal.returns-in-Now-clause-found
 returns-in-Now-clause-found g c =
-    ap Some (c.found_of.ensures ∙ c.deref.ensures) ∙ ap (given _) (ap Some (sym c.in-Now.is) ∙ c.in-Some.ensures.value) ∙ found _ c.self.inside.over.entries c.args.key.now c.requires
+    ap Some c.found_of.ensures ∙ ap (given _) (ap Some (sym c.in-Now.is) ∙ c.in-Some.ensures.value) ∙ found _ c.self.inside.over.entries c.args.key.now c.requires
     ∙ ap (λ (s : Layered). get s.map (key_bytes c.args.key.now)) c.self.view_is
 
 pub returns-in-Now-clause-kept : goal.returns-in-Now-clause-kept
 returns-in-Now-clause-kept g c =
-    subst (λ (k : Kept). IsKeptAt (key_bytes c.args.key.now) k) (sym (c.found_of.ensures ∙ c.deref.ensures))
+    subst (λ (k : Kept). IsKeptAt (key_bytes c.args.key.now) k) (sym c.found_of.ensures)
     (held_at c.self.inside.over.entries c.args.key.now _ c.self.invariant.laid c.requires (ap Some (sym c.in-Now.is) ∙ c.in-Some.ensures.value))

@@ -1,13 +1,24 @@
-use Rattle.std.proofs.Common.{◌≡◌, ◌-◌, ◌&&◌, nat_lt, nat_le, true, false, rules}
+use Rattle.std.proofs.Common.{◌≡◌, ◌-◌, ◌&&◌, nat_lt, nat_le, true, false, Option, Some, subst, rules, arith}
+use Rattle.ledger_spec.specs.declared.Kept.{Kept}
+use Rattle.ledger_spec.specs.LedgerMap.{key_bytes}
 use Rattle.entry_lookup.specs.Found.{kept_of}
 use Rattle.contract_storage.specs.Acts.{extends}
-use Rattle.contract_storage.proofs.Doing.{does_settled, ext_longer, ext_stays}
+use Rattle.contract_storage.specs.Layered.{set_at}
+use Rattle.contract_storage.specs.Stored.{with_map}
+use Rattle.contract_storage.proofs.Doing.{does_settled, ext_longer, ext_stays, found_there, kept_longer}
 use Rattle.contract_storage.proofs.storage.Storage.extend_allowed.Goals as goal
 
 pub returns-then-not-is_longer : goal.returns-then-not-is_longer
 returns-then-not-is_longer g c =
     let no : (nat_lt c.in-Live.found.live_until c.in-Some.life && nat_le (c.in-Live.found.live_until - c.args.self.now.n) c.args.threshold) ≡ false = search rules in
     ext_stays c.args.self.now c.args.key.now c.args.threshold c.args.extend_to c.in-Some.life (kept_of c.in-Live.found) c.requires.unless_backward c.in-Live.ensures.seen c.in-Some.ensures no
+
+pub living_until-requires-clause-there : goal.living_until-requires-clause-there
+living_until-requires-clause-there g c = found_there c.args.self.now c.args.key.now (kept_of c.in-Live.found) c.in-Live.ensures.seen
+
+pub settle-requires-clause-kept : goal.settle-requires-clause-kept
+settle-requires-clause-kept g c =
+    kept_longer (key_bytes c.args.key.now) (kept_of c.in-Live.found) _ c.in-Some.life c.in-Live.ensures.kept c.in-Ok.ensures (omega arith)
 
 pub returns : goal.returns
 returns g c =

@@ -1,4 +1,4 @@
-use Rattle.std.proofs.Common.{arith, sym, subst}
+use Rattle.std.proofs.Common.{◌∙◌, arith, sym, subst}
 use Rattle.ledger_spec.specs.declared.Kept.{Kept}
 use Rattle.ledger_spec.specs.LedgerMap.{key_bytes, IsKeptAt}
 use Rattle.contract_storage.proofs.Doing.{fits_key, written_kept}
@@ -9,5 +9,5 @@ settle-requires-clause-fits g c = fits_key c.args.key.now c.args.entry c.require
 
 pub settle-requires-clause-kept : goal.settle-requires-clause-kept
 settle-requires-clause-kept g c =
-    subst (λ (k : Kept). IsKeptAt (key_bytes c.args.key.now) k) (sym c.written-kept.ensures)
+    subst (λ (k : Kept). IsKeptAt (key_bytes c.args.key.now) k) (sym (c.in-Ok.ensures ∙ c.written-kept.ensures))
     (written_kept _ c.args.key.now c.args.entry _ c.requires.key c.requires.fits c.requires.hashed (omega arith) (omega arith))
