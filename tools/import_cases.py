@@ -312,11 +312,14 @@ def write_links(table, listed):
 def main():
     listed = list(functions())
     assert sorted([*CALLS, *IN_TRANSACTIONS]) == sorted(name for _, name, _, _ in listed)
-    if sys.argv[1] == "--swapped":
-        with open(sys.argv[2], "w") as table:
+    only_swapped, words = sys.argv[1:2] == ["--swapped"], [word for word in sys.argv[1:] if word != "--swapped"]
+    if len(words) != 1 or words[0].startswith("-"):
+        sys.exit(__doc__)
+    if only_swapped:
+        with open(words[0], "w", encoding="utf-8") as table:
             table.write(prepared() + "".join(swapped(listed)))
         return
-    with open(sys.argv[1], "w") as table:
+    with open(words[0], "w", encoding="utf-8") as table:
         table.write(HEAD)
         table.write(f"interface => {len(listed)} functions\n")
         for letter, name, arguments, result in listed:
