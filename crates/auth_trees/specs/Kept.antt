@@ -13,7 +13,7 @@ use Rattle.auth_trees.specs.Listed.{Spot, spots}
 use Rattle.auth_trees.specs.Flat.{authoriser}
 use Rattle.auth_trees.specs.Ready.{IsReady, IsCurrent}
 
--- ---- how the logic stores pairs and the state
+-- ---- how the logic stores the state
 
 abbrev pub marked_code : Coded AuthEntry → Coded AccountId → Coded Marked
 marked_code e a =

@@ -20,7 +20,7 @@ use Rattle.contract_storage.specs.Acts.{Act, Performs, changed, puts, deletes, l
 use Rattle.entry_lookup.specs.declared.ground.Found.{Found}
 use Rattle.contract_storage.specs.declared.access.StoErr.{StoErr}
 use Rattle.contract_storage.specs.declared.access.StoErr.TheVariants as err
-use Rattle.contract_storage.proofs.Laying.{put_again}
+use Rattle.contract_storage.proofs.Laying.{one_kept, put_again}
 
 pub later : (old new : Stored) (m : LedgerMap) → new ≡ with_map old m → IsLater old new
 later old new m e = record { same = subst (λ (x : Stored). x ≡ with_history old x) (sym e) refl; later = (m ∷ [], ap history e) }
@@ -47,11 +47,8 @@ pub seen_kept : (n : ℕ) (bytes : List ℕ) (o : Option Found) (w : Seen) → w
 seen_kept n bytes None w e h = subst (IsSeenAt bytes) (sym e) tt
 seen_kept n bytes (Some f) w e h = subst (IsSeenAt bytes) (sym e) (of_some (seen_of n (Some (kept_of f))) refl)
   where
-    some_kept : (a b : Kept) → Some a ≡ Some b → a ≡ b
-    some_kept a b e = cc
-
     of_some : (s : Seen) → seen_of n (Some (kept_of f)) ≡ s → IsSeenAt bytes s
-    of_some (live kept) e = subst (IsKeptAt bytes) (some_kept (kept_of f) kept (live_is n (Some (kept_of f)) kept e).there) h
+    of_some (live kept) e = subst (IsKeptAt bytes) (one_kept (kept_of f) kept (live_is n (Some (kept_of f)) kept e).there) h
     of_some absent e = tt
     of_some archived e = tt
 
@@ -151,7 +148,7 @@ pub ext_stays : (s : Stored) (key : LedgerKey) (t e life : ℕ) (kept : Kept) �
 ext_stays s key t e life kept f is asked is_not = (
   ext_live s key t e life kept f is asked
       ∙ ap (λ (b : Bool). (Ok tt, insert s.map (key_bytes key) (cond b (record kept { live_until = life }) kept))) is_not
-      ∙ ap (λ (m : LedgerMap). (Ok tt, m)) (put_again s.map (key_bytes key) kept (live_is s.n (get s.map (key_bytes key)) kept (sym is)).there),
+      ∙ ap (λ (m : LedgerMap). (Ok tt, m)) (put_again s.map (key_bytes key) kept (found_there s key kept is)),
   unchanged s,
   refl,
 )

@@ -20,7 +20,8 @@ use std::marker::Model;
 use std::rc::Rc;
 use xdr_core::NoMemory;
 
-/// An entry with its live-until ledger. A longer life shares the entry with what it replaces, so that it copies none.
+/// An entry with its live-until ledger. A longer life shares the entry with what it replaces. Only the first extension of an
+/// entry of the ground copies it.
 #[derive(Drop)]
 pub(crate) struct Shared {
     pub entry: Rc<LedgerEntry>,
