@@ -9,7 +9,7 @@ set -eu
 cd "$(dirname "$0")"
 program=${SOROBAN:-$PWD/../crates/soroban_cmd/out/soroban_cmd}
 parts=$PWD/token
-[ -x "$program" ] || { echo "there is no program yet: examples/run.sh builds it" >&2 && exit 1; }
+[ -x "$program" ] || { echo "there is no program yet: examples/run.sh builds it, or SOROBAN names another one" >&2 && exit 1; }
 if command -v clang >/dev/null && command -v wasm-ld >/dev/null; then
     sh build.sh token || echo 'This goes on with token.hex.'
 fi

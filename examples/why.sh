@@ -6,7 +6,7 @@
 set -eu
 cd "$(dirname "$0")"
 why=${SOROBAN_WHY:-$PWD/../crates/soroban_why/out/soroban_why}
-[ -x "$why" ] || { echo "there is no soroban_why yet: python3 tools/prove.py soroban_why builds it" >&2 && exit 1; }
+[ -x "$why" ] || { echo "there is no soroban_why yet: python3 tools/prove.py soroban_why builds it, or SOROBAN_WHY names another one" >&2 && exit 1; }
 folder=$(mktemp -d)
 trap 'rm -rf "$folder"' EXIT
 KEEP=$folder sh token.sh >"$folder/output"

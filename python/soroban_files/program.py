@@ -100,7 +100,8 @@ class Program:
         self.path = path_of(path)
         if not is_there(path):
             raise NoProgram(
-                f"there is no program at {self.path}: build it with examples/run.sh, or name it in {VARIABLE}"
+                f"there is no executable program at {self.path}: examples/unproved.sh --keep FILE builds one in about a minute, "
+                f"and examples/run.sh proves one; {VARIABLE} names it"
             )
 
     def run(self, words: List[str], files: Dict[str, bytes], path: Optional[str] = None) -> Ran:
@@ -157,7 +158,9 @@ class Program:
     def told(self, words: List[str], files: Dict[str, bytes]) -> str:
         """Returns what soroban_why says. Raises `NoProgram` if it is not there."""
         if not can_tell_why():
-            raise NoProgram(f"there is no program at {why_path()}: build it, or name it in {VARIABLE_WHY}")
+            raise NoProgram(
+                f"there is no executable program at {why_path()}: tools/prove.py soroban_why proves it; {VARIABLE_WHY} names it"
+            )
         return self.done(words, files, why_path()).said
 
     def why_at(

@@ -5,7 +5,7 @@ Ed25519 is that of the package `cryptography`, which is imported when a key is f
 from __future__ import annotations
 
 import hashlib
-from typing import Any, Dict, List, NamedTuple, Optional, Sequence, Tuple
+from typing import Any, Dict, List, NamedTuple, Optional, Sequence, Set, Tuple
 
 from . import envelopes, hashes, ledgers, schema, strkey
 from .program import Program, Simulated
@@ -130,6 +130,12 @@ def sign_entry(entry: Json, network: str, key: Key) -> Json:
     return {**entry, "credentials": {"address": credentials}}
 
 
+def signers_of(envelope: Json) -> Set[str]:
+    """Returns the addresses that sign authorisation entries of an envelope."""
+    credentials = [entry["credentials"] for entry in envelopes.auth_entries(envelope)]
+    return {given["address"]["address"] for given in credentials if given != "source_account"}
+
+
 def sign_entries(envelope: Json, network: str, *keys: Key) -> Json:
     """Returns an envelope whose entries of the accounts of these keys are signed. Its own signatures go if one was changed."""
     by_address = {key.address: key for key in keys}
@@ -200,6 +206,8 @@ def signature_fault(signature: Json, public_key: bytes, payload: str) -> str:
 
     The key has to be among those that sign, and all signatures have to be good.
     """
+    if signature == "void":
+        return "it is not signed"
     parts = signature_parts(signature)
     if parts is None:
         return "the signature has another shape than [{public_key: BYTES, signature: BYTES}, ..] with rising keys"

@@ -58,8 +58,10 @@ def ledger_key_of(word: str) -> Json:
     """Returns the ledger key of a contract's instance (C..), of a code (64 hex digits), or of JSON."""
     if word.startswith("{"):
         return from_json(word.encode())
-    if re.fullmatch("[0-9a-f]{64}", word):
-        return envelopes.code_key(word)
+    if re.fullmatch("[0-9a-fA-F]{64}", word):
+        return envelopes.code_key(word.lower())
+    if not word.startswith("C"):
+        raise ValueError(f"{word!r} is no key: name a contract (C..), the hash of a code (64 hex digits), or a key as JSON")
     strkey.decode(word, "C")
     return envelopes.instance_key(word)
 
@@ -180,7 +182,10 @@ def do_record(words: argparse.Namespace) -> int:
     files = (envelopes.xdr(envelope), schema.write(schema.LEDGER, ledger))
     recorded = Program(words.program).record(*files, close_time_of(words, ledger), nonce, words.until)
     if recorded.caught:
-        print("a demand came in a call whose failure was caught: it may fail in another way with entries", file=sys.stderr)
+        warn("a demand came in a call whose failure was caught: it may fail in another way with entries")
+    given = envelopes.auth_entries(envelope)
+    if given and not recorded.entries:
+        warn(f"no demand was found, or nothing ran: {len(given)} entries were removed; simulate the envelope to see why")
     command.write_envelope(words.out, wallet.with_entries(envelope, recorded.entries))
     return 0
 
@@ -199,7 +204,12 @@ def do_sign(words: argparse.Namespace) -> int:
 
 
 def do_sign_entries(words: argparse.Namespace) -> int:
-    signed = wallet.sign_entries(envelope_in(words), network_of(words), *map(key_of, words.key))
+    envelope, keys = envelope_in(words), [key_of(word) for word in words.key]
+    signers = wallet.signers_of(envelope)
+    for key in keys:
+        if key.address not in signers:
+            warn(f"no entry is of {key.address}: nothing is signed with its key")
+    signed = wallet.sign_entries(envelope, network_of(words), *keys)
     command_module().write_envelope(words.out, signed)
     return 0
 
@@ -234,6 +244,11 @@ def do_set(words: argparse.Namespace) -> int:
     data = schema.write(schema.SET, envelopes.parallel_set(stages, words.previous))
     command.write_file(words.out, data)
     return 0
+
+
+def warn(text: str) -> None:
+    """Prints a warning on the standard error."""
+    print(text, file=sys.stderr)
 
 
 def envelope_in(words: argparse.Namespace) -> Json:

@@ -169,7 +169,14 @@ class CommandTest(unittest.TestCase):
             "--out",
             self.path("entries"),
         ]
+        unsigned = self.good("wallet", "verify", self.path("call"), "--network", "Test", "--out", self.path("verdicts"))
+        self.assertRegex(unsigned, f"bad  {address} signs [0-9a-f]+: it is not signed")
         self.good(*entry)
+        other = self.good("wallet", "key", "name:bob").split()[1]
+        self.assertEqual(
+            self.run_it(*entry, "--key", "name:bob"),
+            (0, "", f"no entry is of {other}: nothing is signed with its key\n"),
+        )
         self.good(
             "wallet", "sign", self.path("entries"), "--network", "Test", "--key", ALICE, "--out", self.path("signed")
         )
@@ -191,6 +198,16 @@ class CommandTest(unittest.TestCase):
         self.good("wallet", "bump", self.path("signed"), "--source", address, "--out", self.path("bump"))
         bump = json.loads(self.good("decode", "envelope", self.path("bump")))
         self.assertEqual(len(bump["tx_fee_bump"]["tx"]["inner_tx"]["tx"]["signatures"]), 1)
+
+    def test_extended_keys(self) -> None:
+        """The hash of a code may have capitals; what is no key is named."""
+        words = ["wallet", "extend", "500", "--source", ACCOUNT, "--out", self.path("sent")]
+        self.good(*words, "AB" * 32)
+        footprint = decode("envelope", self.get("sent"))["tx"]["tx"]["ext"]["v1"]["resources"]["footprint"]
+        self.assertEqual(footprint["read_only"], [envelopes.code_key("ab" * 32)])
+        status, _, errors = self.run_it(*words, "zzz")
+        self.assertEqual(status, 1)
+        self.assertIn("'zzz' is no key: name a contract (C..)", errors)
 
     @unittest.skipUnless(wallet.has_cryptography() and is_there(), "the package cryptography or the program is missing")
     def test_fill(self) -> None:
@@ -247,6 +264,13 @@ class CommandTest(unittest.TestCase):
         self.good(*transfer, *out)
         self.good("wallet", "record", sent, "--ledger", self.path("ledger-103"), "--until", "200", "--nonce", "7", *out)
         self.assertEqual(self.get("sent"), self.get("by-hand"))
+        record = ["wallet", "record", self.path("by-hand"), "--ledger", self.path("ledger-103"), "--until", "99"]
+        mint = self.good("wallet", "call", token, "balance", alice, "--source", admin, *by_hand, "--out", self.path("ask"))
+        self.assertEqual(mint, "")
+        record[2] = self.path("ask")
+        status, _, errors = self.run_it(*record, "--out", self.path("asked"))
+        self.assertEqual((status, errors.split(":")[0]), (0, "no demand was found, or nothing ran"))
+        self.assertEqual(envelopes.auth_entries(decode("envelope", self.get("asked"))), [])
         self.good("wallet", "sign-entries", sent, "--key", ALICE, "--ledger", self.path("ledger-103"), *out)
         found = self.close(sent, 103)
         self.assertIn("= 25_u64, live until", found)
@@ -306,12 +330,12 @@ class CommandTest(unittest.TestCase):
         ledger, tx_set = self.put("l", self.ledger(records=[])), self.put(
             "s", encode("set", envelopes.parallel_set([]))
         )
-        report = self.put("r", encode("report", []))
-        page = self.good("explore", ledger, tx_set, report, ledger, "--names", self.put("n", b'{"G": "alice"}'))
+        report, after = self.put("r", encode("report", [])), self.put("a", self.ledger(records=[], seq=101))
+        page = self.good("explore", ledger, tx_set, report, after, "--names", self.put("n", b'{"G": "alice"}'))
         self.assertIn("No entry changed.", page)
         for text in (b"[]", b'{"G": 5}', b"{"):
             status, said, errors = self.run_it(
-                "explore", ledger, tx_set, report, ledger, "--names", self.put("n", text)
+                "explore", ledger, tx_set, report, after, "--names", self.put("n", text)
             )
             self.assertEqual((status, said), (1, ""))
             self.assertNotEqual(errors, "")

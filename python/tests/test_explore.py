@@ -138,6 +138,14 @@ class PageTest(WorldTest):
         with self.assertRaises(ValueError):
             page(closed.before, closed.tx_set, bytes(4), closed.after)
 
+    def test_other_ledger(self) -> None:
+        """The second ledger has to follow the first one."""
+        from soroban_files.explore import page
+
+        closed = self.world.closed or self.closed_of_a_call()
+        with self.assertRaisesRegex(ValueError, "the ledger after has the number .*, and .* is due"):
+            page(closed.before, closed.tx_set, closed.report, closed.before)
+
     def closed_of_a_call(self) -> Any:
         self.world.upload(TOKEN)
         return self.world.closed

@@ -40,7 +40,7 @@ def page_of(
     names: Optional[Dict[str, str]] = None,
     log: Optional[Json] = None,
 ) -> str:
-    """Returns the page of four files as JSON. Raises `ValueError` if the report is not that of the set.
+    """Returns the page of four files as JSON. Raises `ValueError` if a file does not belong to the others.
 
     `theme` is `light` or `dark`; by default the reader's own. `names` has what to call addresses, by their strkeys. With the
     change log, the page shows what each transaction and each end of a stage changed. Raises `Unfit` if the log does not fit.

@@ -77,8 +77,12 @@ class ClosedLedger(NamedTuple):
 def closed_ledger(before: Json, tx_set: Json, report: Json, after: Json, log: Optional[Json] = None) -> ClosedLedger:
     """Returns the view of four files, and of a change log if there is one.
 
-    Raises `ValueError` if the report is not that of the set, and `Unfit` if the log does not fit.
+    Raises `ValueError` if the second ledger does not follow the first one or the report is not that of the set, and `Unfit` if
+    the log does not fit.
     """
+    due, number = ledgers.body(before)["seq"] + 1, ledgers.body(after)["seq"]
+    if log is None and number != due:
+        raise ValueError(f"the ledger after has the number {number}, and {due} is due")
     network = ledgers.body(before)["network_id"]
     difference = diff.difference(before, after)
     changed = keys_changed(difference)
