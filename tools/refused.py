@@ -32,6 +32,7 @@ CASES = [
     ("an upload, a create and a call", "calls_auth_creates.txt", "# one cluster: F is uploaded"),
     ("`bump` on 41", "calls.txt", "## `bump` on 41 takes"),
     ("a simulation", "simulate.txt", "## functions and footprints"),
+    ("two clusters by three workers", "calls_shared.txt", "# in two clusters, each with both contracts"),
     ("two clusters by a schedule", "schedules.txt", "file order 00000001 00000004 00000000 00000000 00000001"),
     ("a set of one envelope", "build.txt", "## one envelope"),
     ("a set with its log", "log.txt", "## an entry is altered twice by each of two clusters"),
