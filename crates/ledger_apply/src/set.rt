@@ -342,7 +342,7 @@ pub fn apply_set<'a, R: Threads + Sync, T: Gate + Sync>(
 }
 
 /// Applies a set to a ledger as `apply_set` does, and also returns the change log. Played on the old ledger, the log gives the
-/// new one, and backwards the old one. Before each transaction, the entries at its read-write keys are copied.
+/// new one, and backwards the old one. Each transaction's changes are logged before they are made.
 pub fn apply_logged<'a, R: Threads + Sync, T: Gate + Sync>(
     rt: &R,
     alloc: Global,

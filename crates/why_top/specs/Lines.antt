@@ -1,4 +1,4 @@
--- The exit code and the line of each refusal (own). They are those of the program `soroban`.
+-- The exit code and the line of each refusal (own). Where `soroban_cmd` has the same refusal, they are its own.
 use Rattle.std.specs.Prelude.{ℕ, List, ◌++◌, codes, decimal, string_bytes}
 use Rattle.hex.specs.Hex.{encode_lower}
 use Rattle.ledger_spec.specs.declared.LedgerWhy.{LedgerWhy}
