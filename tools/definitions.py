@@ -18,6 +18,7 @@ BLOCK = re.compile(r"(?:abbrev |unfoldable )*mutual$|module _")
 # `--trust` begins with the definitions of this page, and with the public contracts of the crates that docs/TRUST.md names.
 OUTPUTS = ("apply_spec", "Outputs")
 USE = re.compile(r"(?:pub |ghost )?use Rattle\.(\w+)\.specs\.(\w+)(?:\.\{(.*)\}| as (\w+));?$")
+PASSED = re.compile(r"^pub use Rattle\.(\w+)\.specs\.(\w+)$", re.M)
 BEGIN = re.compile(r"(?:abbrev |unfoldable |pub )*(?:record |data )?(\S+?) *(?:[({].*)?:(?: |$)")
 CONSTRUCTOR = re.compile(r"  (?:pub )?(\S+) :")
 WORD = re.compile(r"[^\s(){}\[\];,«»]+")
@@ -144,6 +145,20 @@ def read_pages():
     return {(crate, file.stem): Definitions(file) for crate, file in files if file.name != "Lib.antt"}
 
 
+def passed_on():
+    """Returns the page behind each name under which a crate passes on a page of a crate below."""
+    libs = {crate: TOP / "crates" / crate / "specs" / "Lib.antt" for crate in crates()}
+    found = {crate: PASSED.findall(file.read_text(encoding="utf-8")) for crate, file in libs.items() if file.exists()}
+    return {(crate, page): (other, page) for crate, rows in found.items() for other, page in rows}
+
+
+def home(key, passed):
+    """Returns the page that a name leads to."""
+    while key in passed:
+        key = passed[key]
+    return key
+
+
 def exported(crate):
     """Returns the names that the crate's lib.rt makes public."""
     lib = (TOP / "crates" / crate / "src" / "lib.rt").read_text(encoding="utf-8")
@@ -180,9 +195,10 @@ def cited_by_contracts(crate):
 
 def reached(roots, pages):
     """Returns the pages that the roots reach, each with a definition there and what cites it."""
-    seen, found, waiting = set(), {}, [(root, "a contract") for root in roots]
+    seen, found, waiting, passed = set(), {}, [(root, "a contract") for root in roots], passed_on()
     while waiting:
         (key, name), by = waiting.pop()
+        key = home(key, passed)
         if key not in pages:
             continue
         page = pages[key]

@@ -25,14 +25,14 @@ use Rattle.call_spec.specs.Calling.{restored, undone}
 use Rattle.call_spec.specs.HostFunctions.{MOST_FRAMES, opener_of}
 use Rattle.call_spec.specs.Entering.{entering}
 use Rattle.call_spec.specs.WholeRuns.{Work, arguments_in, does, meter_of, start_of, all_allowed, done_under}
-use Rattle.contract_call.specs.Worlds.{authority_of, world_around}
-use Rattle.contract_call.specs.Ended.{IsEnd}
-use Rattle.contract_call.specs.declared.host.Host.{Host}
+use Rattle.tx_apply.specs.Worlds.{authority_of, world_around}
+use Rattle.tx_apply.specs.Ended.{IsEnd}
+use Rattle.tx_apply.specs.Host.{Host}
 use Rattle.xdr_core.specs.declared.error.NoMemory.{NoMemory}
 use Rattle.host_spec.specs.declared.error.ValueErr.{ValueErr}
 use Rattle.host_spec.specs.declared.error.ValueErr.TheVariants as errs
-use Rattle.auth_parts.specs.Entering.{with_meter, Passes, Stops, Enters}
-use Rattle.host_ledger.specs.Traced.{IsRecorded}
+use Rattle.tx_apply.specs.Entering.{with_meter, Passes, Stops, Enters}
+use Rattle.tx_apply.specs.Traced.{IsRecorded}
 use Rattle.tx_apply.specs.Running.{charging, EndsChargedRecorded}
 use Rattle.tx_apply.specs.Recording.{ran_out}
 use Rattle.record_spec.specs.Trees.{Terms, entries_of}

@@ -18,7 +18,7 @@ use Rattle.call_spec.specs.World.{Env}
 use Rattle.call_spec.specs.Acts.{Out, after}
 use Rattle.call_spec.specs.HostFunctions.{MOST_FRAMES, opener_of}
 use Rattle.call_spec.specs.WholeRuns.{Work, does, start_of, all_allowed}
-use Rattle.auth_parts.specs.Entering.{with_meter}
+use Rattle.tx_apply.specs.Entering.{with_meter}
 use Rattle.tx_apply.specs.Running.{charging}
 use Rattle.auth_record.specs.declared.record.Recorded.{Recorded as Recorded'}
 use Rattle.record_spec.specs.Trees.{Terms, entries_of}

@@ -7,3 +7,4 @@ mod spelled;
 mod trees;
 
 pub use record::{Recorded, record_auth, record_auth_with};
+pub use tx_apply::{Simulated, simulate};

@@ -82,7 +82,7 @@ accesses_steps r view act old new meter h env serves w i j =
 
 -- a later storage serves the same environments
 pub serves_later : (env : Env) (old new : Stored) → IsLater old new → Serves env old → Serves env new
-serves_later env old new later serves = subst (λ (s : Stored). Serves env s) (sym later.same) (record { number = serves.number; lives = serves.lives; judge = serves.judge })
+serves_later env old new later serves = subst (λ (s : Stored). Serves env s) (sym later) (record { number = serves.number; lives = serves.lives; judge = serves.judge })
 
 pub steps_stop : {A B C D : Type 0} (view : A → B) (view' : C → D) (e : HostErr) (act : Env → Act B) (next : Env → B → Act D) (old new : Stored) (before after' : Meter)
     → (let r : Result A HostErr = Err e in Steps r view act old new before after') → (let q : Result C HostErr = Err e in Steps q view' (λ env. after (act env) (next env)) old new before after')

@@ -143,7 +143,7 @@ module _ (effect : Env → Option Kept → Effect (Unit {0})) (error : ScError) 
       (sym (make_is (effect env) error entry life env old w (makes env serves) serves (key_of_fits entry fits) i ∙ ap (λ (p : Result Bool StoErr × Left). at_make error p.0 p.1.0 entry w) h.0))
       (subst (λ (n : ℕ). Says q (λ u. u) (paying ValSer n (sets (with_entries new.map) tt) at) (leaving old new w.trace (λ trace. record w { entries = new.map; trace = trace; meter = after' }))) sized
       (afterwards q (λ (u : Unit {0}). u) (paying ValSer size (sets (with_entries new.map) tt) at) old new w.trace at (λ trace. record w { entries = new.map; trace = trace; meter = after' })
-      (tells_access old new Write (key_of entry) w.meter.used w.trace (ap (λ (s : Stored). s.declared) h.1.same) (made_touched (Ok true) entry life old (left new) h.0)) (paid_set q size before after' paid spent at new.map j)))
+      (tells_access old new Write (key_of entry) w.meter.used w.trace (ap (λ (s : Stored). s.declared) h.1) (made_touched (Ok true) entry life old (left new) h.0)) (paid_set q size before after' paid spent at new.map j)))
 
   pub make_paid : (b : Bool) (q : Result (Unit {0}) HostErr) (key : LedgerKey) (size : ℕ) (old new : Stored) (before after' : Meter) → AllMake effect error entry life old → key_of entry ≡ key → size ≡ entry_size entry
       → entry_format.fits entry → b ≡ true → Does (make_act entry life) (Ok b) old new → Charges q (λ u. u) (lift (values.charged ValSer size)) before after' → IfErr q (λ e. e ≡ ends.Spent)
@@ -160,7 +160,7 @@ module _ (effect : Env → Option Kept → Effect (Unit {0})) (error : ScError) 
       let same = unmade (admits old.declared kinds.Write (key_of entry)) (seen old.n old.map (key_of entry)) old.n entry life old (left new) h.0 in
       subst (λ (out : Out (Unit {0})). Says q (λ u. u) out (leaving old new w.trace (λ trace. record w { entries = new.map; trace = trace; meter = meter })))
       (sym (make_is (effect env) error entry life env old w (makes env serves) serves (key_of_fits entry fits) i ∙ ap (λ (p : Result Bool StoErr × Left). at_make error p.0 p.1.0 entry w) h.0))
-      (tells_access old new Write (key_of entry) w.meter.used w.trace (ap (λ (s : Stored). s.declared) h.1.same) (made_touched (Ok false) entry life old (left new) h.0), rw (← same, ← i, ← j) refl)
+      (tells_access old new Write (key_of entry) w.meter.used w.trace (ap (λ (s : Stored). s.declared) h.1) (made_touched (Ok false) entry life old (left new) h.0), rw (← same, ← i, ← j) refl)
 
   pub make_there : (b : Bool) (key : LedgerKey) (old new : Stored) (meter : Meter) → AllMake effect error entry life old → key_of entry ≡ key → entry_format.fits entry → b ≡ false → Does (make_act entry life) (Ok b) old new
       → (let q : Result (Unit {0}) HostErr = Err (ends.Failed error) in Steps q (λ u. u) (λ env. access env Write key (effect env)) old new meter meter)

@@ -129,7 +129,7 @@ put_paid q key entry size old new before after' k sized fits h paid spent env se
     (sym (put_is env entry old w serves (key_of_fits entry fits) i ∙ ap (λ (p : Result (Unit {0}) StoErr × Left). at_put p.0 p.1.0 entry w) h.0))
     (subst (λ (n : ℕ). Says q (λ u. u) (paying ValSer n (sets (with_entries new.map) tt) at) (leaving old new w.trace (λ trace. record w { entries = new.map; trace = trace; meter = after' }))) sized
     (afterwards q (λ (u : Unit {0}). u) (paying ValSer size (sets (with_entries new.map) tt) at) old new w.trace at (λ trace. record w { entries = new.map; trace = trace; meter = after' })
-    (tells_access old new Write (key_of entry) w.meter.used w.trace (ap (λ (s : Stored). s.declared) h.1.same) (put_touched (Ok tt) entry old (left new) h.0)) (paid_set q size before after' paid spent at new.map j))))
+    (tells_access old new Write (key_of entry) w.meter.used w.trace (ap (λ (s : Stored). s.declared) h.1) (put_touched (Ok tt) entry old (left new) h.0)) (paid_set q size before after' paid spent at new.map j))))
 
 -- ---- a put that returns something else
 

@@ -22,3 +22,5 @@ pub mod WholeRuns
 pub mod Footprints
 pub mod Invoked
 pub mod Laws
+pub use Rattle.stage_runs.specs.Maps
+pub use Rattle.tx_xdr.specs.declared.transaction.Footprint

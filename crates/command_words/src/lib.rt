@@ -9,6 +9,7 @@ mod values;
 mod words;
 
 pub use error::WordsErr;
+pub use matches::{is_given, is_set, number_of, value_of};
 pub use request::{
     ApplyListRequest, ApplyRequest, BuildRequest, GenRequest, MigrateRequest, PlayRequest,
     RecordRequest, Request, ScheduleOptions, ShowKind, ShowRequest, SimulateRequest, VetRequest,

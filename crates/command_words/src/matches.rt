@@ -317,15 +317,15 @@ fn record_request(alloc: Global, found: &ArgMatches<'_>) -> Result<Request, Word
 
 /// Whether an option is given.
 #[tactic(auto, using(crate::proofs::Parsing::first_of_rows))]
-fn is_given(found: &ArgMatches<'_>, id: &str) -> bool
+pub fn is_given(found: &ArgMatches<'_>, id: &str) -> bool
     ensures { result ≡ is_some (first_of id.now (rows_of (found_of found.now))) }
 {
     found.get_str(id).is_some()
 }
 
-/// The value of an option.
+/// The value of an option. Usage if it is not given.
 #[tactic(auto, using(crate::proofs::Parsing::first_of_rows))]
-fn value_of(alloc: Global, found: &ArgMatches<'_>, id: &str) -> Result<Word, WordsErr>
+pub fn value_of(alloc: Global, found: &ArgMatches<'_>, id: &str) -> Result<Word, WordsErr>
     ensures { ReadsWords result (first_of id.now (rows_of (found_of found.now))) }
 {
     let Some(text) = found.get_str(id) else {
@@ -335,9 +335,9 @@ fn value_of(alloc: Global, found: &ArgMatches<'_>, id: &str) -> Result<Word, Wor
     Ok(Word::new(text))
 }
 
-/// The value of an option, as a number in this range.
+/// The value of an option, as a number from `least` to `most`. Usage if it is not given, or is none.
 #[tactic(auto, using(crate::proofs::Parsing::first_of_rows))]
-fn number_of(found: &ArgMatches<'_>, id: &str, least: u64, most: u64) -> Result<u64, WordsErr>
+pub fn number_of(found: &ArgMatches<'_>, id: &str, least: u64, most: u64) -> Result<u64, WordsErr>
     ensures number { ReadsWords result (option_and_then (number_in least most) (first_of id.now (rows_of (found_of found.now)))) }
     ensures range { IfOk result (λ n. (least ≤ n) × (n ≤ most)) }
 {
@@ -360,7 +360,7 @@ fn kind_of(found: &ArgMatches<'_>, id: &str) -> Result<ShowKind, WordsErr>
 
 /// Whether a flag is among the words.
 #[tactic(auto, using(crate::proofs::Parsing::first_of_rows))]
-fn is_set(found: &ArgMatches<'_>, id: &str) -> bool
+pub fn is_set(found: &ArgMatches<'_>, id: &str) -> bool
     ensures { result ≡ is_set (first_of id.now (rows_of (found_of found.now))) }
 {
     match found.get_str(id) {

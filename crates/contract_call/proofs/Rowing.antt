@@ -112,8 +112,8 @@ pub still : {G U V : Type 0} (old new : Host G U V) → MayRun old → Stays old
 still old new ready stays = record {
   ledger = record {
     bounds = subst (λ (h : Header). HasBounds (next_seq h) h.settings) (sym stays.header) ready.ledger.bounds;
-    number = ap (λ (s : Stored). s.n) stays.storage.same ∙ ready.ledger.number ∙ ap next_seq (sym stays.header);
-    lives = ap (λ (s : Stored). s.lives) stays.storage.same ∙ ready.ledger.lives ∙ ap (λ (h : Header). h.settings) (sym stays.header);
+    number = ap (λ (s : Stored). s.n) stays.storage ∙ ready.ledger.number ∙ ap next_seq (sym stays.header);
+    lives = ap (λ (s : Stored). s.lives) stays.storage ∙ ready.ledger.lives ∙ ap (λ (h : Header). h.settings) (sym stays.header);
     indices = subst (λ (f : Running). AreIndices new.ledger.objects f.shown) (sym stays.frame) (subst (λ o. AreIndices o old.ledger.frame.shown) (sym stays.objects) ready.ledger.indices);
     copy = subst (λ (f : Running). IsHeld f.copy.storage) (sym stays.frame) ready.ledger.copy;
   };

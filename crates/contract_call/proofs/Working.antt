@@ -15,14 +15,15 @@ use Rattle.call_spec.specs.WholeRuns.{Work, does, done_under}
 use Rattle.call_parts.specs.Steps.{Steps}
 use Rattle.host_ledger.specs.declared.state.HostLedger.{HostLedger}
 use Rattle.contract_call.specs.Placed.{HasRoom}
-use Rattle.contract_call.specs.Undone.{IsMark, Undoes}
+use Rattle.contract_call.specs.Undone.{opened, IsMark}
 use Rattle.contract_call.specs.Worlds.{world_around, DoesAround, Stays}
 use Rattle.contract_call.specs.declared.host.Host.{Host}
 use Rattle.contract_call.specs.declared.undo.Mark.{Mark}
 use Rattle.host_ledger.specs.Traced.{Tells}
 use Rattle.contract_call.proofs.Joining.{go_on, keep_rest}
 use Rattle.contract_call.proofs.Showing.{shown_as, telling}
-use Rattle.contract_call.proofs.Undoing.{undoes_good, undoes_end}
+use Rattle.contract_call.proofs.Calling.{around_stop}
+use Rattle.contract_call.proofs.Undoing.{does_opened, stays_opened}
 
 -- ---- values
 
@@ -70,47 +71,37 @@ viewed {A} a view of act old new one env is rest trace =
     go_on (λ w t. world_around w new t) (λ w t. world_around w new t) keep_rest (telling old new trace) (telling old new trace) (λ _ _ _. refl) a r view (λ x. of (view x)) rest (act env (world_around rest old trace))
     (λ b. gives (of b)) (one env is rest trace) (λ w t told. (told, refl))
 
+-- a result that is viewed in another way
+pub viewed_as : {A B D G U V : Type 0} (r : Result A HostErr) (view : A → B) (of : B → D) (act : Env → Act B) (old new : Host G U V) → DoesAround r view act old new
+    → DoesAround r (λ x. of (view x)) (λ env. after (act env) (λ b. gives (of b))) old new
+viewed_as (Ok a) view of act old new one = viewed a view of act old new one
+viewed_as (Err e) view of act old new one = around_stop e view (λ x. of (view x)) act (λ env b. gives (of b)) old new one
+
 -- ---- works
 
-pub work_good : {A G U V : Type 0} (room : ℕ) (a : A) (view : A → Datum) (work : Work) (old new : Host G U V) → room ≡ MOST_FRAMES
-    → (let r : Result A HostErr = Ok a in DoesAround r view (λ env. does env (opener_of env room) work) old new)
-    → (let r : Result A HostErr = Ok a in DoesAround r view (λ env. done_under env.judge env.header env.authority work) old new)
-unfolding done_under
-work_good {A} room a view work old new most done =
-    let r : Result A HostErr = Ok a in
-    subst (λ (n : ℕ). DoesAround r view (λ env. undoing (does env (opener_of env n) work)) old new) most
-    (undoes_good a view (λ env. does env (opener_of env room) work) old new done)
+-- what ends an act that a mark began, with a failure undone
+abbrev Ending : {A G U V : Type 0} → Mark → Result A HostErr → Result A HostErr → (A → Datum) → Host G U V → Host G U V → Host G U V → Type 0
+Ending mark made r view start old new =
+    (act : Env → Act Datum) → IsMark mark start → Stays (opened start) old → DoesAround made view act start old → DoesAround r view (λ env. undoing (act env)) start new
 
-pub work_end : {A G U V : Type 0} (room : ℕ) (mark : Mark) (e d : HostErr) (view : A → Datum) (work : Work) (old mid new : Host G U V) → room ≡ MOST_FRAMES → IsMark mark old → Stays old mid → Undoes mark e mid new → d ≡ e
-    → (let r : Result A HostErr = Err e in DoesAround r view (λ env. does env (opener_of env room) work) old mid)
-    → (let r : Result A HostErr = Err d in DoesAround r view (λ env. done_under env.judge env.header env.authority work) old new)
+pub work_does : {A G U V : Type 0} (room : ℕ) (mark : Mark) (made r : Result A HostErr) (view : A → Datum) (work : Work) (start next old new : Host G U V) → room ≡ MOST_FRAMES → IsMark mark start → next ≡ opened start → Stays next old
+    → Ending mark made r view start old new → DoesAround made view (λ env. does env (opener_of env room) work) next old → DoesAround r view (λ env. done_under env.judge env.header env.authority work) start new
 unfolding done_under
-work_end {A} room mark e d view work old mid new most marks stays undoes same done =
+work_does room mark made r view work start next old new most marks is stays ends done =
+    let act : Env → Act Datum = λ env. does env (opener_of env room) work in
+    subst (λ (n : ℕ). DoesAround r view (λ env. undoing (does env (opener_of env n) work)) start new) most
+    (ends act marks (stays_opened start next old is stays) (does_opened made view act start next old is done))
+
+-- the state in which memory ran out
+pub out_of_memory : {A B G U V : Type 0} (e : HostErr) (view : A → B) (act : Env → Act B) (old new : Host G U V) → e ≡ ends.NoMemory → (let r : Result A HostErr = Err e in DoesAround r view act old new)
+out_of_memory {A} e view act old new is =
     let at : HostErr → Result A HostErr = λ x. Err x in
-    subst (λ (x : HostErr). DoesAround (at x) view (λ env. undoing (does env (opener_of env MOST_FRAMES) work)) old new) (sym same)
-    (subst (λ (n : ℕ). DoesAround (at e) view (λ env. undoing (does env (opener_of env n) work)) old new) most
-    (undoes_end mark e view (λ env. does env (opener_of env room) work) old mid new marks stays undoes done))
+    subst (λ (x : HostErr). DoesAround (at x) view act old new) (sym is) (λ env at rest trace. tt)
 
--- ---- the ledger that a run began with
+-- ---- what stays of the storage
 
 pub same_base : {G U V : Type 0} (old new : Host G U V) → Stays old new → new.ledger.storage.base ≡ old.ledger.storage.base
-same_base old new stays = ap (λ (s : Stored). s.base) stays.storage.same
-
-pub undone_base : {G U V : Type 0} (mark : Mark) (e : HostErr) (old mid new : Host G U V) → Stays old mid → Undoes mark e mid new → new.ledger.storage.base ≡ old.ledger.storage.base
-undone_base mark (ends.Failed e) old mid new stays back = ap (λ (s : Stored). s.base) back.storage.same ∙ same_base old mid stays
-undone_base {G} {U} {V} mark (ends.Undeclared key) old mid new stays same = ap (λ (h : Host G U V). h.ledger.storage.base) same ∙ same_base old mid stays
-undone_base {G} {U} {V} mark (ends.Archived key) old mid new stays same = ap (λ (h : Host G U V). h.ledger.storage.base) same ∙ same_base old mid stays
-undone_base {G} {U} {V} mark ends.Spent old mid new stays same = ap (λ (h : Host G U V). h.ledger.storage.base) same ∙ same_base old mid stays
-undone_base {G} {U} {V} mark ends.NoMemory old mid new stays same = ap (λ (h : Host G U V). h.ledger.storage.base) same ∙ same_base old mid stays
-
--- ---- whether a storage records
+same_base old new stays = ap (λ (s : Stored). s.base) stays.storage
 
 pub same_declared : {G U V : Type 0} (old new : Host G U V) → Stays old new → new.ledger.storage.declared ≡ old.ledger.storage.declared
-same_declared old new stays = ap (λ (s : Stored). s.declared) stays.storage.same
-
-pub undone_declared : {G U V : Type 0} (mark : Mark) (e : HostErr) (old mid new : Host G U V) → Stays old mid → Undoes mark e mid new → new.ledger.storage.declared ≡ old.ledger.storage.declared
-undone_declared mark (ends.Failed e) old mid new stays back = ap (λ (s : Stored). s.declared) back.storage.same ∙ same_declared old mid stays
-undone_declared {G} {U} {V} mark (ends.Undeclared key) old mid new stays same = ap (λ (h : Host G U V). h.ledger.storage.declared) same ∙ same_declared old mid stays
-undone_declared {G} {U} {V} mark (ends.Archived key) old mid new stays same = ap (λ (h : Host G U V). h.ledger.storage.declared) same ∙ same_declared old mid stays
-undone_declared {G} {U} {V} mark ends.Spent old mid new stays same = ap (λ (h : Host G U V). h.ledger.storage.declared) same ∙ same_declared old mid stays
-undone_declared {G} {U} {V} mark ends.NoMemory old mid new stays same = ap (λ (h : Host G U V). h.ledger.storage.declared) same ∙ same_declared old mid stays
+same_declared old new stays = ap (λ (s : Stored). s.declared) stays.storage

@@ -11,3 +11,5 @@ pub mod Taken
 pub mod Targets
 pub mod Undone
 pub mod Worlds
+pub use Rattle.auth_parts.specs.Entering
+pub use Rattle.host_ledger.specs.Traced

@@ -435,7 +435,7 @@ fn try_row<G: Ground, A: Authority, W: Watch>(
                 args,
             },
         ) => {
-            let mark = host.mark();
+            let mark = host.mark()?;
             let made = call(
                 host,
                 room,

@@ -38,7 +38,9 @@ mod undo;
 mod words;
 mod works;
 
+pub use auth_parts::enter_all;
 pub use host::Host;
+pub use host_ledger::{Events, HostLedger, clone_values};
 pub use laws::runs_are_possible;
 pub use place::Place;
 pub use works::{NewContract, create, invoke, upload};

@@ -21,7 +21,7 @@ ghost use Rattle.contract_call.specs.Placed.{HasRoom};
 use crate::calls;
 use crate::host::Host;
 use crate::targets::ContractCall;
-use crate::undo::undo;
+use crate::undo::ended;
 use auth_trees::Authority;
 use contract_storage::Watch;
 use entry_lookup::Ground;
@@ -55,7 +55,7 @@ pub fn invoke<G: Ground, A: Authority, W: Watch>(
     ensures hosted { IfOk result (λ value. IsHosted (datum value)) }
     ensures key { IfErr result IsKeySpelled }
 {
-    let mark = host.mark();
+    let mark = host.mark()?;
     let call = ContractCall {
         caller: None,
         by_host: false,
@@ -63,10 +63,8 @@ pub fn invoke<G: Ground, A: Authority, W: Watch>(
         function,
         args,
     };
-    match calls::call(host, most_frames(), call) {
-        Ok(value) => Ok(value),
-        Err(error) => Err(undo(host, mark, error)),
-    }
+    let made = calls::call(host, most_frames(), call);
+    ended(host, mark, made)
 }
 
 /// Uploads a code to the ledger.
@@ -106,11 +104,9 @@ pub fn upload<G: Ground, A: Authority, W: Watch>(
     ensures base { host.new.ledger.storage.base ≡ host.old.ledger.storage.base }
     ensures key { IfErr result IsKeySpelled }
 {
-    let mark = host.mark();
-    match upload_in(&mut host.ledger, code) {
-        Ok(hash) => Ok(hash),
-        Err(error) => Err(undo(host, mark, error)),
-    }
+    let mark = host.mark()?;
+    let made = upload_in(&mut host.ledger, code);
+    ended(host, mark, made)
 }
 
 /// What makes a contract. Without constructor arguments it is a CREATE_CONTRACT, with them, even with none, a CREATE_CONTRACT_V2.
@@ -139,9 +135,7 @@ pub fn create<G: Ground, A: Authority, W: Watch>(
     ensures base { host.new.ledger.storage.base ≡ host.old.ledger.storage.base }
     ensures key { IfErr result IsKeySpelled }
 {
-    let mark = host.mark();
-    match calls::create(host, most_frames(), None, contract) {
-        Ok(id) => Ok(id),
-        Err(error) => Err(undo(host, mark, error)),
-    }
+    let mark = host.mark()?;
+    let made = calls::create(host, most_frames(), None, contract);
+    ended(host, mark, made)
 }

@@ -15,7 +15,7 @@ use Rattle.ledger_spec.specs.Changes.{put_seen, delete_seen, make_seen, written,
 use Rattle.ledger_spec.proofs.Lemmas.{live_is}
 use Rattle.entry_lookup.specs.Found.{kept_of}
 use Rattle.contract_storage.specs.Layered.{set_at}
-use Rattle.contract_storage.specs.Stored.{Stored, with_map, with_history, history, IsLater}
+use Rattle.contract_storage.specs.Stored.{Stored, with_entries, with_map, IsLater}
 use Rattle.contract_storage.specs.Acts.{Act, Performs, changed, puts, deletes, life_of_put, makes, made, extends, extended, seen_in, IsSeenAt}
 use Rattle.entry_lookup.specs.declared.ground.Found.{Found}
 use Rattle.contract_storage.specs.declared.access.StoErr.{StoErr}
@@ -23,7 +23,7 @@ use Rattle.contract_storage.specs.declared.access.StoErr.TheVariants as err
 use Rattle.contract_storage.proofs.Laying.{one_kept, put_again}
 
 pub later : (old new : Stored) (m : LedgerMap) → new ≡ with_map old m → IsLater old new
-later old new m e = record { same = subst (λ (x : Stored). x ≡ with_history old x) (sym e) refl; later = (m ∷ [], ap history e) }
+later old new m e = subst (λ (x : Stored). x ≡ with_entries old x) (sym e) refl
 
 good : {A : Type 0} (act : Act A) (old : Stored) (v : A) (m : LedgerMap) → act old ≡ (Ok v, m) → is_ok (act old).0 ≡ true
 good {A} act old v m a = ap (λ (r : Result A StoErr × LedgerMap). is_ok r.0) a
@@ -98,11 +98,7 @@ pub del_is : (s : Stored) (key : LedgerKey) (kept : Kept) → live kept ≡ seen
 del_is s key kept e = ap (λ (w : Seen). changed (delete_seen w s.map key) s) (sym e)
 
 pub unchanged : (s : Stored) → IsLater s s
-unchanged s = record { same = refl; later = ([], sym (right (history s))) }
-  where
-    right : (xs : List LedgerMap) → xs ++ [] ≡ xs
-    right [] = refl
-    right (x ∷ xs) = ap (λ (r : List LedgerMap). x ∷ r) (right xs)
+unchanged s = refl
 
 -- ---- make
 

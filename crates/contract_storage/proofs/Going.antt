@@ -1,7 +1,7 @@
 -- States of a storage one after another.
-use Rattle.std.proofs.Common.{◌≡◌, ℕ, suc, ◌+◌, List, [], ◌∷◌, ◌++◌, length, take, refl, ap, ap₂, ◌∙◌, arith, append_assoc}
+use Rattle.std.proofs.Common.{◌≡◌, List, [], ◌∷◌, ◌++◌, refl, sym, ap, ap₂, subst, ◌∙◌}
 use Rattle.ledger_spec.specs.LedgerMap.{LedgerMap}
-use Rattle.contract_storage.specs.Stored.{Stored, with_history, with_maps, with_touched, history, IsLater, IsRestored}
+use Rattle.contract_storage.specs.Stored.{Stored, with_entries, with_maps, with_snapshot, with_touched, IsClosed, IsHalfReleased, IsLater, IsReleased, IsRestored}
 
 -- a list that ends in one more element
 record SameEnd (xs ys : List LedgerMap) (x y : LedgerMap) : Type 0 where
@@ -20,21 +20,43 @@ same_end (a ∷ xs) (b ∷ ys) x y e =
     let r = same_end xs ys x y tail in
     record { front = ap₂ (λ (p : LedgerMap) (q : List LedgerMap). p ∷ q) head r.front; last = r.last }
 
-take_front : (xs : List LedgerMap) (x : LedgerMap) (more : List LedgerMap) → take (length xs + 1) ((xs ++ x ∷ []) ++ more) ≡ xs ++ x ∷ []
-take_front [] x more = refl
-take_front (y ∷ xs) x more =
-    let n : length (y ∷ xs) + 1 ≡ suc (length xs + 1) = omega arith in
-    ap (λ (k : ℕ). take k (((y ∷ xs) ++ x ∷ []) ++ more)) n ∙ ap (λ (r : List LedgerMap). y ∷ r) (take_front xs x more)
+-- the snapshots of a later state
+opened : (start later : Stored) → IsLater (with_snapshot start) later → later.snapshots ≡ start.snapshots ++ start.map ∷ []
+opened start later l = ap (λ (x : Stored). x.snapshots) l
 
-pub goes_back : (start later back : Stored) → IsLater start later → IsRestored (length start.past) later back → back ≡ with_touched start later.touched
+pub goes_back : (start later back : Stored) → IsLater (with_snapshot start) later → IsRestored later back → back ≡ with_touched start later.touched
 goes_back start later back l r =
-    let h : history back ≡ history start = r.back ∙ ap (take (length start.past + 1)) l.later.1 ∙ take_front start.past start.map l.later.0 in
-    let s = same_end back.past start.past back.map start.map h in
-    r.same ∙ ap (λ (x : Stored). with_maps x back) l.same
-    ∙ ap₂ (λ (m : LedgerMap) (p : List LedgerMap). record (with_touched start later.touched) { map = m; past = p }) s.last s.front
+    let s = same_end back.snapshots start.snapshots back.map start.map (sym r.back ∙ opened start later l) in
+    r.same ∙ ap (λ (x : Stored). with_maps x back) l
+    ∙ ap₂ (λ (m : LedgerMap) (p : List LedgerMap). record (with_touched start later.touched) { map = m; snapshots = p }) s.last s.front
 
 pub again : (s t u : Stored) → IsLater s t → IsLater t u → IsLater s u
-again s t u a b = record {
-  same = b.same ∙ ap (λ (x : Stored). with_history x u) a.same;
-  later = (a.later.0 ++ b.later.0, b.later.1 ∙ ap (λ (h : List LedgerMap). h ++ b.later.0) a.later.1 ∙ append_assoc (history s) a.later.0 b.later.0);
+again s t u a b = b ∙ ap (λ (x : Stored). with_entries x u) a
+
+pub later_back : (first start later back : Stored) → IsLater first start → IsLater (with_snapshot start) later → IsRestored later back → IsLater first back
+later_back first start later back before l r =
+    again first start back before (subst (λ (x : Stored). IsLater start x) (sym (goes_back start later back l r)) refl)
+
+pub goes_on : (start later done : Stored) → IsLater (with_snapshot start) later → IsReleased later done → (done ≡ record later { snapshots = start.snapshots }) × IsLater start done
+goes_on start later done l r =
+    let s = same_end done.snapshots start.snapshots r.closed.0 start.map (sym r.closed.1 ∙ opened start later l) in
+    let is : done ≡ record later { snapshots = start.snapshots } = r.same ∙ ap (λ (p : List LedgerMap). record later { snapshots = p }) s.front in
+    let entries : done ≡ record start { map = later.map; touched = later.touched } = is ∙ ap (λ (x : Stored). record x { snapshots = start.snapshots }) l in
+    (is, subst (λ (x : Stored). IsLater start x) (sym entries) refl)
+
+-- ---- the maps alone are others
+
+abbrev pub HasMaps : Stored → Stored → Type 0
+HasMaps old new = new ≡ record old { base = new.base; map = new.map; snapshots = new.snapshots }
+
+pub released : (old new : Stored) → HasMaps old new → new.base ≡ old.base → new.map ≡ old.map → IsClosed old new → IsReleased old new
+released old new is base map closed = record {
+  same = is ∙ ap₂ (λ (b m : LedgerMap). record old { base = b; map = m; snapshots = new.snapshots }) base map;
+  closed = closed;
+}
+
+pub half_released : (old new : Stored) → HasMaps old new → new.base ≡ old.base → IsClosed old new → IsHalfReleased old new
+half_released old new is base closed = record {
+  same = is ∙ ap (λ (b : LedgerMap). record old { base = b; map = new.map; snapshots = new.snapshots }) base;
+  closed = closed;
 }

@@ -18,8 +18,8 @@ use Rattle.ledger_types.specs.declared.key.LedgerKey.{LedgerKey}
 use Rattle.ledger_types.proofs.Lemmas.{key_ranked}
 use Rattle.ledger_spec.specs.declared.Kept.{Kept}
 use Rattle.ledger_spec.specs.LedgerMap.{LedgerMap, key_bytes}
-use Rattle.contract_storage.specs.Layered.{history, set_at, with_write}
-use Rattle.contract_storage.specs.Overlays.{kept_in, overlay_of, over_entry, laid, over, before, past, layered, or_same, IsThere}
+use Rattle.contract_storage.specs.Layered.{set_at, with_snapshot, with_write}
+use Rattle.contract_storage.specs.Overlays.{kept_in, overlay_of, over_entry, laid, laid_all, over, map_at, maps_at, layered, or_same, with_saved, with_state, IsThere}
 use Rattle.contract_storage.specs.declared.layer.Shared.{Shared}
 use Rattle.contract_storage.specs.declared.layer.Overlay.{Overlay}
 use Rattle.contract_storage.specs.declared.layer.Undo.{Undo}
@@ -41,19 +41,25 @@ abbrev pub at : {X : Type 0} → List ℕ → List (LedgerKey × X) → Option X
 at q [] = None
 at q (e ∷ es) = cond (eq_by_cmp order q (ranked_key e.0)) (Some e.1) (at q es)
 
+abbrev pub laid_entry : Option Kept → Option Kept → Option Overlay → Option Kept
+laid_entry below mine None = mine
+laid_entry below mine (Some c) = over_entry below c
+
 abbrev pub given : Option Kept → Option Overlay → Option Kept
-given below None = below
-given below (Some c) = over_entry below c
+given below o = laid_entry below below o
+
+pub laid_gets : (g m : LedgerMap) (es : List (LedgerKey × Overlay)) (q : List ℕ) → get (laid_all g m es) q ≡ laid_entry (get g q) (get m q) (at q es)
+laid_gets g m [] q = refl
+laid_gets g m (e ∷ es) q =
+    set_gets (laid_all g m es) (ranked_key e.0) (over_entry (get g (ranked_key e.0)) e.1) q
+    ∙ elim (order q (ranked_key e.0)) as (λ o. order q (ranked_key e.0) ≡ o → cond (is_eq o) (over_entry (get g (ranked_key e.0)) e.1) (get (laid_all g m es) q) ≡ laid_entry (get g q) (get m q) (cond (is_eq o) (Some e.1) (at q es))) [
+      | Less ↦ λ p. laid_gets g m es q
+      | Equal ↦ λ p. ap (λ (b : List ℕ). over_entry (get g b) e.1) (sym (antisymmetric q (ranked_key e.0) p))
+      | Greater ↦ λ p. laid_gets g m es q
+    ] refl
 
 pub over_gets : (g : LedgerMap) (es : List (LedgerKey × Overlay)) (q : List ℕ) → get (over g es) q ≡ given (get g q) (at q es)
-over_gets g [] q = refl
-over_gets g (e ∷ es) q =
-    set_gets (over g es) (ranked_key e.0) (over_entry (get g (ranked_key e.0)) e.1) q
-    ∙ elim (order q (ranked_key e.0)) as (λ o. order q (ranked_key e.0) ≡ o → cond (is_eq o) (over_entry (get g (ranked_key e.0)) e.1) (get (over g es) q) ≡ given (get g q) (cond (is_eq o) (Some e.1) (at q es))) [
-      | Less ↦ λ p. over_gets g es q
-      | Equal ↦ λ p. ap (λ (b : List ℕ). over_entry (get g b) e.1) (sym (antisymmetric q (ranked_key e.0) p))
-      | Greater ↦ λ p. over_gets g es q
-    ] refl
+over_gets g es q = laid_gets g g es q
 
 pub at_lookup : {X : Type 0} (k : LedgerKey) (es : List (LedgerKey × X)) → lookup (is_at (key_cmp k)) es ≡ at (ranked_key k) es
 at_lookup k [] = refl
@@ -151,70 +157,106 @@ undone g es k c =
       | Greater ↦ λ p. refl
     ] refl)
 
--- ---- the maps that were
+-- ---- the state of a key that is saved
 
-before_more : (g m : LedgerMap) (us : List Undo) (u : Undo) → before g m (us ++ u ∷ []) ≡ before g (laid g m u.key u.before) us
-before_more g m [] u = refl
-before_more g m (v ∷ us) u = ap (λ (x : LedgerMap). laid g x v.key v.before) (before_more g m us u)
+-- a key that is as another one has its state
+at_same : {X : Type 0} (q k : List ℕ) (es : List (LedgerKey × X)) → order q k ≡ Equal → at q es ≡ at k es
+at_same {X} q k es p = ap (λ (b : List ℕ). at b es) (antisymmetric q k p)
 
-past_more : (g m : LedgerMap) (us : List Undo) (u : Undo) → past g m (us ++ u ∷ []) ≡ past g (laid g m u.key u.before) us ++ laid g m u.key u.before ∷ []
-past_more g m [] u = refl
-past_more g m (v ∷ us) u = ap₂ (λ (x : LedgerMap) (y : List LedgerMap). x ∷ y) (before_more g m (v ∷ us) u) (past_more g m us u)
+-- A state that is saved, unless there is one of the key, is laid under those that are there.
+pub kept_first : (g m : LedgerMap) (s : List (LedgerKey × Overlay)) (u : Undo) → laid_all g m (with_state s u) ≡ laid_all g (laid g m u.key u.before) s
+kept_first g m s u =
+    let rk = ranked_key u.key in
+    let below = over_entry (get g rk) u.before in
+    same_map nat_list_cmp_total antisymmetric _ _ (λ q.
+    laid_gets g m (with_state s u) q
+    ∙ saved_at q (lookup (is_at (key_cmp u.key)) s) refl
+    ∙ sym (ap (λ (o : Option Kept). laid_entry (get g q) o (at q s)) (set_gets m rk below q))
+    ∙ sym (laid_gets g (laid g m u.key u.before) s q))
+  where
+    saved_at : (q : List ℕ) (o : Option Overlay) → lookup (is_at (key_cmp u.key)) s ≡ o
+        → laid_entry (get g q) (get m q) (at q (cond (is_some o) s (insert_entry key_cmp s u.key u.before)))
+        ≡ laid_entry (get g q) (cond (eq_by_cmp order q (ranked_key u.key)) (over_entry (get g (ranked_key u.key)) u.before) (get m q)) (at q s)
+    saved_at q (Some c) h =
+        elim (order q (ranked_key u.key)) as (λ o. order q (ranked_key u.key) ≡ o
+        → laid_entry (get g q) (get m q) (at q s) ≡ laid_entry (get g q) (cond (is_eq o) (over_entry (get g (ranked_key u.key)) u.before) (get m q)) (at q s)) [
+          | Less ↦ λ p. refl
+          | Equal ↦ λ p.
+              let found : at q s ≡ Some c = at_same q (ranked_key u.key) s p ∙ sym (at_lookup u.key s) ∙ h in
+              rw found refl
+          | Greater ↦ λ p. refl
+        ] refl
+    saved_at q None h =
+        ap (laid_entry (get g q) (get m q)) (at_inserted u.key u.before s q)
+        ∙ elim (order q (ranked_key u.key)) as (λ o. order q (ranked_key u.key) ≡ o
+        → laid_entry (get g q) (get m q) (cond (is_eq o) (Some u.before) (at q s))
+        ≡ laid_entry (get g q) (cond (is_eq o) (over_entry (get g (ranked_key u.key)) u.before) (get m q)) (at q s)) [
+          | Less ↦ λ p. refl
+          | Equal ↦ λ p.
+              let none : at q s ≡ None = at_same q (ranked_key u.key) s p ∙ sym (at_lookup u.key s) ∙ h in
+              rw none (ap (λ (b : List ℕ). over_entry (get g b) u.before) (antisymmetric q (ranked_key u.key) p))
+          | Greater ↦ λ p. refl
+        ] refl
 
-pub past_length : (g m : LedgerMap) (us : List Undo) → length (past g m us) ≡ length us
-past_length g m [] = refl
-past_length g m (u ∷ us) = ap suc (past_length g m us)
+-- ---- the maps at the open snapshots
+
+-- overlays with one more behind them
+pub laid_more : (g m : LedgerMap) (es : List (LedgerKey × Overlay)) (e : LedgerKey × Overlay) → laid_all g m (es ++ e ∷ []) ≡ laid_all g (laid g m e.0 e.1) es
+laid_more g m [] e = refl
+laid_more g m (x ∷ es) e = ap (λ (y : LedgerMap). laid g y x.0 x.1) (laid_more g m es e)
+
+-- the newest of the states to put back is
+pub put_back_one : (g : LedgerMap) (es fs s t : List (LedgerKey × Overlay)) (u : Undo) → s ≡ t ++ (u.key, u.before) ∷ [] → fs ≡ insert_entry key_cmp es u.key u.before
+    → laid_all g (over g fs) t ≡ laid_all g (over g es) s
+put_back_one g es fs s t u e is =
+    ap (λ (m : LedgerMap). laid_all g m t) (ap (over g) is ∙ over_inserted g es u.key u.before)
+    ∙ sym (laid_more g (over g es) t (u.key, u.before)) ∙ ap (laid_all g (over g es)) (sym e)
+
+-- a newer snapshot
+map_more : (g m : LedgerMap) (ss : List (List (LedgerKey × Overlay))) (s : List (LedgerKey × Overlay)) → map_at g m (ss ++ s ∷ []) ≡ map_at g (laid_all g m s) ss
+map_more g m [] s = refl
+map_more g m (t ∷ ss) s = ap (λ (x : LedgerMap). laid_all g x t) (map_more g m ss s)
+
+pub maps_more : (g m : LedgerMap) (ss : List (List (LedgerKey × Overlay))) (s : List (LedgerKey × Overlay))
+    → maps_at g m (ss ++ s ∷ []) ≡ maps_at g (laid_all g m s) ss ++ laid_all g m s ∷ []
+maps_more g m [] s = refl
+maps_more g m (t ∷ ss) s = ap₂ (λ (x : LedgerMap) (y : List LedgerMap). x ∷ y) (map_more g m (t ∷ ss) s) (maps_more g m ss s)
+
+pub maps_length : (g m : LedgerMap) (ss : List (List (LedgerKey × Overlay))) → length (maps_at g m ss) ≡ length ss
+maps_length g m [] = refl
+maps_length g m (s ∷ ss) = ap suc (maps_length g m ss)
+
+-- They stay as they are over a write whose state before it is saved.
+module _ (g now new : LedgerMap) (u : Undo) (back : laid g new u.key u.before ≡ now) where
+  first_stays : (s : List (LedgerKey × Overlay)) (ss : List (List (LedgerKey × Overlay))) → map_at g new (with_saved (s ∷ ss) u) ≡ map_at g now (s ∷ ss)
+  first_stays s [] = kept_first g new s u ∙ ap (λ (x : LedgerMap). laid_all g x s) back
+  first_stays s (t ∷ ss) = ap (λ (x : LedgerMap). laid_all g x s) (first_stays t ss)
+
+  pub maps_stay : (ss : List (List (LedgerKey × Overlay))) → maps_at g new (with_saved ss u) ≡ maps_at g now ss
+  maps_stay [] = refl
+  maps_stay (s ∷ []) = ap (λ (x : LedgerMap). x ∷ []) (first_stays s [])
+  maps_stay (s ∷ t ∷ ss) = ap₂ (λ (x : LedgerMap) (y : List LedgerMap). x ∷ y) (first_stays s (t ∷ ss)) (maps_stay (t ∷ ss))
+
+-- one more snapshot is open
+pub opened : (g : LedgerMap) (es : List (LedgerKey × Overlay)) (ss : List (List (LedgerKey × Overlay))) → layered g es (ss ++ [] ∷ []) ≡ with_snapshot (layered g es ss)
+opened g es ss = ap (λ (y : List LedgerMap). record { base = g; map = over g es; snapshots = y }) (maps_more g (over g es) ss [])
 
 after_change : (below : Option Kept) (now : Option Shared) → over_entry below (overlay_of now) ≡ option_map kept_in now
 after_change below None = refl
 after_change below (Some kept) = refl
 
-pub wrote : (g : LedgerMap) (es : List (LedgerKey × Overlay)) (us : List Undo) (k : LedgerKey) (now : Option Shared) → key_format.fits k
-    → layered g (insert_entry key_cmp es k (overlay_of now)) (us ++ record { key = k; before = or_same (lookup (is_at (key_cmp k)) es) } ∷ [])
-    ≡ with_write (layered g es us) (key_bytes k) (option_map kept_in now)
-wrote g es us k now fits =
+pub wrote : (g : LedgerMap) (es : List (LedgerKey × Overlay)) (ss : List (List (LedgerKey × Overlay))) (k : LedgerKey) (now : Option Shared) → key_format.fits k
+    → layered g (insert_entry key_cmp es k (overlay_of now)) (with_saved ss (record { key = k; before = or_same (lookup (is_at (key_cmp k)) es) }))
+    ≡ with_write (layered g es ss) (key_bytes k) (option_map kept_in now)
+wrote g es ss k now fits =
     let u : Undo = record { key = k; before = or_same (lookup (is_at (key_cmp k)) es) } in
     let c = overlay_of now in
     let moved : over g (insert_entry key_cmp es k c) ≡ laid g (over g es) k c = over_inserted g es k c in
-    let back : laid g (laid g (over g es) k c) k u.before ≡ over g es = undone g es k c in
-    ap₂ (λ (x : LedgerMap) (y : List LedgerMap). record { base = g; map = x; past = y })
+    ap₂ (λ (x : LedgerMap) (y : List LedgerMap). record { base = g; map = x; snapshots = y })
     (moved
     ∙ ap (set_at (over g es) (ranked_key k)) (after_change (get g (ranked_key k)) now)
     ∙ ap (λ (b : List ℕ). set_at (over g es) b (option_map kept_in now)) (key_ranked k fits))
-    (ap (λ (x : LedgerMap). past g x (us ++ u ∷ [])) moved
-    ∙ past_more g (laid g (over g es) k c) us u
-    ∙ ap (λ (x : LedgerMap). past g x us ++ x ∷ []) back)
-
--- one record less
-pub one_back : (g : LedgerMap) (es : List (LedgerKey × Overlay)) (vs : List Undo) (u : Undo)
-    → history (layered g es (vs ++ u ∷ [])) ≡ history (layered g (insert_entry key_cmp es u.key u.before) vs) ++ over g es ∷ []
-one_back g es vs u =
-    ap (λ (x : List LedgerMap). x ++ over g es ∷ []) (past_more g (over g es) vs u ∙ ap (λ (x : LedgerMap). past g x vs ++ x ∷ []) (sym (over_inserted g es u.key u.before)))
-
-history_length : (g : LedgerMap) (es : List (LedgerKey × Overlay)) (us : List Undo) → length (history (layered g es us)) ≡ length us + 1
-history_length g es us = grows (past g (over g es) us) ∙ ap (λ n. n + 1) (past_length g (over g es) us)
-  where
-    grows : (xs : List LedgerMap) → length (xs ++ over g es ∷ []) ≡ length xs + 1
-    grows [] = refl
-    grows (x ∷ xs) = let h : length (xs ++ over g es ∷ []) ≡ length xs + 1 = grows xs in omega (arith, h)
-
-pub taken_back : (g : LedgerMap) (es : List (LedgerKey × Overlay)) (us vs : List Undo) (u : Undo) (mark : ℕ) → us ≡ vs ++ u ∷ [] → mark ≤ length vs
-    → take (mark + 1) (history (layered g (insert_entry key_cmp es u.key u.before) vs)) ≡ take (mark + 1) (history (layered g es us))
-taken_back g es us vs u mark e le =
-    let new = history (layered g (insert_entry key_cmp es u.key u.before) vs) in
-    let fits : mark + 1 ≤ length new = omega (arith, history_length g (insert_entry key_cmp es u.key u.before) vs, le) in
-    sym (ap (λ (x : List Undo). take (mark + 1) (history (layered g es x))) e ∙ ap (take (mark + 1)) (one_back g es vs u) ∙ take-append-le (mark + 1) new (over g es ∷ []) fits)
-
-take_whole : (n : ℕ) (xs : List LedgerMap) → length xs ≡ n → take n xs ≡ xs
-take_whole n xs e = subst (λ (k : ℕ). take k xs ≡ xs) e (all xs)
-  where
-    all : (ys : List LedgerMap) → take (length ys) ys ≡ ys
-    all [] = refl
-    all (y ∷ ys) = ap (λ (r : List LedgerMap). y ∷ r) (all ys)
-
-pub whole : (g : LedgerMap) (es : List (LedgerKey × Overlay)) (us : List Undo) (mark : ℕ) → length us ≡ mark
-    → take (mark + 1) (history (layered g es us)) ≡ history (layered g es us)
-whole g es us mark e = take_whole (mark + 1) (history (layered g es us)) (history_length g es us ∙ ap (λ n. n + 1) e)
+    (maps_stay g (over g es) (over g (insert_entry key_cmp es k c)) u (ap (λ (x : LedgerMap). laid g x k u.before) moved ∙ undone g es k c) ss)
 
 -- ---- keys that are there
 
@@ -222,47 +264,39 @@ still : (b : Bool) (c : Overlay) (o : Option Overlay) → is_some o ≡ true →
 still true c o e = refl
 still false c o e = e
 
-there_still : (k : LedgerKey) (c : Overlay) (es : List (LedgerKey × Overlay)) (u : Undo) → IsThere es u → IsThere (insert_entry key_cmp es k c) u
-there_still k c es u e =
-    ap is_some (at_lookup u.key (insert_entry key_cmp es k c) ∙ at_inserted k c es (ranked_key u.key))
-    ∙ still (eq_by_cmp order (ranked_key u.key) (ranked_key k)) c (at (ranked_key u.key) es) (ap is_some (sym (at_lookup u.key es)) ∙ e)
+pub there_still : (k : LedgerKey) (c : Overlay) (es : List (LedgerKey × Overlay)) (e : LedgerKey × Overlay) → IsThere es e → IsThere (insert_entry key_cmp es k c) e
+there_still k c es e h =
+    ap is_some (at_lookup e.0 (insert_entry key_cmp es k c) ∙ at_inserted k c es (ranked_key e.0))
+    ∙ still (eq_by_cmp order (ranked_key e.0) (ranked_key k)) c (at (ranked_key e.0) es) (ap is_some (sym (at_lookup e.0 es)) ∙ h)
 
-pub all_still : (k : LedgerKey) (c : Overlay) (es : List (LedgerKey × Overlay)) (us : List Undo) → AllByRecursion (IsThere es) us → AllByRecursion (IsThere (insert_entry key_cmp es k c)) us
-all_still k c es [] h = tt
-all_still k c es (u ∷ us) h = (there_still k c es u h.0, all_still k c es us h.1)
-
-there_new : (k : LedgerKey) (c : Overlay) (es : List (LedgerKey × Overlay)) (b : Overlay) → IsThere (insert_entry key_cmp es k c) (record { key = k; before = b })
+pub there_new : (k : LedgerKey) (c : Overlay) (es : List (LedgerKey × Overlay)) (b : Overlay) → IsThere (insert_entry key_cmp es k c) (k, b)
 there_new k c es b =
     ap is_some (at_lookup k (insert_entry key_cmp es k c) ∙ at_inserted k c es (ranked_key k)
     ∙ ap (λ (o : Ordering). cond (is_eq o) (Some c) (at (ranked_key k) es)) (tied_itself nat_list_cmp_total (ranked_key k)))
 
-pub all_more : (es : List (LedgerKey × Overlay)) (us : List Undo) (u : Undo) → AllByRecursion (IsThere es) us → IsThere es u → AllByRecursion (IsThere es) (us ++ u ∷ [])
-all_more es [] u h i = (i, tt)
-all_more es (v ∷ us) u h i = (h.0, all_more es us u h.1 i)
-
-pub all_less : (es : List (LedgerKey × Overlay)) (vs : List Undo) (u : Undo) → AllByRecursion (IsThere es) (vs ++ u ∷ []) → AllByRecursion (IsThere es) vs × IsThere es u
-all_less es [] u h = (tt, h.0)
-all_less es (v ∷ vs) u h = let r = all_less es vs u h.1 in ((h.0, r.0), r.1)
-
-pub all_wrote : (es : List (LedgerKey × Overlay)) (us : List Undo) (k : LedgerKey) (c b : Overlay) → AllByRecursion (IsThere es) us → AllByRecursion (IsThere (insert_entry key_cmp es k c)) (us ++ record { key = k; before = b } ∷ [])
-all_wrote es us k c b h = all_more (insert_entry key_cmp es k c) us (record { key = k; before = b }) (all_still k c es us h) (there_new k c es b)
-
 -- ---- the same with names for what the code has
 
-pub wrote_as : (g : LedgerMap) (es fs : List (LedgerKey × Overlay)) (us ws : List Undo) (k named again : LedgerKey) (now : Option Shared) (c b : Overlay) (o : Option Overlay) → key_format.fits k
+pub wrote_as : (g : LedgerMap) (es fs : List (LedgerKey × Overlay)) (ss ts : List (List (LedgerKey × Overlay))) (k named again : LedgerKey) (now : Option Shared) (c b : Overlay) (o : Option Overlay) → key_format.fits k
     → named ≡ k → again ≡ k → c ≡ overlay_of now → b ≡ or_same o → o ≡ lookup (is_at (key_cmp named)) es
-    → fs ≡ insert_entry key_cmp es named c → ws ≡ us ++ record { key = again; before = b } ∷ []
-    → layered g fs ws ≡ with_write (layered g es us) (key_bytes k) (option_map kept_in now)
-wrote_as g es fs us ws k named again now c b o fits same_named same is was had e i =
+    → fs ≡ insert_entry key_cmp es named c → ts ≡ with_saved ss (record { key = again; before = b })
+    → layered g fs ts ≡ with_write (layered g es ss) (key_bytes k) (option_map kept_in now)
+wrote_as g es fs ss ts k named again now c b o fits same_named same is was had e i =
     ap₂ (layered g)
     (e ∙ ap₂ (insert_entry key_cmp es) same_named is)
-    (i ∙ ap₂ (λ (q : LedgerKey) (x : Overlay). us ++ record { key = q; before = x } ∷ []) same
+    (i ∙ ap₂ (λ (q : LedgerKey) (x : Overlay). with_saved ss (record { key = q; before = x })) same
     (was ∙ ap or_same (had ∙ ap (λ (q : LedgerKey). lookup (is_at (key_cmp q)) es) same_named)))
-    ∙ wrote g es us k now fits
+    ∙ wrote g es ss k now fits
 
-pub one_less : (es fs : List (LedgerKey × Overlay)) (us vs : List Undo) (u : Undo) (mark : ℕ) → us ≡ vs ++ u ∷ [] → mark ≤ length vs → fs ≡ insert_entry key_cmp es u.key u.before
-    → (m : LedgerMap) → take (mark + 1) (history (layered m fs vs)) ≡ take (mark + 1) (history (layered m es us))
-one_less es fs us vs u mark e le is m = ap (λ (x : List (LedgerKey × Overlay)). take (mark + 1) (history (layered m x vs))) is ∙ taken_back m es us vs u mark e le
+-- a write that is undone at once
+pub unwrote_as : (g : LedgerMap) (es fs hs : List (LedgerKey × Overlay)) (ss ts : List (List (LedgerKey × Overlay))) (k named again : LedgerKey) (c b : Overlay) (o : Option Overlay) → named ≡ k → again ≡ k
+    → b ≡ or_same o → o ≡ lookup (is_at (key_cmp named)) es → fs ≡ insert_entry key_cmp es named c → hs ≡ insert_entry key_cmp fs again b → ts ≡ ss → layered g hs ts ≡ layered g es ss
+unwrote_as g es fs hs ss ts k named again c b o same_named same was had e i stays =
+    let first : over g fs ≡ laid g (over g es) k c = ap (over g) (e ∙ ap (λ (q : LedgerKey). insert_entry key_cmp es q c) same_named) ∙ over_inserted g es k c in
+    let before : b ≡ or_same (lookup (is_at (key_cmp k)) es) = was ∙ ap or_same (had ∙ ap (λ (q : LedgerKey). lookup (is_at (key_cmp q)) es) same_named) in
+    let back : over g hs ≡ over g es =
+    ap (over g) (i ∙ ap₂ (insert_entry key_cmp fs) same before) ∙ over_inserted g fs k (or_same (lookup (is_at (key_cmp k)) es))
+    ∙ ap (λ (m : LedgerMap). laid g m k (or_same (lookup (is_at (key_cmp k)) es))) first ∙ undone g es k c in
+    ap₂ (λ (m : LedgerMap) (xs : List (List (LedgerKey × Overlay))). record { base = g; map = m; snapshots = maps_at g m xs }) back stays
 
 -- a change to what is there is none
 pub put_again : (m : LedgerMap) (k : List ℕ) (v : Kept) → get m k ≡ Some v → insert m k v ≡ m

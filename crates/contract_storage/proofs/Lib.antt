@@ -5,5 +5,6 @@ mod Footprints
 mod Going
 mod Laying
 pub mod Lemmas
+mod Saving
 mod Sound
 mod Touching

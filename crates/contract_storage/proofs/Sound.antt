@@ -1,5 +1,5 @@
 -- What is true of all overlays and undo records stays true.
-use Rattle.std.specs.Prelude.{cond, IfSome}
+use Rattle.std.specs.Prelude.{cond, is_some, IfSome}
 use Rattle.std.specs.List.{AllByRecursion}
 use Rattle.std.specs.Map.{lookup}
 use Rattle.std.specs.BTreeMap.{insert_entry, is_at}
@@ -16,12 +16,12 @@ use Rattle.ledger_spec.specs.declared.Kept.{Kept}
 use Rattle.ledger_spec.specs.LedgerMap.{LedgerMap, key_bytes, IsKeptAt, IsLedgerMap}
 use Rattle.ledger_spec.proofs.Lemmas.{kept_at}
 use Rattle.entry_lookup.specs.Found.{kept_of}
-use Rattle.contract_storage.specs.Overlays.{kept_in, overlay_of, or_same, IsThere, IsHeldAt, IsLaid, IsSound, undone}
+use Rattle.contract_storage.specs.Overlays.{kept_in, overlay_of, or_same, with_saved, with_state, IsThere, IsHeldAt, IsLaid, IsSaved, IsSound, undone}
 use Rattle.entry_lookup.specs.declared.ground.Found.{Found}
 use Rattle.contract_storage.specs.declared.layer.Shared.{Shared}
 use Rattle.contract_storage.specs.declared.layer.Overlay.{Overlay}
 use Rattle.contract_storage.specs.declared.layer.Undo.{Undo}
-use Rattle.contract_storage.proofs.Laying.{order, antisymmetric, equal_from, all_less, all_still, all_wrote}
+use Rattle.contract_storage.proofs.Laying.{order, antisymmetric, equal_from, there_new, there_still}
 
 some_overlay : (a b : Overlay) → Some a ≡ Some b → a ≡ b
 some_overlay a b e = cc
@@ -58,7 +58,7 @@ held_now : (bytes : List ℕ) (now : Option Shared) → IfSome now (λ kept. IsK
 held_now bytes None h = tt
 held_now bytes (Some kept) h = h
 
-laid_inserted : (k : LedgerKey) (o : Overlay) (es : List (LedgerKey × Overlay)) → IsLaid (k, o) → AllByRecursion IsLaid es → AllByRecursion IsLaid (insert_entry key_cmp es k o)
+pub laid_inserted : (k : LedgerKey) (o : Overlay) (es : List (LedgerKey × Overlay)) → IsLaid (k, o) → AllByRecursion IsLaid es → AllByRecursion IsLaid (insert_entry key_cmp es k o)
 laid_inserted k o [] is h = (is, tt)
 laid_inserted k o (x ∷ es) is h =
     elim (key_cmp k x.0) as (λ r. key_cmp k x.0 ≡ r → AllByRecursion IsLaid (match_ordering r ((k, o) ∷ x ∷ es) ((x.0, o) ∷ es) (x ∷ insert_entry key_cmp es k o))) [
@@ -67,47 +67,126 @@ laid_inserted k o (x ∷ es) is h =
       | Greater ↦ λ p. (h.0, laid_inserted k o es is h.1)
     ] refl
 
-more : {X : Type 0} (P : X → Type 0) (xs : List X) (x : X) → AllByRecursion P xs → P x → AllByRecursion P (xs ++ x ∷ [])
-more P [] x h p = (p, tt)
-more P (y ∷ xs) x h p = (h.0, more P xs x h.1 p)
+-- ---- saved states
 
-fewer : {X : Type 0} (P : X → Type 0) (xs : List X) (x : X) → AllByRecursion P (xs ++ x ∷ []) → AllByRecursion P xs × P x
-fewer P [] x h = (tt, h.0)
-fewer P (y ∷ xs) x h = let r = fewer P xs x h.1 in ((h.0, r.0), r.1)
+-- a fact of each element follows from another one
+pub all_map : {X : Type 0} (P Q : X → Type 0) (xs : List X) → ((x : X) → P x → Q x) → AllByRecursion P xs → AllByRecursion Q xs
+all_map P Q [] f h = tt
+all_map P Q (x ∷ xs) f h = (f x h.0, all_map P Q xs f h.1)
 
-wrote_here : (es : List (LedgerKey × Overlay)) (us : List Undo) (k : LedgerKey) (now : Option Shared) (o : Option Overlay) → IsSound es us → key_format.fits k
+-- the elements of a list with one more, and of one with one less
+pub all_less : {X : Type 0} (P : X → Type 0) (xs : List X) (x : X) → AllByRecursion P (xs ++ x ∷ []) → AllByRecursion P xs × P x
+all_less P [] x h = (tt, h.0)
+all_less P (y ∷ xs) x h = let r = all_less P xs x h.1 in ((h.0, r.0), r.1)
+
+pub all_more : {X : Type 0} (P : X → Type 0) (xs : List X) (x : X) → AllByRecursion P xs → P x → AllByRecursion P (xs ++ x ∷ [])
+all_more P [] x h p = (p, tt)
+all_more P (y ∷ xs) x h p = (h.0, all_more P xs x h.1 p)
+
+abbrev pub States : Type 0
+States = List (LedgerKey × Overlay)
+
+abbrev pub AreSaved : States → States → Type 0
+AreSaved es s = AllByRecursion (IsSaved es) s
+
+saved_inserted : (es s : States) (k : LedgerKey) (o : Overlay) → IsSaved es (k, o) → AreSaved es s → AreSaved es (insert_entry key_cmp s k o)
+saved_inserted es [] k o is h = (is, tt)
+saved_inserted es (x ∷ s) k o is h =
+    elim (key_cmp k x.0) as (λ r. key_cmp k x.0 ≡ r → AreSaved es (match_ordering r ((k, o) ∷ x ∷ s) ((x.0, o) ∷ s) (x ∷ insert_entry key_cmp s k o))) [
+      | Less ↦ λ p. (is, h)
+      | Equal ↦ λ p. (
+        record {
+          there = h.0.there;
+          laid = record {
+            fits = h.0.laid.fits;
+            held = subst (λ (b : List ℕ). IsHeldAt b o) (sym (same_bytes k x.0 is.laid.fits h.0.laid.fits p)) is.laid.held;
+          };
+        },
+        h.1,
+      )
+      | Greater ↦ λ p. (h.0, saved_inserted es s k o is h.1)
+    ] refl
+
+-- one more state is saved, unless there is one of its key
+pub state_saved : (es s : States) (u : Undo) → IsSaved es (undone u) → AreSaved es s → AreSaved es (with_state s u)
+state_saved es s u is h =
+    elim (is_some (lookup (is_at (key_cmp u.key)) s)) as (λ b. AreSaved es (cond b s (insert_entry key_cmp s u.key u.before))) [
+      | true ↦ h
+      | false ↦ saved_inserted es s u.key u.before is h
+    ]
+
+all_saved : (es : States) (ss : List States) (u : Undo) → IsSaved es (undone u) → AllByRecursion (AreSaved es) ss → AllByRecursion (AreSaved es) (with_saved ss u)
+all_saved es [] u is h = tt
+all_saved es (s ∷ []) u is h = (state_saved es s u is h.0, tt)
+all_saved es (s ∷ t ∷ ss) u is h = (h.0, all_saved es (t ∷ ss) u is h.1)
+
+-- saved states stay so where keys keep their overlays
+pub saved_over : (es fs : States) (ss : List States) → ((e : LedgerKey × Overlay) → IsThere es e → IsThere fs e) → AllByRecursion (AreSaved es) ss → AllByRecursion (AreSaved fs) ss
+saved_over es fs ss there h =
+    all_map (AreSaved es) (AreSaved fs) ss (λ s. all_map (IsSaved es) (IsSaved fs) s (λ e p. record { there = there e p.there; laid = p.laid })) h
+
+-- ---- layers
+
+wrote_here : (es : States) (ss : List States) (k : LedgerKey) (now : Option Shared) (o : Option Overlay) → IsSound es ss → key_format.fits k
     → IfSome now (λ kept. IsKeptAt (key_bytes k) (kept_in kept)) → o ≡ lookup (is_at (key_cmp k)) es
-    → IsSound (insert_entry key_cmp es k (overlay_of now)) (us ++ record { key = k; before = or_same o } ∷ [])
-wrote_here es us k now o s f kept e = record {
-  there = all_wrote es us k (overlay_of now) (or_same o) s.there;
-  laid = laid_inserted k (overlay_of now) es (record { fits = f; held = held_now (key_bytes k) now kept }) s.laid;
-  earlier = more (λ u. IsLaid (undone u)) us (record { key = k; before = or_same o }) s.earlier (record { fits = f; held = held_before es k o s.laid f e });
-}
+    → IsSound (insert_entry key_cmp es k (overlay_of now)) (with_saved ss (record { key = k; before = or_same o }))
+wrote_here es ss k now o s f kept e =
+    let c = overlay_of now in
+    let fs = insert_entry key_cmp es k c in record {
+      laid = laid_inserted k c es (record { fits = f; held = held_now (key_bytes k) now kept }) s.laid;
+      saved = all_saved fs ss (record { key = k; before = or_same o })
+          (record { there = there_new k c es (or_same o); laid = record { fits = f; held = held_before es k o s.laid f e } })
+          (saved_over es fs ss (there_still k c es) s.saved);
+    }
 
 -- a layer stays sound after a write
-pub wrote_sound : (es fs : List (LedgerKey × Overlay)) (us ws : List Undo) (k named again : LedgerKey) (now : Option Shared) (c b : Overlay) (o : Option Overlay) → IsSound es us
+pub wrote_sound : (es fs : States) (ss ts : List States) (k named again : LedgerKey) (now : Option Shared) (c b : Overlay) (o : Option Overlay) → IsSound es ss
     → key_format.fits k → IfSome now (λ kept. IsKeptAt (key_bytes k) (kept_in kept)) → named ≡ k → again ≡ k → c ≡ overlay_of now → b ≡ or_same o → o ≡ lookup (is_at (key_cmp named)) es
-    → fs ≡ insert_entry key_cmp es named c → ws ≡ us ++ record { key = again; before = b } ∷ [] → IsSound fs ws
-wrote_sound es fs us ws k named again now c b o s f kept same_named same is was had e i =
+    → fs ≡ insert_entry key_cmp es named c → ts ≡ with_saved ss (record { key = again; before = b }) → IsSound fs ts
+wrote_sound es fs ss ts k named again now c b o s f kept same_named same is was had e i =
     let at : o ≡ lookup (is_at (key_cmp k)) es = had ∙ ap (λ (q : LedgerKey). lookup (is_at (key_cmp q)) es) same_named in
     let entries : fs ≡ insert_entry key_cmp es k (overlay_of now) =
     e ∙ ap (λ (q : LedgerKey). insert_entry key_cmp es q c) same_named ∙ ap (insert_entry key_cmp es k) is in
-    let records : ws ≡ us ++ record { key = k; before = or_same o } ∷ [] =
-    i ∙ ap (λ (q : LedgerKey). us ++ record { key = q; before = b } ∷ []) same ∙ ap (λ (x : Overlay). us ++ record { key = k; before = x } ∷ []) was in
-    subst (λ (x : List (LedgerKey × Overlay)). IsSound x ws) (sym entries)
-    (subst (IsSound (insert_entry key_cmp es k (overlay_of now))) (sym records) (wrote_here es us k now o s f kept at))
+    let saved : ts ≡ with_saved ss (record { key = k; before = or_same o }) =
+    i ∙ ap (λ (q : LedgerKey). with_saved ss (record { key = q; before = b })) same ∙ ap (λ (x : Overlay). with_saved ss (record { key = k; before = x })) was in
+    subst (λ (x : States). IsSound x ts) (sym entries)
+    (subst (IsSound (insert_entry key_cmp es k (overlay_of now))) (sym saved) (wrote_here es ss k now o s f kept at))
 
--- the newest undo record has its key among the overlays
-pub last_there : (es : List (LedgerKey × Overlay)) (us vs : List Undo) (u : Undo) → IsSound es us → us ≡ vs ++ u ∷ [] → IsThere es u
-last_there es us vs u s e = (all_less es vs u (subst (AllByRecursion (IsThere es)) e s.there)).1
-
--- a layer stays sound after a write is undone
-pub sound_less : (es fs : List (LedgerKey × Overlay)) (us vs : List Undo) (u : Undo) → IsSound es us → us ≡ vs ++ u ∷ [] → fs ≡ insert_entry key_cmp es u.key u.before → IsSound fs vs
-sound_less es fs us vs u s e is =
-    let there = (all_less es vs u (subst (AllByRecursion (IsThere es)) e s.there)).0 in
-    let earlier = fewer (λ x. IsLaid (undone x)) vs u (subst (AllByRecursion (λ x. IsLaid (undone x))) e s.earlier) in
-    subst (λ (x : List (LedgerKey × Overlay)). IsSound x vs) (sym is) (record {
-      there = all_still u.key u.before es vs there;
-      laid = laid_inserted u.key u.before es earlier.1 s.laid;
-      earlier = earlier.0;
+-- a write whose state could not be saved, and that is undone
+pub undone_sound : (es fs hs : States) (ss : List States) (k named again : LedgerKey) (now : Option Shared) (c b : Overlay) (o : Option Overlay) → IsSound es ss
+    → key_format.fits k → IfSome now (λ kept. IsKeptAt (key_bytes k) (kept_in kept)) → named ≡ k → again ≡ k → c ≡ overlay_of now → b ≡ or_same o → o ≡ lookup (is_at (key_cmp named)) es
+    → fs ≡ insert_entry key_cmp es named c → hs ≡ insert_entry key_cmp fs again b → IsSound hs ss
+undone_sound es fs hs ss k named again now c b o s f kept same_named same is was had e i =
+    let at : o ≡ lookup (is_at (key_cmp k)) es = had ∙ ap (λ (q : LedgerKey). lookup (is_at (key_cmp q)) es) same_named in
+    let entries : fs ≡ insert_entry key_cmp es k (overlay_of now) =
+    e ∙ ap (λ (q : LedgerKey). insert_entry key_cmp es q c) same_named ∙ ap (insert_entry key_cmp es k) is in
+    let back : hs ≡ insert_entry key_cmp fs k (or_same o) =
+    i ∙ ap (λ (q : LedgerKey). insert_entry key_cmp fs q b) same ∙ ap (insert_entry key_cmp fs k) was in
+    let laid : AllByRecursion IsLaid fs = subst (AllByRecursion IsLaid) (sym entries) (laid_inserted k (overlay_of now) es (record { fits = f; held = held_now (key_bytes k) now kept }) s.laid) in
+    subst (λ (x : States). IsSound x ss) (sym back) (record {
+      laid = laid_inserted k (or_same o) fs (record { fits = f; held = held_before es k o s.laid f at }) laid;
+      saved = saved_over es (insert_entry key_cmp fs k (or_same o)) ss
+          (λ x h. there_still k (or_same o) fs x (subst (λ (ys : States). IsThere ys x) (sym entries) (there_still k (overlay_of now) es x h))) s.saved;
     })
+
+-- a layer stays sound where overlays were put back
+pub sound_over : (es fs : States) (ss : List States) → (AllByRecursion IsLaid es → AllByRecursion IsLaid fs) → ((e : LedgerKey × Overlay) → IsThere es e → IsThere fs e)
+    → AllByRecursion IsLaid es → AllByRecursion (AreSaved es) ss → IsSound fs ss
+sound_over es fs ss laid there is h = record { laid = laid is; saved = saved_over es fs ss there h }
+
+-- one state is put back
+pub put_back_sound : (es fs s t : States) (u : Undo) → s ≡ t ++ undone u ∷ [] → fs ≡ insert_entry key_cmp es u.key u.before → AreSaved es s → AreSaved fs t
+put_back_sound es fs s t u e is h =
+    subst (λ (x : States). AreSaved x t) (sym is)
+    (all_map (IsSaved es) (IsSaved (insert_entry key_cmp es u.key u.before)) t (λ x p. record { there = there_still u.key u.before es x p.there; laid = p.laid })
+    (all_less (IsSaved es) t (undone u) (subst (AreSaved es) e h)).0)
+
+pub put_back_laid : (es fs s t : States) (u : Undo) → s ≡ t ++ undone u ∷ [] → fs ≡ insert_entry key_cmp es u.key u.before → AreSaved es s → AllByRecursion IsLaid es → AllByRecursion IsLaid fs
+put_back_laid es fs s t u e is h laid =
+    subst (AllByRecursion IsLaid) (sym is) (laid_inserted u.key u.before es (all_less (IsSaved es) t (undone u) (subst (AreSaved es) e h)).1.laid laid)
+
+pub put_back_there : (es fs : States) (u : Undo) → fs ≡ insert_entry key_cmp es u.key u.before → (e : LedgerKey × Overlay) → IsThere es e → IsThere fs e
+put_back_there es fs u is e h = subst (λ (x : States). IsThere x e) (sym is) (there_still u.key u.before es e h)
+
+pub last_saved : (es s t : States) (u : Undo) → s ≡ t ++ undone u ∷ [] → AreSaved es s → IsThere es (undone u)
+last_saved es s t u e h = (all_less (IsSaved es) t (undone u) (subst (AreSaved es) e h)).1.there

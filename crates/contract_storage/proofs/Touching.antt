@@ -2,15 +2,16 @@
 use Rattle.std.specs.Prelude.{cond, slice_set, slice_index_or}
 use Rattle.std.specs.List.{AllByRecursion}
 use Rattle.std.specs.Option.{option_map}
+use Rattle.std.specs.Str.{bytes_eq}
 use Rattle.std.specs.Map.{lookup}
 use Rattle.std.specs.BTreeMap.{is_at, insert_entry}
-use Rattle.std.proofs.Common.{◌≡◌, ℕ, suc, ◌+◌, ◌<◌, ◌^◌, Bool, true, false, List, [], ◌∷◌, ◌++◌, length, Option, Some, None, refl, sym, ap, ap₂, subst, ◌∙◌, arith}
+use Rattle.std.proofs.Common.{◌≡◌, ℕ, suc, ◌+◌, ◌-◌, ◌<◌, ◌^◌, Bool, true, false, List, [], ◌∷◌, ◌++◌, length, take, Option, Some, None, refl, sym, ap, ap₂, subst, ◌∙◌, arith}
 use Rattle.std.proofs.lemmas.Slice.Eq.{bytes_eq-Decides}
 use Rattle.ledger_types.specs.Key.{key_format}
 use Rattle.ledger_types.specs.KeyOrder.{key_cmp}
 use Rattle.ledger_types.specs.declared.key.LedgerKey.{LedgerKey}
 use Rattle.ledger_spec.specs.LedgerMap.{key_bytes}
-use Rattle.contract_storage.specs.Touched.{stronger, is_same_key, touch, index_in, IsIndex, AreIndexed}
+use Rattle.contract_storage.specs.Touched.{stronger, is_same_key, touch, touch_as, access_in, index_in, IsIndex, AreIndexed}
 use Rattle.contract_storage.specs.declared.access.Access.{Access}
 use Rattle.contract_storage.specs.declared.touched.Touch.{Touch}
 use Rattle.contract_storage.proofs.Laying.{lookup_put}
@@ -182,3 +183,187 @@ touch_at a k (t ∷ ts) i x y s e p q r =
 pub found_again : (es : List (LedgerKey × ℕ)) (a : Access) (k : LedgerKey) (ts : List Touch) (i : ℕ) (x y : Touch) (s : Access) → AreIndexed es ts → key_format.fits k → index_in k ts ≡ Some i
     → x ≡ slice_index_or ts i x → y ≡ slice_index_or ts i y → s ≡ stronger y.access a → AreIndexed es (slice_set ts i (record { key = x.key; access = s }))
 found_again es a k ts i x y s is f e p q r = subst (AreIndexed es) (sym (touch_at a k ts i x y s e p q r)) (indexed_found es a k ts i is f e)
+
+-- ---- notes that are taken back
+
+-- a key that was not touched has no access
+pub no_access : (k : LedgerKey) (ts : List Touch) → index_in k ts ≡ None → access_in k ts ≡ None
+no_access k [] e = refl
+no_access k (t ∷ ts) e =
+    let f = split (is_same_key k t.key) (index_in k ts) e in
+    ap (λ (b : Bool). cond b (Some t.access) (access_in k ts)) f.0 ∙ no_access k ts f.1
+
+-- a key without an access was not touched
+pub no_index : (k : LedgerKey) (ts : List Touch) → access_in k ts ≡ None → index_in k ts ≡ None
+no_index k [] e = refl
+no_index k (t ∷ ts) e =
+    elim (is_same_key k t.key) as (λ b. cond b (Some t.access) (access_in k ts) ≡ None → cond b (Some 0) (option_map suc (index_in k ts)) ≡ None) [
+      | true ↦ λ h. cc
+      | false ↦ λ h. ap (option_map suc) (no_index k ts h)
+    ] e
+
+-- the touch at a key's index has its access
+abbrev Has : Touch → List Touch → Touch → LedgerKey → ℕ → Type 0
+Has t ts x k n = x ≡ slice_index_or (t ∷ ts) n x → access_in k (t ∷ ts) ≡ Some x.access
+
+pub access_at : (k : LedgerKey) (ts : List Touch) (i : ℕ) (x : Touch) → index_in k ts ≡ Some i → x ≡ slice_index_or ts i x → access_in k ts ≡ Some x.access
+access_at k [] i x e p = cc
+access_at k (t ∷ ts) i x e p =
+    elim (is_same_key k t.key) as (λ b. cond b (Some 0) (option_map suc (index_in k ts)) ≡ Some i → cond b (Some t.access) (access_in k ts) ≡ Some x.access) [
+      | true ↦ λ h.
+          let z : 0 ≡ i = cc in
+          let same : x ≡ t = subst (λ (n : ℕ). x ≡ slice_index_or (t ∷ ts) n x) (sym z) p in
+          ap (λ (y : Touch). Some y.access) (sym same)
+      | false ↦ λ h.
+          elim (index_in k ts) as (λ o. index_in k ts ≡ o → option_map suc o ≡ Some i → access_in k ts ≡ Some x.access) [
+            | None ↦ λ f n. cc
+            | Some j ↦ λ f n.
+                let z : suc j ≡ i = cc in
+                access_at k ts j x f (subst (λ (n : ℕ). x ≡ slice_index_or (t ∷ ts) n x) (sym z) p)
+          ] refl h
+    ] e
+
+-- the touches after an access to a key that was touched, with the access that it had
+unstronger : (a b : Access) (k : LedgerKey) (ts : List Touch) → access_in k ts ≡ Some b → touch_as b k (touch a k ts) ≡ ts
+unstronger a b k [] e = cc
+unstronger a b k (t ∷ ts) e =
+    elim (is_same_key k t.key) as (λ c. is_same_key k t.key ≡ c → cond c (Some t.access) (access_in k ts) ≡ Some b
+    → touch_as b k (cond c (record t { access = stronger t.access a } ∷ ts) (t ∷ touch a k ts)) ≡ t ∷ ts) [
+      | true ↦ λ f h.
+          let was : t.access ≡ b = some_access t.access b h in
+          ap (λ (c : Bool). cond c (record t { access = b } ∷ ts) (record t { access = stronger t.access a } ∷ touch_as b k ts)) f
+          ∙ ap (λ (x : Access). record t { access = x } ∷ ts) (sym was)
+      | false ↦ λ f h.
+          ap (λ (c : Bool). cond c (record t { access = b } ∷ touch a k ts) (t ∷ touch_as b k (touch a k ts))) f
+          ∙ ap (λ (x : List Touch). t ∷ x) (unstronger a b k ts h)
+    ] refl e
+  where
+    some_access : (x y : Access) → Some x ≡ Some y → x ≡ y
+    some_access x y e = cc
+
+-- keys with the same bytes have the same index
+same_index : (q k : LedgerKey) (ts : List Touch) → is_same_key q k ≡ true → index_in q ts ≡ index_in k ts
+same_index q k ts e =
+    let bytes : key_bytes q ≡ key_bytes k = (bytes_eq-Decides (key_bytes q) (key_bytes k)).0 e in
+    by_bytes ts bytes
+  where
+    by_bytes : (us : List Touch) → key_bytes q ≡ key_bytes k → index_in q us ≡ index_in k us
+    by_bytes [] b = refl
+    by_bytes (t ∷ us) b = ap₂ (λ (c : Bool) (o : Option ℕ). cond c (Some 0) (option_map suc o)) (ap (λ (x : List ℕ). bytes_eq x (key_bytes t.key)) b) (by_bytes us b)
+
+same_both : (q k : LedgerKey) → is_same_key k q ≡ is_same_key q k
+same_both q k =
+    elim (is_same_key k q) as (λ b. is_same_key k q ≡ b → b ≡ is_same_key q k) [
+      | true ↦ λ e. sym ((bytes_eq-Decides (key_bytes q) (key_bytes k)).1 (sym ((bytes_eq-Decides (key_bytes k) (key_bytes q)).0 e)))
+      | false ↦ λ e.
+          elim (is_same_key q k) as (λ c. is_same_key q k ≡ c → false ≡ c) [
+            | true ↦ λ f. sym e ∙ (bytes_eq-Decides (key_bytes k) (key_bytes q)).1 (sym ((bytes_eq-Decides (key_bytes q) (key_bytes k)).0 f))
+            | false ↦ λ f. refl
+          ] refl
+    ] refl
+
+-- one touch less
+shorter : (P : Touch → Type 0) (xs : List Touch) (x : Touch) → AllByRecursion P (xs ++ x ∷ []) → AllByRecursion P xs
+shorter P [] x h = tt
+shorter P (y ∷ xs) x h = (h.0, shorter P xs x h.1)
+
+-- the index and the spelling without a key that was touched for the first time
+pub untouched : (es fs : List (LedgerKey × ℕ)) (a : Access) (k : LedgerKey) (before ts : List Touch) → AreIndexed es ts → ts ≡ touch a k before → key_format.fits k → index_in k before ≡ None
+    → ((q : LedgerKey) → lookup (is_at (key_cmp q)) fs ≡ cond (is_at (key_cmp k) q) None (lookup (is_at (key_cmp q)) es)) → AreIndexed fs before
+untouched es fs a k before ts is e fits first removed = record {
+  index = λ q f.
+      removed q
+      ∙ ap₂ (λ (b : Bool) (o : Option ℕ). cond b None o) (ties k q fits f ∙ same_both q k)
+      (is.index q f ∙ ap (index_in q) e ∙ index_new a k q before first)
+      ∙ without q;
+  spelled = record {
+    few = let n : length ts ≡ length before + 1 = ap length (e ∙ touch_new a k before first) ∙ longer before (record { key = k; access = a }) in omega (arith, n, is.spelled.few);
+    each = shorter (λ t. key_format.fits t.key) before (record { key = k; access = a }) (subst (AllByRecursion (λ t. key_format.fits t.key)) (e ∙ touch_new a k before first) is.spelled.each);
+  };
+}
+  where
+    without : (q : LedgerKey) → cond (is_same_key q k) None (cond (is_same_key q k) (Some (length before)) (index_in q before)) ≡ index_in q before
+    without q =
+        elim (is_same_key q k) as (λ b. is_same_key q k ≡ b → cond b None (cond b (Some (length before)) (index_in q before)) ≡ index_in q before) [
+          | true ↦ λ h. sym (same_index q k before h ∙ first)
+          | false ↦ λ h. refl
+        ] refl
+
+-- ---- the code's list without the last touch, and with the access that a touch had
+
+drop_last : (xs ys : List Touch) (x : Touch) → xs ≡ ys ++ x ∷ [] → take (length xs - 1) xs ≡ ys
+drop_last xs ys x e =
+    let n : length xs - 1 ≡ length ys = omega (arith, ap length e, longer ys x) in
+    rw (n, e) (front ys x)
+  where
+    front : (zs : List Touch) (z : Touch) → take (length zs) (zs ++ z ∷ []) ≡ zs
+    front [] z = refl
+    front (y ∷ zs) z = ap (λ (l : List Touch). y ∷ l) (front zs z)
+
+-- without the touch of a key that was touched for the first time
+pub last_touch : (a : Access) (k : LedgerKey) (before ts rest : List Touch) → index_in k before ≡ None → ts ≡ touch a k before → rest ≡ take (length ts - 1) ts → rest ≡ before
+last_touch a k before ts rest first e is = is ∙ drop_last ts before (record { key = k; access = a }) (e ∙ touch_new a k before first)
+
+-- a key with an access has an index
+has_index : (b : Access) (k : LedgerKey) (ts : List Touch) → access_in k ts ≡ Some b → (i : ℕ) × (index_in k ts ≡ Some i)
+has_index b k [] e = cc
+has_index b k (t ∷ ts) e =
+    elim (is_same_key k t.key) as (λ c. cond c (Some t.access) (access_in k ts) ≡ Some b → (i : ℕ) × (cond c (Some 0) (option_map suc (index_in k ts)) ≡ Some i)) [
+      | true ↦ λ h. (0, refl)
+      | false ↦ λ h. let r = has_index b k ts h in (suc r.0, ap (option_map suc) r.1)
+    ] e
+
+-- the code writes an access at the key's index
+abbrev Rewrites : Touch → List Touch → Touch → Access → List Touch → ℕ → Type 0
+Rewrites t ts x b to n = x ≡ slice_index_or (t ∷ ts) n x → slice_set (t ∷ ts) n (record { key = x.key; access = b }) ≡ to
+
+pub set_as : (b : Access) (k : LedgerKey) (ts : List Touch) (i : ℕ) (x : Touch) → index_in k ts ≡ Some i → x ≡ slice_index_or ts i x
+    → slice_set ts i (record { key = x.key; access = b }) ≡ touch_as b k ts
+set_as b k [] i x e p = cc
+set_as b k (t ∷ ts) i x e p =
+    elim (is_same_key k t.key) as (λ c. cond c (Some 0) (option_map suc (index_in k ts)) ≡ Some i
+    → slice_set (t ∷ ts) i (record { key = x.key; access = b }) ≡ cond c (record t { access = b } ∷ ts) (t ∷ touch_as b k ts)) [
+      | true ↦ λ h. let z : 0 ≡ i = cc in subst (Rewrites t ts x b (record t { access = b } ∷ ts)) z first p
+      | false ↦ λ h.
+          elim (index_in k ts) as (λ o. index_in k ts ≡ o → option_map suc o ≡ Some i → slice_set (t ∷ ts) i (record { key = x.key; access = b }) ≡ t ∷ touch_as b k ts) [
+            | None ↦ λ f n. cc
+            | Some j ↦ λ f n.
+                let z : suc j ≡ i = cc in
+                subst (Rewrites t ts x b (t ∷ touch_as b k ts)) z (λ u. ap (λ (l : List Touch). t ∷ l) (set_as b k ts j x f u)) p
+          ] refl h
+    ] e
+  where
+    first : Rewrites t ts x b (record t { access = b } ∷ ts) 0
+    first u = ap (λ (z : Touch). record { key = z.key; access = b } ∷ ts) u
+
+-- all keys were within their XDR formats before an access to a key that was touched
+fits_before : (a : Access) (k : LedgerKey) (ts : List Touch) → AllByRecursion (λ t. key_format.fits t.key) (touch a k ts) → AllByRecursion (λ t. key_format.fits t.key) ts
+fits_before a k [] h = tt
+fits_before a k (t ∷ ts) h =
+    elim (is_same_key k t.key) as (λ b. AllByRecursion (λ (x : Touch). key_format.fits x.key) (cond b (record t { access = stronger t.access a } ∷ ts) (t ∷ touch a k ts))
+    → AllByRecursion (λ (x : Touch). key_format.fits x.key) (t ∷ ts)) [
+      | true ↦ λ p. p
+      | false ↦ λ p. (p.0, fits_before a k ts p.1)
+    ] h
+
+module _ (a b : Access) (k : LedgerKey) (before ts : List Touch) (e : ts ≡ touch a k before) (had : access_in k before ≡ Some b) where
+  -- the touches with the access that the key had are those before
+  pub again_as : (i : ℕ) (x : Touch) → index_in k ts ≡ Some i → x ≡ slice_index_or ts i x → slice_set ts i (record { key = x.key; access = b }) ≡ before
+  again_as i x at p = set_as b k ts i x at p ∙ ap (touch_as b k) e ∙ unstronger a b k before had
+
+  pub indexed_as : (es : List (LedgerKey × ℕ)) → AreIndexed es ts → AreIndexed es before
+  indexed_as es is =
+      let j = has_index b k before had in
+      record {
+        index = λ q f. is.index q f ∙ ap (index_in q) e ∙ index_found a k q before j.0 j.1;
+        spelled = record {
+          few = let n : length ts ≡ length before = ap length e ∙ length_found a k before j.0 j.1 in omega (arith, n, is.spelled.few);
+          each = fits_before a k before (subst (AllByRecursion (λ t. key_format.fits t.key)) e is.spelled.each);
+        };
+      }
+
+  pub has_been : index_in k ts ≡ None → ⊥
+  has_been none = let j = has_index b k before had in some_none (sym (ap (index_in k) e ∙ index_found a k k before j.0 j.1 ∙ j.1) ∙ none)
+    where
+      some_none : {i : ℕ} → Some i ≡ None → ⊥
+      some_none h = cc

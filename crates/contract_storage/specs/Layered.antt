@@ -5,21 +5,17 @@ use Rattle.std.specs.FinMap.{insert, remove}
 use Rattle.ledger_spec.specs.declared.Kept.{Kept}
 use Rattle.ledger_spec.specs.LedgerMap.{LedgerMap}
 
--- the map without writes, the map after all writes, and the maps before each write, the oldest first
+-- the map without writes, the map after all writes, and the maps at the open snapshots, the oldest first
 pub record Layered : Type 0 where
   pub base : LedgerMap
   pub map : LedgerMap
-  pub past : List LedgerMap
+  pub snapshots : List LedgerMap
 
 -- how the logic stores it
 abbrev pub layered_code : Coded LedgerMap → Coded Layered
 layered_code c =
-    code_by (LedgerMap × (LedgerMap × List LedgerMap)) (coded× c (coded× c (coded_list c))) (λ s. (s.base, (s.map, s.past)))
-    (λ p. record { base = p.0; map = p.1.0; past = p.1.1 }) (λ _. refl)
-
--- all maps so far, the present one last
-abbrev pub history : Layered → List LedgerMap
-history s = s.past ++ s.map ∷ []
+    code_by (LedgerMap × (LedgerMap × List LedgerMap)) (coded× c (coded× c (coded_list c))) (λ s. (s.base, (s.map, s.snapshots)))
+    (λ p. record { base = p.0; map = p.1.0; snapshots = p.1.1 }) (λ _. refl)
 
 -- the map with this entry at a key's bytes; `None` removes the entry there
 abbrev pub set_at : LedgerMap → List ℕ → Option Kept → LedgerMap
@@ -28,4 +24,8 @@ set_at map bytes (Some kept) = insert map bytes kept
 
 -- the same after one more write
 abbrev pub with_write : Layered → List ℕ → Option Kept → Layered
-with_write s bytes now = record { base = s.base; map = set_at s.map bytes now; past = s.past ++ s.map ∷ [] }
+with_write s bytes now = record s { map = set_at s.map bytes now }
+
+-- the same with one more open snapshot
+abbrev pub with_snapshot : Layered → Layered
+with_snapshot s = record s { snapshots = s.snapshots ++ s.map ∷ [] }

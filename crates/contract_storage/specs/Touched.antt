@@ -11,6 +11,8 @@ use Rattle.ledger_types.specs.declared.key.LedgerKey.{LedgerKey}
 use Rattle.ledger_spec.specs.LedgerMap.{key_bytes}
 use Rattle.contract_storage.specs.declared.access.Access.{Access}
 use Rattle.contract_storage.specs.declared.access.Access.TheVariants.{Read, Extend, Write}
+use Rattle.contract_storage.specs.declared.touched.Noted.{Noted}
+use Rattle.contract_storage.specs.declared.touched.Noted.TheVariants.{First, Again}
 use Rattle.contract_storage.specs.declared.touched.Touch.{Touch}
 use Rattle.contract_storage.specs.Footprint.{allows}
 use Rattle.contract_storage.specs.Watched.{Seen, see}
@@ -57,6 +59,29 @@ pub record Known : Type 0 where
 -- what is known after an access that was allowed
 abbrev pub noted : Option (List (LedgerKey × Bool)) → Access → LedgerKey → Known → Known
 noted declared access key known = record { keys = touched_by declared access key known.keys; seen = see access key known.seen }
+
+-- ---- notes that are taken back
+
+-- the strongest access to the key, if it was touched
+abbrev pub access_in : LedgerKey → List Touch → Option Access
+access_in key [] = None
+access_in key (t ∷ ts) = if is_same_key key t.key then Some t.access else access_in key ts
+
+-- the touched keys with this as the strongest access to the key, if it was touched
+abbrev pub touch_as : Access → LedgerKey → List Touch → List Touch
+touch_as access key [] = []
+touch_as access key (t ∷ ts) = if is_same_key key t.key then record t { access = access } ∷ ts else t ∷ touch_as access key ts
+
+-- an access to the key was added to these keys: for the first time, or again
+abbrev pub IsNoted : LedgerKey → List Touch → Noted → Type 0
+IsNoted key before First = access_in key before ≡ None
+IsNoted key before (Again access) = access_in key before ≡ Some access
+
+-- the same of a storage, of which only one that records has a note
+abbrev pub IsNotedIn : Option (List (LedgerKey × Bool)) → LedgerKey → List Touch → Option Noted → Type 0
+IsNotedIn (Some declared) key before noted = noted ≡ None
+IsNotedIn None key before None = ⊥
+IsNotedIn None key before (Some noted) = IsNoted key before noted
 
 -- ---- how the code finds a touched key
 

@@ -70,9 +70,11 @@ impl<'a, G: Ground, W: Watch> Storage<'a, G, W> {
         if !self.allows(Access::Write, &key) {
             return Err(StoErr::Undeclared);
         }
-        let start = self.snapshot();
+        let Ok(noted) = self.note_key(Access::Write, &key) else {
+            return Err(StoErr::NoMemory);
+        };
         let answer = self.put_allowed(&key, entry);
-        self.ended(start, Access::Write, &key, answer)
+        self.ended(noted, Access::Write, &key, answer)
     }
 
     /// Deletes the live entry at a key, if there is one.
@@ -83,9 +85,11 @@ impl<'a, G: Ground, W: Watch> Storage<'a, G, W> {
         if !self.allows(Access::Write, key) {
             return Err(StoErr::Undeclared);
         }
-        let start = self.snapshot();
+        let Ok(noted) = self.note_key(Access::Write, key) else {
+            return Err(StoErr::NoMemory);
+        };
         let answer = self.del_allowed(key);
-        self.ended(start, Access::Write, key, answer)
+        self.ended(noted, Access::Write, key, answer)
     }
 
     /// Makes an entry with a given live-until ledger, unless the key has a live entry. Returns whether it made one.
@@ -103,9 +107,11 @@ impl<'a, G: Ground, W: Watch> Storage<'a, G, W> {
         if !self.allows(Access::Write, &key) {
             return Err(StoErr::Undeclared);
         }
-        let start = self.snapshot();
+        let Ok(noted) = self.note_key(Access::Write, &key) else {
+            return Err(StoErr::NoMemory);
+        };
         let answer = self.make_allowed(&key, entry, live_until);
-        self.ended(start, Access::Write, &key, answer)
+        self.ended(noted, Access::Write, &key, answer)
     }
 
     /// Extends the life of a live entry by `extend_to` ledgers from now, if at most `threshold` ledgers are left. A
@@ -120,8 +126,10 @@ impl<'a, G: Ground, W: Watch> Storage<'a, G, W> {
         if !self.allows(Access::Extend, key) {
             return Err(StoErr::Undeclared);
         }
-        let start = self.snapshot();
+        let Ok(noted) = self.note_key(Access::Extend, key) else {
+            return Err(StoErr::NoMemory);
+        };
         let answer = self.extend_allowed(key, threshold, extend_to);
-        self.ended(start, Access::Extend, key, answer)
+        self.ended(noted, Access::Extend, key, answer)
     }
 }

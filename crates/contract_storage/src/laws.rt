@@ -1,12 +1,21 @@
 //! Laws of a storage's snapshots.
 
-ghost use Rattle.std.specs.Prelude.{◌≡◌, length};
-ghost use Rattle.contract_storage.specs.Stored.{Stored, with_touched, IsLater, IsRestored};
+ghost use Rattle.std.specs.Prelude.{◌≡◌};
+ghost use Rattle.contract_storage.specs.Stored.{Stored, with_snapshot, with_touched, IsLater, IsReleased, IsRestored};
 
-/// A restore to a snapshot gives the state that the storage had at the snapshot, but for the touched keys, which stay.
+/// A restore gives the state that the storage had before the snapshot was opened, but for the touched keys, which stay. So that
+/// state is later than any before the snapshot.
 pub fn restore_goes_back()
-    ensures { (start later back : Stored) → IsLater start later → IsRestored (length start.past) later back
+    ensures back { (start later back : Stored) → IsLater (with_snapshot start) later → IsRestored later back
         → back ≡ with_touched start later.touched }
+    ensures later { (first start later back : Stored) → IsLater first start → IsLater (with_snapshot start) later
+        → IsRestored later back → IsLater first back }
+{}
+
+/// A release gives a state that is later than that before the snapshot was opened.
+pub fn release_goes_on()
+    ensures { (start later done : Stored) → IsLater (with_snapshot start) later → IsReleased later done
+        → (done ≡ record later { snapshots = start.snapshots }) × IsLater start done }
 {}
 
 /// A state is later than those before it, through any number of calls.

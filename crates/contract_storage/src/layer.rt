@@ -1,14 +1,20 @@
 //! Writes over the entries of a ledger, and how to undo them.
 
-ghost use Rattle.std.specs.Prelude.{◌≡◌, ◌≤◌, ◌+◌, OnOk, OnErr, IfOk, IfSome, Some, [], length, take};
+ghost use Rattle.std.specs.Prelude.{◌≡◌, ◌≤◌, ◌++◌, OnOk, OnErr, IfOk, IfErr, IfSome, Some, [], ◌∷◌, List, length};
+ghost use Rattle.std.specs.List.{AllByRecursion};
 ghost use Rattle.std.specs.Option.{option_map};
-ghost use Rattle.std.specs.BTreeMap.{insert_entry};
 ghost use Rattle.ledger_types.specs.KeyOrder.{key_cmp};
 ghost use Rattle.ledger_types.specs.Key.{key_format};
 ghost use Rattle.ledger_spec.specs.LedgerMap.{find as find_in, key_bytes, IsKeptAt};
 ghost use Rattle.entry_lookup.specs.Found.{kept_of};
-ghost use Rattle.contract_storage.specs.Layered.{history, with_write};
-ghost use Rattle.contract_storage.specs.Overlays.{kept_in, overlay_of, or_same, IsThere};
+ghost use Rattle.std.specs.BTreeMap.{insert_entry};
+ghost use Rattle.ledger_spec.specs.LedgerMap.{LedgerMap};
+ghost use Rattle.ledger_types.specs.declared.key.LedgerKey.{LedgerKey as LedgerKey'};
+ghost use Rattle.contract_storage.specs.Layered.{with_snapshot, with_write};
+ghost use Rattle.contract_storage.specs.Overlays.{kept_in, laid_all, over as over_in, overlay_of, or_same, saved_in, undone};
+ghost use Rattle.contract_storage.specs.Overlays.{with_saved, with_state};
+ghost use Rattle.contract_storage.specs.Overlays.{IsLaid, IsSaved, IsThere};
+ghost use Rattle.contract_storage.specs.declared.layer.Overlay.{Overlay as Overlay'};
 ghost use Rattle.contract_storage.specs.Differences.{AreDifferences};
 
 use crate::changes::{Change, changes_of};
@@ -46,12 +52,20 @@ pub(crate) struct Undo {
     pub before: Overlay,
 }
 
-/// The entries of a ledger with writes over them. Undoing a write takes no memory: a key that was written stays in the map.
+/// What a restore of an open snapshot puts back: each key that was written since, with its state at the snapshot. Keys that were
+/// written while a newer snapshot was open come to it when that one is released.
+#[derive(Drop)]
+pub(crate) struct Saved {
+    pub states: BTreeMap<LedgerKey, Overlay>,
+}
+
+/// The entries of a ledger with writes over them. A restore takes no memory: a key that was written stays in the map.
 #[derive(Drop)]
 pub(crate) struct Layer<'a, G: Ground> {
     base: &'a G,
     over: BTreeMap<LedgerKey, Overlay>,
-    undo: Vec<Undo>,
+    /// The open snapshots, the oldest first.
+    saved: Vec<Saved>,
 }
 
 impl<'a, G: Ground> Model for Layer<'a, G> {
@@ -64,11 +78,11 @@ impl<'a, G: Ground> Model for Layer<'a, G> {
 
     ghost coded = { layered_code (code (coded_list coded_ℕ) kept.the_row.coded) };
 
-    ghost use Rattle.contract_storage.specs.Overlays.{layered, IsSound};
+    ghost use Rattle.contract_storage.specs.Overlays.{layered, saved_in, IsSound};
 
-    ghost view = { λ s. layered (G.map s.base.now) s.over.entries s.undo.items };
+    ghost view = { λ s. layered (G.map s.base.now) s.over.entries (saved_in s.saved.items) };
 
-    ghost invariant = { λ s. IsSound s.over.entries s.undo.items };
+    ghost invariant = { λ s. IsSound s.over.entries (saved_in s.saved.items) };
 }
 
 /// Finds the entry at a key in the ground.
@@ -83,12 +97,12 @@ fn find_below<'a, G: Ground>(base: &'a G, key: &LedgerKey) -> Option<Found<'a>>
 impl<'a, G: Ground> Layer<'a, G> {
     /// Makes a layer without writes.
     pub(crate) fn new(alloc: Global, base: &'a G) -> Layer<'a, G>
-        ensures { result ≡ record { base = G.map base.now; map = G.map base.now; past = [] } }
+        ensures { result ≡ record { base = G.map base.now; map = G.map base.now; snapshots = [] } }
     {
         Layer {
             base,
             over: BTreeMap::new(alloc),
-            undo: Vec::new(alloc),
+            saved: Vec::new(alloc),
         }
     }
 
@@ -137,32 +151,65 @@ impl<'a, G: Ground> Layer<'a, G> {
     {
         let named = key.clone()?;
         let again = key.clone()?;
-        self.undo.reserve(1)?;
         let overlay = overlay_of(now);
         let before = self.over.insert(named, overlay)?;
-        let before = or_same(before);
-        self.undo.push(Undo { key: again, before })?;
+        let undo = Undo {
+            key: again,
+            before: or_same(before),
+        };
+        match save(&mut self.saved, undo) {
+            Ok(()) => Ok(()),
+            Err(undo) => {
+                put_back(&mut self.over, undo);
+                Err(NoMemory)
+            }
+        }
+    }
+
+    /// Opens a snapshot. Running out of memory changes nothing.
+    pub(crate) fn open(&mut self, alloc: Global) -> Result<(), NoMemory>
+        ensures ok { OnOk result (self.new ≡ with_snapshot self.old) }
+        ensures err { OnErr result (self.new ≡ self.old) }
+    {
+        let states = BTreeMap::new(alloc);
+        self.saved.push(Saved { states })?;
         Ok(())
     }
 
-    /// Returns the number of writes that were not undone.
-    pub(crate) fn mark(&self) -> usize
-        ensures { result ≡ length self.now.past }
-    {
-        self.undo.len()
-    }
-
-    /// Undoes all writes but the first `mark` ones. It takes no memory, and O(log n) time for each of these writes.
-    pub(crate) fn back(&mut self, mark: usize)
-        requires { mark ≤ length self.old.past }
-        ensures history { history self.new ≡ take (mark + 1) (history self.old) }
+    /// Goes back to the newest open snapshot, and closes it. It takes no memory, and O(log n) time for each key that was written
+    /// since.
+    pub(crate) fn back(&mut self)
+        requires { 1 ≤ length self.old.snapshots }
+        ensures back { self.old.snapshots ≡ self.new.snapshots ++ self.new.map ∷ [] }
         ensures base { self.new.base ≡ self.old.base }
     {
-        while self.undo.len() > mark {
-            let Some(undo) = self.undo.pop() else {
-                return;
-            };
-            put_back(&mut self.over, undo);
+        if let Some(saved) = self.saved.pop() {
+            put_all_back(&mut self.over, saved.states);
+        }
+    }
+
+    /// Closes the newest open snapshot. The writes since stay, and an older snapshot can undo them. It takes O(log n) time for
+    /// each key that was written since. If memory runs out, some of these keys have their states at the snapshot again.
+    pub(crate) fn close(&mut self) -> Result<(), NoMemory>
+        requires { 1 ≤ length self.old.snapshots }
+        ensures closed { (map : LedgerMap) × (self.old.snapshots ≡ self.new.snapshots ++ map ∷ []) }
+        ensures map { OnOk result (self.new.map ≡ self.old.map) }
+        ensures base { self.new.base ≡ self.old.base }
+    {
+        let Some(mut newest) = self.saved.pop() else {
+            return Ok(());
+        };
+        let open = self.saved.len();
+        if open == 0 {
+            return Ok(());
+        }
+        match merge(&mut self.saved[open - 1].states, &mut newest.states) {
+            Ok(()) => Ok(()),
+            Err(undo) => {
+                put_all_back(&mut self.over, newest.states);
+                put_back(&mut self.over, undo);
+                Err(NoMemory)
+            }
         }
     }
 
@@ -211,9 +258,77 @@ fn found_of(shared: &Shared) -> Found<'_>
     }
 }
 
+// Gives the newest open snapshot the state that a key had before a write, unless it has one of the key. If memory runs out, the
+// state comes back.
+fn save(saved: &mut Vec<Saved>, undo: Undo) -> Result<(), Undo>
+    ensures ok { OnOk result (saved_in saved.new.items ≡ with_saved (saved_in saved.old.items) undo) }
+    ensures err { IfErr result (λ back. back ≡ undo) }
+    ensures stays { OnErr result (saved_in saved.new.items ≡ saved_in saved.old.items) }
+{
+    let open = saved.len();
+    if open == 0 {
+        return Ok(());
+    }
+    keep_first(&mut saved[open - 1].states, undo)
+}
+
+// Keeps the state of a key, unless there is one of the key. If memory runs out, the state comes back.
+fn keep_first(states: &mut BTreeMap<LedgerKey, Overlay>, undo: Undo) -> Result<(), Undo>
+    ensures ok { OnOk result (states.new.entries ≡ with_state states.old.entries undo) }
+    ensures err { IfErr result (λ back. back ≡ undo) }
+    ensures stays { OnErr result (states.new.entries ≡ states.old.entries) }
+{
+    if states.contains_key(&undo.key) {
+        return Ok(());
+    }
+    let Undo { key, before } = undo;
+    match states.insert(key, before) {
+        Ok(_) => Ok(()),
+        Err(failed) => {
+            let (key, before) = failed.value;
+            Err(Undo { key, before })
+        }
+    }
+}
+
+// Moves the states of a snapshot that is released to the next older one, which keeps its own. If memory runs out, one state comes
+// back, and others stay.
+fn merge(
+    older: &mut BTreeMap<LedgerKey, Overlay>,
+    newest: &mut BTreeMap<LedgerKey, Overlay>,
+) -> Result<(), Undo>
+    ensures ok { OnOk result ((base now : LedgerMap)
+        → laid_all base now older.new.entries ≡ laid_all base (laid_all base now newest.old.entries) older.old.entries) }
+    ensures err { IfErr result (λ undo. (base now : LedgerMap)
+        → laid_all base (laid_all base now (undone undo ∷ newest.new.entries)) older.new.entries
+        ≡ laid_all base (laid_all base now newest.old.entries) older.old.entries) }
+    ensures sound { (es : List (LedgerKey' × Overlay')) → AllByRecursion (IsSaved es) older.old.entries
+        → AllByRecursion (IsSaved es) newest.old.entries → AllByRecursion (IsSaved es) older.new.entries
+        × AllByRecursion (IsSaved es) newest.new.entries × IfErr result (λ undo. IsSaved es (undone undo)) }
+{
+    while let Some((key, before)) = newest.pop_first() {
+        keep_first(older, Undo { key, before })?;
+    }
+    Ok(())
+}
+
+// Undoes the writes of these keys. Each has an overlay, so this takes no memory.
+fn put_all_back(over: &mut BTreeMap<LedgerKey, Overlay>, states: BTreeMap<LedgerKey, Overlay>)
+    requires { AllByRecursion (IsSaved over.old.entries) states.entries }
+    ensures back { (base : LedgerMap)
+        → over_in base over.new.entries ≡ laid_all base (over_in base over.old.entries) states.entries }
+    ensures laid { AllByRecursion IsLaid over.old.entries → AllByRecursion IsLaid over.new.entries }
+    ensures there { (e : LedgerKey' × Overlay') → IsThere over.old.entries e → IsThere over.new.entries e }
+{
+    let mut states = states;
+    while let Some((key, before)) = states.pop_last() {
+        put_back(over, Undo { key, before });
+    }
+}
+
 // Undoes one write. The key has an overlay, so this takes no memory.
 fn put_back(over: &mut BTreeMap<LedgerKey, Overlay>, undo: Undo)
-    requires { IsThere over.old.entries undo }
+    requires { IsThere over.old.entries (undone undo) }
     ensures { over.new.entries ≡ insert_entry key_cmp over.old.entries undo.key undo.before }
 {
     let Undo { key, before } = undo;

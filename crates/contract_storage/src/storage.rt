@@ -1,6 +1,7 @@
 //! The storage: the accesses that it allows, its snapshots, and what it changed and recorded. Its calls are in `calls`.
 
-ghost use Rattle.std.specs.Prelude.{◌≡◌, ◌≤◌, ◌<◌, ◌-◌, ◌^◌, ◌&&◌, All, Some, None, length, nat_lt, nat_le, IfOk, IfErr, IfSome};
+ghost use Rattle.std.specs.Prelude.{◌≡◌, ◌≤◌, ◌<◌, List, ◌-◌, ◌^◌, ◌&&◌, All, Some, None, length, nat_lt, nat_le};
+ghost use Rattle.std.specs.Prelude.{IfOk, IfErr, IfSome};
 ghost use Rattle.std.specs.Prelude.{IsSomeAnd, true, false, OnOk, OnErr};
 ghost use Rattle.std.specs.Option.{option_map};
 ghost use Rattle.ledger_types.specs.Key.{key_format};
@@ -12,9 +13,12 @@ ghost use Rattle.ledger_spec.specs.Changes.{asked_life, furthest as furthest_in,
 ghost use Rattle.contract_storage.specs.Layered.{set_at};
 ghost use Rattle.contract_storage.specs.Overlays.{kept_in};
 ghost use Rattle.contract_storage.specs.Differences.{AreDifferences};
-ghost use Rattle.contract_storage.specs.Stored.{HasBounds, starting, with_map, with_touched, IsRestored};
+ghost use Rattle.contract_storage.specs.Stored.{HasBounds, starting, with_keys, with_map, with_seen, with_snapshot, with_touched};
+ghost use Rattle.contract_storage.specs.Stored.{IsHalfReleased, IsReleased, IsRestored};
 ghost use Rattle.contract_storage.specs.Footprint.{IsFootprint};
-ghost use Rattle.contract_storage.specs.Touched.{admits, noted, AreSpelled};
+ghost use Rattle.contract_storage.specs.Touched.{admits, noted, touched_by, AreSpelled, IsNotedIn};
+ghost use Rattle.contract_storage.specs.Watched.{see};
+ghost use Rattle.contract_storage.specs.declared.touched.Touch.{Touch as Touch'};
 ghost use Rattle.contract_storage.specs.Acts.{sight_seen, life_of_put, IsSeenAt, ran_out};
 
 use crate::access::{Access, StoErr};
@@ -22,7 +26,7 @@ use crate::changes::Change;
 use crate::footprint::{allows, declared_keys};
 use crate::layer::{Layer, Shared};
 use crate::sight::{Sight, sight_of};
-use crate::touched::{Touch, Touched};
+use crate::touched::{Noted, Touch, Touched};
 use crate::watch::{Moment, Outcome, Watch};
 use entry_lookup::{Found, Ground};
 use ledger_spec::{Kept, first_life, is_temporary};
@@ -33,15 +37,8 @@ use std::marker::Model;
 use std::rc::Rc;
 use xdr_core::NoMemory;
 
-/// A snapshot of a storage.
-#[derive(Clone, Copy, Debug, PartialEq, Eq)]
-pub struct Point {
-    /// The number of writes before it.
-    pub writes: usize,
-}
-
-/// The entries of a ledger as one transaction sees and changes them. Changes can be undone. Either the footprint of the
-/// transaction decides which accesses are allowed, or all are allowed and the touched keys are recorded.
+/// The entries of a ledger as one transaction sees and changes them. Changes since a snapshot can be undone. Either the footprint
+/// of the transaction decides which accesses are allowed, or all are allowed and the touched keys are recorded.
 #[derive(Drop)]
 pub struct Storage<'a, G: Ground, W: Watch> {
     layer: Layer<'a, G>,
@@ -74,7 +71,7 @@ impl<'a, G: Ground, W: Watch> Model for Storage<'a, G, W> {
     ghost view = { λ s. record {
       base = s.layer.base;
       map = s.layer.map;
-      past = s.layer.past;
+      snapshots = s.layer.snapshots;
       declared = option_map (λ d. d.entries) s.declared;
       touched = record { keys = s.touched; seen = W.seen s.watch };
       n = s.n;
@@ -223,12 +220,28 @@ impl<'a, G: Ground, W: Watch> Storage<'a, G, W> {
         ensures ok { OnOk result (self.new ≡ with_touched self.old (noted self.old.declared access key.now self.old.touched)) }
         ensures err { OnErr result ((self.old.declared ≡ None) × (self.new ≡ self.old)) }
     {
-        match &self.declared {
-            Some(_) => (),
-            None => self.touched.add(access, key)?,
-        }
+        self.note_key(access, key)?;
         self.watch.accessed(access, key, outcome);
         Ok(())
+    }
+
+    /// Notes the key of an access that is allowed, if keys are recorded, and returns how to take that back. The observer is not
+    /// told. Running out of memory changes nothing.
+    pub(crate) fn note_key(
+        &mut self,
+        access: Access,
+        key: &LedgerKey,
+    ) -> Result<Option<Noted>, NoMemory>
+        requires { key_format.fits key.now }
+        ensures ok { OnOk result (self.new
+            ≡ with_keys self.old (touched_by self.old.declared access key.now self.old.touched.keys)) }
+        ensures noted { IfOk result (IsNotedIn self.old.declared key.now self.old.touched.keys) }
+        ensures err { OnErr result ((self.old.declared ≡ None) × (self.new ≡ self.old)) }
+    {
+        match &self.declared {
+            Some(_) => Ok(None),
+            None => Ok(Some(self.touched.add(access, key)?)),
+        }
     }
 
     /// Tells the observer what an access finds at a key, if it wants to know.
@@ -260,33 +273,33 @@ impl<'a, G: Ground, W: Watch> Storage<'a, G, W> {
         watch
     }
 
-    /// Ends a call whose access returned `answer`: notes the access, unless `answer` says that memory ran out. If memory runs out
-    /// for the note, all writes since `start` are undone.
+    /// Ends a call whose access was noted and returned `answer`. If memory ran out, the note is taken back. Else the observer is
+    /// told.
     pub(crate) fn ended<T: Drop>(
         &mut self,
-        start: Point,
+        noted: Option<Noted>,
         access: Access,
         key: &LedgerKey,
         answer: Result<T, StoErr>,
     ) -> Result<T, StoErr>
         requires fits { key_format.fits key.now }
-        requires before { start.writes ≤ length self.old.past }
-        ensures out { ran_out answer ≡ true → (ran_out result ≡ true) × (self.new ≡ self.old) }
-        ensures ends { ran_out answer ≡ false → ran_out result ≡ false
-            → (result ≡ answer) × (self.new ≡ with_touched self.old (noted self.old.declared access key.now self.old.touched)) }
-        ensures undone { ran_out answer ≡ false → ran_out result ≡ true
-            → (self.old.declared ≡ None) × IsRestored start.writes self.old self.new }
+        requires noted { (before : List Touch')
+            × (self.old.touched.keys ≡ touched_by self.old.declared access key.now before)
+            × IsNotedIn self.old.declared key.now before noted }
+        ensures same { result ≡ answer }
+        ensures out { ran_out answer ≡ true → (before : List Touch')
+            → self.old.touched.keys ≡ touched_by self.old.declared access key.now before
+            → IsNotedIn self.old.declared key.now before noted → self.new ≡ with_keys self.old before }
+        ensures ends { ran_out answer ≡ false → self.new ≡ with_seen self.old (see access key.now self.old.touched.seen) }
     {
-        if ran_out(&answer) {
+        if !ran_out(&answer) {
+            self.watch.accessed(access, key, outcome_of(&answer));
             return answer;
         }
-        match self.note(access, key, outcome_of(&answer)) {
-            Ok(()) => answer,
-            Err(_) => {
-                self.restore(start);
-                Err(StoErr::NoMemory)
-            }
+        if let Some(noted) = noted {
+            self.touched.take_back(key, noted);
         }
+        answer
     }
 
     /// Returns what an access finds at a key. It takes no memory.
@@ -386,21 +399,33 @@ impl<'a, G: Ground, W: Watch> Storage<'a, G, W> {
         }
     }
 
-    /// Takes a snapshot, in O(1). `restore` goes back to it.
-    pub fn snapshot(&self) -> Point
-        ensures { result.writes ≡ length self.now.past }
+    /// Opens a snapshot, in amortised O(1). `restore` or `release` closes it. Snapshots close in reverse order: the newest first.
+    /// Running out of memory changes nothing.
+    pub fn snapshot(&mut self) -> Result<(), NoMemory>
+        ensures ok { OnOk result (self.new ≡ with_snapshot self.old) }
+        ensures err { OnErr result (self.new ≡ self.old) }
     {
-        Point {
-            writes: self.layer.mark(),
-        }
+        self.layer.open(self.alloc)
     }
 
-    /// Undoes all writes since a snapshot, in O(log n) each. Recorded keys stay. It takes no memory.
-    pub fn restore(&mut self, to: Point)
-        requires { to.writes ≤ length self.old.past }
-        ensures { IsRestored to.writes self.old self.new }
+    /// Undoes all writes since the newest open snapshot, and closes it, in O(log n) for each key that was written since. Recorded
+    /// keys stay. It takes no memory.
+    pub fn restore(&mut self)
+        requires { 1 ≤ length self.old.snapshots }
+        ensures { IsRestored self.old self.new }
     {
-        self.layer.back(to.writes);
+        self.layer.back();
+    }
+
+    /// Closes the newest open snapshot, and keeps the writes since, in O(log n) for each key that was written since. An older
+    /// snapshot that is open can still undo them. If memory runs out, the snapshot is closed, and the entries are unspecified;
+    /// older snapshots can still be restored.
+    pub fn release(&mut self) -> Result<(), NoMemory>
+        requires { 1 ≤ length self.old.snapshots }
+        ensures ok { OnOk result (IsReleased self.old self.new) }
+        ensures err { OnErr result (IsHalfReleased self.old self.new) }
+    {
+        self.layer.close()
     }
 
     /// Returns the changes from the ground's map to the present one: the keys at which they differ, sorted by their XDR bytes.

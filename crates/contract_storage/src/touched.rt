@@ -1,8 +1,10 @@
 //! The keys that a storage records.
 
-ghost use Rattle.std.specs.Prelude.{◌≡◌, ◌<◌, [], None, length, IfSome, OnOk, OnErr};
+ghost use Rattle.std.specs.Prelude.{◌≡◌, ◌<◌, [], None, List, length, IfOk, IfSome, OnOk, OnErr};
 ghost use Rattle.ledger_types.specs.Key.{key_format};
-ghost use Rattle.contract_storage.specs.Touched.{stronger as stronger_in, touch, index_in, AreSpelled};
+ghost use Rattle.contract_storage.specs.Touched.{stronger as stronger_in, touch, index_in, AreSpelled, IsNoted};
+ghost use Rattle.contract_storage.specs.declared.access.Access.{Access as Access'};
+ghost use Rattle.contract_storage.specs.declared.touched.Touch.{Touch as Touch'};
 
 use crate::access::Access;
 use ledger_types::LedgerKey;
@@ -19,6 +21,15 @@ const MOST_KEYS: usize = 4_294_967_295;
 pub struct Touch {
     pub key: LedgerKey,
     pub access: Access,
+}
+
+/// How to take back the note of an access.
+#[derive(Clone, Copy)]
+pub(crate) enum Noted {
+    /// The key was touched for the first time.
+    First,
+    /// The key was touched before, and this was its strongest access.
+    Again(Access),
 }
 
 /// The keys that were accessed, in the order of their first access. Adding an access takes O(log n) comparisons of keys. Each key
@@ -89,19 +100,45 @@ impl Touched {
         self.index.get(key).copied()
     }
 
-    /// Adds an access. It fails, and changes nothing, if memory runs out or a new key comes after 2^32 - 1 others.
-    pub(crate) fn add(&mut self, access: Access, key: &LedgerKey) -> Result<(), NoMemory>
+    /// Adds an access, and returns how to take it back. It fails, and changes nothing, if memory runs out or a new key comes
+    /// after 2^32 - 1 others.
+    pub(crate) fn add(&mut self, access: Access, key: &LedgerKey) -> Result<Noted, NoMemory>
         requires { key_format.fits key.now }
         ensures ok { OnOk result (self.new ≡ touch access key.now self.old) }
+        ensures noted { IfOk result (IsNoted key.now self.old) }
         ensures err { OnErr result (self.new ≡ self.old) }
     {
         match self.index_of(key) {
             Some(i) => {
                 let before = self.touches[i].access;
                 self.touches[i].access = stronger(before, access);
-                Ok(())
+                Ok(Noted::Again(before))
             }
-            None => self.push(access, key),
+            None => {
+                self.push(access, key)?;
+                Ok(Noted::First)
+            }
+        }
+    }
+
+    /// Takes back the last access that was added, which was to this key. It takes no memory.
+    pub(crate) fn take_back(&mut self, key: &LedgerKey, noted: Noted)
+        requires fits { key_format.fits key.now }
+        requires noted { (access : Access') × (before : List Touch') × (self.old ≡ touch access key.now before)
+            × IsNoted key.now before noted }
+        ensures { (access : Access') (before : List Touch') → self.old ≡ touch access key.now before
+            → IsNoted key.now before noted → self.new ≡ before }
+    {
+        match noted {
+            Noted::First => {
+                self.touches.pop();
+                self.index.remove(key);
+            }
+            Noted::Again(before) => {
+                if let Some(i) = self.index_of(key) {
+                    self.touches[i].access = before;
+                }
+            }
         }
     }
 

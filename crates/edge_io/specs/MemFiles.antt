@@ -1,5 +1,5 @@
 -- The content of files in memory, and which of their calls fail (own).
-use Rattle.std.specs.Prelude.{◌≡◌, ℕ, ◌<◌, ◌-◌, ◌^◌, List, [], Contains, Some, None, slice_index}
+use Rattle.std.specs.Prelude.{◌≡◌, ℕ, ◌<◌, ◌+◌, ◌-◌, ◌^◌, List, [], Contains, Some, None, slice_index}
 use Rattle.std.specs.FinMap.{get}
 use Rattle.edge_io.specs.Contents.{Contents}
 use Rattle.edge_io.specs.Counts.{raised}
@@ -22,6 +22,10 @@ calls_of m = m.calls
 abbrev pub failing_of : MemFiles → List ℕ
 failing_of m = m.failing.items
 
+-- how many bytes a piece may have
+abbrev pub most_of : MemFiles → ℕ
+most_of m = m.beyond + 1
+
 -- no failing call is listed, and each count can rise
 abbrev pub IsSteady : MemFiles → Type 0
 IsSteady m = (failing_of m ≡ []) × ((file : ℕ) → faults_of m file < 2 ^ 64 - 1)
@@ -34,12 +38,13 @@ FailsNext m = Contains (failing_of m) (calls_of m)
 abbrev pub IsMissing : MemFiles → List ℕ → Type 0
 IsMissing m name = get (files_of m.stored.items) name ≡ None
 
--- the list of failing calls stays, and the next call has the next number
+-- the list of failing calls and the size of a piece stay, and the next call has the next number
 pub record CountsCall (old new : MemFiles) : Type 0 where
   pub listed : failing_of new ≡ failing_of old
+  pub most : most_of new ≡ most_of old
   pub next : calls_of new ≡ raised (calls_of old)
 
--- everything but the files is as before
+-- but for the files and the size of a piece, everything is as before
 pub record IsSameBesides (old new : MemFiles) : Type 0 where
   pub listed : failing_of new ≡ failing_of old
   pub calls : calls_of new ≡ calls_of old

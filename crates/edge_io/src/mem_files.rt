@@ -33,15 +33,16 @@ pub struct MemFiles {
 }
 
 impl MemFiles {
-    ghost use Rattle.edge_io.specs.MemFiles.{calls_of, contents_of, failing_of, faults_of, IsSteady, IsSameBesides};
+    ghost use Rattle.edge_io.specs.MemFiles.{calls_of, contents_of, failing_of, faults_of, most_of, IsSteady, IsSameBesides};
 
-    /// No files; the calls of these numbers will fail.
+    /// No files; the calls of these numbers will fail. A piece is cut by its buffer alone.
     pub fn new(alloc: Global, failing: Vec<u64>) -> MemFiles
         ensures contents { contents_of result ≡ Some map.empty }
         ensures counts { (file : ℕ) → faults_of result file ≡ 0 }
         ensures calls { calls_of result ≡ 0 }
         ensures listed { failing_of result ≡ failing.items }
         ensures steady { failing.items ≡ [] → IsSteady result }
+        ensures most { most_of result ≡ 2 ^ 64 }
     {
         MemFiles {
             alloc,
@@ -58,12 +59,14 @@ impl MemFiles {
         ensures ok { OnOk result (contents_of self.new ≡ put (contents_of self.old) name.now bytes.now) }
         ensures err { OnErr result (contents_of self.new ≡ contents_of self.old) }
         ensures same { IsSameBesides self.old self.new }
+        ensures most { most_of self.new ≡ most_of self.old }
     {
         keep(self.alloc, &mut self.stored, name, bytes)
     }
 
     /// Lets each piece have at most so many bytes, but one in any case.
     pub fn cut(&mut self, most: usize)
+        ensures most { most_of self.new ≡ most - 1 + 1 }
         ensures contents { contents_of self.new ≡ contents_of self.old }
         ensures same { IsSameBesides self.old self.new }
     {
@@ -79,7 +82,7 @@ impl MemFiles {
 }
 
 impl Files for MemFiles {
-    ghost use Rattle.edge_io.specs.MemFiles.{contents_of, faults_of, CountsCall, FailsNext, IsMissing, IsSteady};
+    ghost use Rattle.edge_io.specs.MemFiles.{contents_of, faults_of, most_of, CountsCall, FailsNext, IsMissing, IsSteady};
 
     ghost contents = { contents_of };
 
@@ -112,6 +115,9 @@ impl Files for MemFiles {
         ensures raised { OnErr result (RaisesOnly file (faults_of self.old) (faults_of self.new)) }
         ensures kept { OnOk result ((k : ℕ) → faults_of self.new k ≡ faults_of self.old k) }
         ensures counted { CountsCall self.old self.new }
+
+        // A piece has at most as many bytes as `cut` lets it have.
+        ensures cut { IfOk result (λ n. n ≤ most_of self.old) }
     {
         if is_listed(&mut self.calls, &self.failing) {
             raise(&mut self.counts, file);
@@ -170,6 +176,7 @@ fn find_bytes<'a>(stored: &'a [Stored], name: &Word) -> Option<&'a [u8]>
 /// Copies the bytes from an offset, as many as fit but at most so many beyond the first, and returns their number.
 fn copy_from(bytes: &[u8], at: usize, beyond: usize, buf: &mut [u8]) -> usize
     ensures within { result ≤ length buf.new }
+    ensures cut { result ≤ beyond + 1 }
     ensures piece { IsPiece bytes.now at buf.new result }
 {
     if at >= bytes.len() {

@@ -53,7 +53,8 @@ impl<R: rt::Files + Eprint + Drop> RealFiles<R> {
     /// takes the room for it. Later only a store takes memory, to a symbolic link or a longer name: a lack of memory is never a
     /// failed call. A file with a longer name is not kept open, so each of its pieces opens it again.
     pub fn new(rt: R, alloc: Global, longest: usize) -> Result<RealFiles<R>, AllocError>
-        ensures { IfOk result (λ files. (file : ℕ) → ⟦<RealFiles<R> as Files>⟧.faults files file ≡ 0) }
+        ensures counts { IfOk result (λ files. (file : ℕ) → ⟦<RealFiles<R> as Files>⟧.faults files file ≡ 0) }
+        ensures room { IfOk result (λ files. longest ≤ vec_capacity files.last.name) }
     {
         Ok(RealFiles {
             rt,

@@ -2,11 +2,11 @@
 
 ghost use Rattle.std.specs.Prelude.{◌≡◌};
 ghost use Rattle.std.specs.Option.{option_map};
-ghost use Rattle.ledger_types.specs.Key.{key_format};
+ghost use Rattle.ledger_spec.specs.Key.{key_format};
 ghost use Rattle.ledger_spec.specs.LedgerMap.{LedgerMap, IsLedgerMap, find as find_in};
 ghost use Rattle.entry_lookup.specs.Found.{kept_of};
 
-use ledger_types::{LedgerEntry, LedgerKey};
+use ledger_spec::{LedgerEntry, LedgerKey};
 
 /// A borrowed entry and its live-until ledger.
 #[derive(Clone, Copy)]

@@ -47,4 +47,4 @@ goes_on f g out next old mid new before at world x q h k =
 
 pub serves_later : (env : Env) (old new : Stored) → IsLater old new → Serves env old → Serves env new
 serves_later env old new later serves =
-    subst (λ (s : Stored). Serves env s) (sym later.same) (record { number = serves.number; lives = serves.lives; judge = serves.judge })
+    subst (λ (s : Stored). Serves env s) (sym later) (record { number = serves.number; lives = serves.lives; judge = serves.judge })

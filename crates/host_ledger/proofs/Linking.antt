@@ -9,7 +9,7 @@ use Rattle.ledger_spec.specs.LedgerMap.{LedgerMap, key_bytes}
 use Rattle.ledger_spec.specs.Seen.{Seen, live, absent, archived, seen}
 use Rattle.ledger_spec.specs.Changes.{delete_seen, asked_life, extend_seen, extend_live, backward}
 use Rattle.ledger_spec.specs.declared.Kept.{Kept}
-use Rattle.stage_runs.specs.Maps.{set_at}
+use Rattle.call_spec.specs.Maps.{set_at}
 use Rattle.host_spec.specs.declared.error.HostErr.{HostErr}
 use Rattle.host_spec.specs.declared.error.HostErr.TheVariants as ends
 use Rattle.host_spec.specs.Answers.{Answer, value}
@@ -26,7 +26,7 @@ use Rattle.contract_storage.specs.Acts.{Call, Left, Does, Reads, left, noting, h
 use Rattle.contract_storage.specs.declared.access.Access.TheVariants as kinds
 use Rattle.contract_storage.specs.declared.access.StoErr.{StoErr}
 use Rattle.contract_storage.specs.declared.access.StoErr.TheVariants as err
-use Rattle.tx_xdr.specs.declared.transaction.Footprint.{Footprint}
+use Rattle.call_spec.specs.Footprint.{Footprint}
 use Rattle.call_spec.specs.World.{AccessKind, Read, Extend, Write, Access, World, Env, made_seq}
 use Rattle.call_spec.specs.Errors.{NO_ENTRY, INVALID_STORAGE_INPUT}
 use Rattle.call_spec.specs.Acts.{Act, Out, Good, Bad, Archived, Undeclared, fails, with_frame}
@@ -136,7 +136,7 @@ did key view out old new w r p e same k = left_now (named key r) view out old ne
 does_is : {A B : Type 0} (act : Call A) (r : Result A StoErr) (old new : Stored) (key : LedgerKey) (view : A → B) (w : World) (out : Out B) → Does act r old new
     → Says (named key (act old).0) view out (left_by old (act old).1 w)
     → Says (named key r) view out (leaving old new w.trace (λ trace. record w { entries = new.map; trace = trace }))
-does_is act (Ok v) old new key view w out h k = did key view out old new w (Ok v) (act old) h.0 (ap (λ (s : Stored). s.declared) h.1.same) k
+does_is act (Ok v) old new key view w out h k = did key view out old new w (Ok v) (act old) h.0 (ap (λ (s : Stored). s.declared) h.1) k
 does_is act (Err err.NoMemory) old new key view w out h k = tt
 does_is act (Err err.Undeclared) old new key view w out h k = did key view out old new w (Err err.Undeclared) (act old) h.0 (same_declared old new h.1) k
 does_is act (Err err.Archived) old new key view w out h k = did key view out old new w (Err err.Archived) (act old) h.0 (same_declared old new h.1) k

@@ -124,7 +124,7 @@ put_paid q entry old new before after fits h paid env serves w i j =
     subst (λ (out : Out Answer). Says q answer_of out (leaving old new w.trace (λ trace. record w { entries = new.map; trace = trace; meter = after })))
     (sym (put_is env entry old w serves fits i ∙ ap (λ (p : Result (Unit {0}) StoErr × Left). at_put p.0 p.1.0 entry w) h.0))
     (afterwards q answer_of (paying ValSer (entry_size entry) (sets (with_entries new.map) nothing) at) old new w.trace at (λ trace. record w { entries = new.map; trace = trace; meter = after })
-    (tells_access old new Write (key_of entry) w.meter.used w.trace (ap (λ (s : Stored). s.declared) h.1.same) (put_touched (Ok tt) entry old (left new) h.0)) (paid at new.map j))
+    (tells_access old new Write (key_of entry) w.meter.used w.trace (ap (λ (s : Stored). s.declared) h.1) (put_touched (Ok tt) entry old (left new) h.0)) (paid at new.map j))
 
 -- ---- the charge
 

@@ -18,11 +18,11 @@ use Rattle.host_ledger.specs.declared.state.HostLedger.{HostLedger}
 
 -- a state is later than itself
 pub later_same : (old new : Stored) → new ≡ old → IsLater old new
-later_same old new e = subst (λ (s : Stored). IsLater old s) (sym e) (record { same = refl; later = ([], grind (arith, common_steps)) })
+later_same old new e = subst (λ (s : Stored). IsLater old s) (sym e) refl
 
 -- a state in which keys were touched is later
 pub later_read : (old new : Stored) → IsRead old new → IsLater old new
-later_read old new e = subst (λ (s : Stored). IsLater old s) (sym e) (record { same = refl; later = ([], grind (arith, common_steps)) })
+later_read old new e = subst (λ (s : Stored). IsLater old s) (sym e) refl
 
 -- A body that runs as the row's rule, and leaves the events, makes its row.
 pub row : {G V : Type 0} (r : Result Answer' HostErr) (ks : List ArgKind) (rule : Env → Rule ks) (words : List ℕ) (shown : List Datum) (old : HostLedger G V) (s : Stored) (m : Meter) (c : InstanceCopy)

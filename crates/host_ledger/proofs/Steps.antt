@@ -110,8 +110,8 @@ row_goes ks (Some rule) other words w left then a q h k = goes_then answer_of (�
 pub ready_after : {G V : Type 0} (old new : HostLedger G V) → IsReady old → Stays old new → IsReady new
 ready_after old new ready stays = record {
   bounds = subst (λ (h : _). HasBounds (next_seq h) h.settings) (sym stays.header) ready.bounds;
-  number = ap (λ (s : Stored). s.n) stays.storage.same ∙ ready.number ∙ ap next_seq (sym stays.header);
-  lives = ap (λ (s : Stored). s.lives) stays.storage.same ∙ ready.lives ∙ ap (λ (h : _). h.settings) (sym stays.header);
+  number = ap (λ (s : Stored). s.n) stays.storage ∙ ready.number ∙ ap next_seq (sym stays.header);
+  lives = ap (λ (s : Stored). s.lives) stays.storage ∙ ready.lives ∙ ap (λ (h : _). h.settings) (sym stays.header);
   indices = subst (λ (o : _). AreIndices o new.frame.shown) (sym stays.objects) (subst (λ (p : _). AreIndices old.objects p) (sym stays.shown) ready.indices);
   copy = stays.copy ready.copy;
 }

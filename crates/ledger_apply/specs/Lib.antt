@@ -11,3 +11,5 @@ pub mod Logged
 pub mod LoggedLists
 pub mod Lives
 pub mod Sides
+pub use Rattle.tx_apply.specs.Done
+pub use Rattle.tx_apply.specs.contracts.envelope.TxDone

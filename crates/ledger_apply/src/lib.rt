@@ -33,4 +33,5 @@ pub use set::{Applied, Logged, apply_logged, apply_set};
 pub use stage::{end_stage, run_component, run_stage};
 pub use stages::{SetStage, stages_of};
 pub use step::run_transaction;
+pub use tx_apply::{TxDone, simulate_with};
 pub use workers::Workers;

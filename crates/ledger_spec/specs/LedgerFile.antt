@@ -14,8 +14,8 @@ use Rattle.ledger_types.specs.declared.entry.LedgerEntryData.{LedgerEntryData}
 use Rattle.ledger_types.specs.declared.entry.LedgerEntryData.TheVariants.{ContractData, ContractCode}
 use Rattle.ledger_types.specs.declared.record.LedgerRecord.{LedgerRecord}
 use Rattle.ledger_types.specs.declared.file.LedgerFile.{LedgerFile}
-use Rattle.file_version.specs.declared.version.FileVersion.{FileVersion}
-use Rattle.file_version.specs.declared.version.FileVersion.TheVariants.{V2}
+use Rattle.ledger_types.specs.FileVersion.{FileVersion}
+use Rattle.ledger_types.specs.FileVersion.TheVariants.{V2}
 use Rattle.ledger_types.specs.declared.header.Settings.{Settings}
 use Rattle.ledger_types.specs.declared.header.Header.{Header}
 use Rattle.ledger_spec.specs.declared.Kept.{Kept}

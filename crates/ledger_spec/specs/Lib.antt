@@ -4,3 +4,4 @@ pub mod States
 pub mod Changes
 pub mod ChangeLaws
 pub mod LedgerFile
+pub use Rattle.ledger_types.specs.Key

@@ -8,7 +8,7 @@ pub use laws::{
     changes_keep_ledger_maps, delete_is_absent, extend_is_longer, make_is_seen, put_is_seen,
     raise_is_longest, seen_by_life, taken_goes_back,
 };
-use ledger_types::LedgerEntry;
+pub use ledger_types::{LedgerEntry, LedgerKey};
 pub use state::{KeyState, first_life, is_temporary, state_of};
 
 /// An entry and the last ledger in which it is live.

@@ -12,3 +12,4 @@ pub mod Header
 pub mod File
 pub mod Verdicts
 pub mod Equality
+pub use Rattle.file_version.specs.declared.version.FileVersion

@@ -12,7 +12,7 @@ use Rattle.command_words.specs.declared.request.Request.{Request}
 use Rattle.command_words.specs.declared.request.Request.TheVariants.{Apply}
 use Rattle.command_words.specs.declared.request.ScheduleOptions.{ScheduleOptions}
 use Rattle.edge_io.specs.Contents.{Contents, FileMap}
-use Rattle.ledger_apply.specs.Logged.{logged_set}
+use Rattle.spec_apply.specs.Logged.{logged_set}
 use Rattle.ledger_spec.specs.LedgerMap.{LedgerMap, IsLedgerMap}
 use Rattle.ledger_types.specs.declared.header.Header.{Header}
 use Rattle.ledger_types.specs.declared.verdicts.Verdicts.{Verdicts}

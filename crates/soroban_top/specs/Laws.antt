@@ -28,7 +28,7 @@ use Rattle.command_words.specs.declared.request.ShowRequest.{ShowRequest}
 use Rattle.command_words.specs.declared.request.SimulateRequest.{SimulateRequest}
 use Rattle.command_words.specs.declared.request.VetRequest.{VetRequest}
 use Rattle.edge_io.specs.Contents.{FileMap}
-use Rattle.ledger_apply.specs.Logged.{logged_set}
+use Rattle.spec_apply.specs.Logged.{logged_set}
 use Rattle.ledger_file.specs.FileOf.{IsFileOf}
 use Rattle.ledger_spec.specs.LedgerFile.{ledger_bytes}
 use Rattle.ledger_spec.specs.LedgerMap.{LedgerMap}

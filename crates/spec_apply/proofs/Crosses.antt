@@ -15,7 +15,7 @@ use Rattle.code_cache.proofs.Lemmas.{cache_sync}
 use Rattle.ledger_parts.proofs.Lemmas.{envelope_sync, extension_send, kept_send, key_send, map_sync, success_send}
 use Rattle.stage_runs.specs.contracts.Change as Change
 use Rattle.tx_xdr.specs.contracts.transaction.Footprint as Footprint
-use Rattle.tx_apply.specs.contracts.envelope.TxDone as TxDone
+use Rattle.ledger_apply.specs.TxDone as TxDone
 use Rattle.spec_apply.specs.contracts.run.Run as Run
 use Rattle.spec_apply.specs.contracts.job.Job as Job
 use Rattle.spec_apply.specs.contracts.job.ListWork as ListWork

@@ -15,7 +15,7 @@ use Rattle.stage_runs.specs.Transactions.{Effect, Step}
 use Rattle.stage_runs.specs.Runs.{Reported, RunState, start, after, ended}
 use Rattle.apply_spec.specs.ListRuns.{listed, run_listed, run_each, agrees, is_kept, count_kept}
 use Rattle.apply_spec.proofs.Lemmas.{kept_run}
-use Rattle.tx_apply.specs.Done.{effect_of}
+use Rattle.ledger_apply.specs.Done.{effect_of}
 use Rattle.ledger_apply.specs.State.{between}
 use Rattle.spec_apply.specs.declared.job.Job.{Job}
 use Rattle.spec_apply.specs.declared.pass.Pass.{Pass}

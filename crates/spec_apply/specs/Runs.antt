@@ -8,7 +8,7 @@ use Rattle.tx_xdr.specs.declared.envelope.Envelope.{Envelope}
 use Rattle.stage_runs.specs.Maps.{LedgerMap}
 use Rattle.apply_spec.specs.Simulated.{needs}
 use Rattle.apply_spec.specs.ListRuns.{listed}
-use Rattle.tx_apply.specs.Done.{effect_of, IsWithin}
+use Rattle.ledger_apply.specs.Done.{effect_of, IsWithin}
 use Rattle.spec_apply.specs.declared.run.Run.{Run}
 use Rattle.spec_apply.specs.declared.job.Job.{Job}
 

@@ -13,4 +13,5 @@ mod pass;
 mod run;
 mod same;
 
+pub use ledger_apply::{Applied, ApplyErr, Logged, apply_logged, apply_set};
 pub use list::{Listed, apply_list};

@@ -8,7 +8,7 @@ ghost use Rattle.ledger_types.specs.Key.{key_format};
 ghost use Rattle.ledger_types.specs.KeyOrder.{key_cmp};
 ghost use Rattle.ledger_spec.specs.LedgerMap.{LedgerMap, IsKeptAt, key_bytes};
 ghost use Rattle.stage_runs.specs.Runs.{change as change_in, put_in};
-ghost use Rattle.tx_apply.specs.Done.{CanChange};
+ghost use Rattle.ledger_apply.specs.Done.{CanChange};
 ghost use Rattle.tx_xdr.specs.Soroban.{footprint_format};
 ghost use Rattle.apply_spec.specs.ListRuns.{agrees};
 ghost use Rattle.spec_apply.specs.Moved.{AreMoved, are_still, with_after};

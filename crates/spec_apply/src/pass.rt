@@ -4,16 +4,15 @@ ghost use Rattle.std.specs.Prelude.{◌≡◌, All, OnOk};
 ghost use Rattle.ledger_types.specs.Key.{key_format};
 ghost use Rattle.ledger_spec.specs.LedgerMap.{LedgerMap};
 ghost use Rattle.stage_runs.specs.Runs.{change_all as change_all_in, put_all_in, after, ended};
-ghost use Rattle.tx_apply.specs.Done.{CanChange, IsWithin, effect_of};
+ghost use Rattle.ledger_apply.specs.Done.{CanChange, IsWithin, effect_of};
 ghost use Rattle.spec_apply.specs.Moved.{AreMoved};
 ghost use Rattle.spec_apply.specs.Passing.{state_of};
 
 use crate::moved::{Moved, change, extend};
 use entry_map::EntryMap;
-use ledger_apply::Reports;
+use ledger_apply::{Reports, TxDone};
 use stage_runs::{Change, Extension};
 use std::alloc::Global;
-use tx_apply::TxDone;
 use xdr_core::NoMemory;
 
 /// A ledger between the envelopes of a list.

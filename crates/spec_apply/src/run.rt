@@ -8,9 +8,9 @@ ghost use Rattle.spec_apply.specs.Runs.{IsRunOn, IsRunSpelled};
 use crate::naming::named;
 use code_cache::Cache;
 use entry_lookup::Ground;
+use ledger_apply::{TxDone, simulate_with};
 use ledger_types::{Header, Verdicts};
 use std::alloc::Global;
-use tx_apply::{TxDone, simulate_with};
 use tx_xdr::{Envelope, Footprint};
 use xdr_core::NoMemory;
 

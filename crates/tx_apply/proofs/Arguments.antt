@@ -10,7 +10,7 @@ use Rattle.host_spec.specs.declared.error.ValueErr.{ValueErr}
 use Rattle.host_frame.proofs.Lemmas.{spelled_bounded}
 use Rattle.call_spec.specs.Entering.{entering}
 use Rattle.call_spec.specs.WholeRuns.{arguments_in}
-use Rattle.auth_parts.specs.Entering.{IsEncodable, Passes, Enters}
+use Rattle.contract_call.specs.Entering.{IsEncodable, Passes, Enters}
 use Rattle.tx_apply.specs.Jobs.{work_in, values_in}
 use Rattle.tx_apply.specs.declared.job.Job.{Job}
 use Rattle.tx_apply.specs.declared.job.Job.TheVariants as jobs

@@ -19,11 +19,11 @@ use Rattle.call_spec.specs.World.{Judge, Access, World}
 use Rattle.call_spec.specs.Acts.{Failed, Spent, Archived, Out, Good, Bad, Undeclared, world_of, then_do, gives, lifted, paying}
 use Rattle.call_spec.specs.Footprints.{by_footprint, first_rejected}
 use Rattle.call_spec.specs.WholeRuns.{Work, all_allowed, done_under}
-use Rattle.host_ledger.specs.Traced.{known_of, IsRecorded}
+use Rattle.contract_call.specs.Traced.{known_of, IsRecorded}
 use Rattle.contract_call.specs.Worlds.{authority_of, world_around}
 use Rattle.contract_call.specs.Ended.{IsEnd, EndsBy, Ends, UnlessMemory, EndsRecorded}
 use Rattle.contract_call.specs.declared.host.Host.{Host}
-use Rattle.auth_parts.specs.Entering.{with_meter, Enters}
+use Rattle.contract_call.specs.Entering.{with_meter, Enters}
 use Rattle.tx_apply.specs.Running.{charging, Charges, EndsCharged, EndsChargedRecorded}
 use Rattle.tx_apply.proofs.Running.{charged_traced}
 

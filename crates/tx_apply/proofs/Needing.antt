@@ -22,7 +22,7 @@ use Rattle.call_spec.specs.WholeRuns.{Work, arguments_in, does, meter_of, start_
 use Rattle.contract_call.specs.Worlds.{authority_of, world_around}
 use Rattle.contract_call.specs.Ended.{IsEnd, UnlessMemory}
 use Rattle.contract_call.specs.declared.host.Host.{Host}
-use Rattle.auth_parts.specs.Entering.{with_meter, Passes, Stops, Enters}
+use Rattle.contract_call.specs.Entering.{with_meter, Passes, Stops, Enters}
 use Rattle.apply_spec.specs.Recorded.{footprint_by, no_footprint}
 use Rattle.apply_spec.specs.Simulated.{Needs, needs_of}
 use Rattle.tx_apply.specs.declared.needs.Needs as code
@@ -32,7 +32,7 @@ use Rattle.tx_apply.specs.Recording.{ran_out, touched_in}
 use Rattle.tx_apply.proofs.Running.{Starts, started_same}
 use Rattle.tx_apply.proofs.Recorded.{known_keys, footprint_same}
 use Rattle.contract_storage.specs.Touched.{Known}
-use Rattle.host_ledger.specs.Traced.{IsRecorded}
+use Rattle.contract_call.specs.Traced.{IsRecorded}
 
 -- ---- the end of a run
 

@@ -23,7 +23,7 @@ use Rattle.contract_storage.specs.Touched.{AreSpelled}
 use Rattle.contract_storage.specs.declared.access.Access.{Access as Access'}
 use Rattle.contract_storage.specs.declared.access.Access.TheVariants as accesses
 use Rattle.contract_storage.specs.declared.touched.Touch.{Touch}
-use Rattle.host_ledger.specs.Traced.{kind_of, known_of, touches_of}
+use Rattle.contract_call.specs.Traced.{kind_of, known_of, touches_of}
 use Rattle.call_spec.specs.World.{AccessKind, Read, Extend, Write, Access}
 use Rattle.call_spec.specs.Laws.{is_write}
 use Rattle.apply_spec.specs.Recorded.{Touched, stronger, touch, touched, bytes_cmp, keys_where, footprint_by, recorded}

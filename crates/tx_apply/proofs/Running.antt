@@ -37,7 +37,7 @@ use Rattle.auth_spec.specs.Authorities.{Authorised}
 use Rattle.contract_call.specs.Worlds.{authority_of, world_around}
 use Rattle.contract_call.specs.Ended.{IsEnd, EndsBy}
 use Rattle.contract_call.specs.declared.host.Host.{Host}
-use Rattle.auth_parts.specs.Entering.{with_meter, Passes, Stops, Enters}
+use Rattle.contract_call.specs.Entering.{with_meter, Passes, Stops, Enters}
 use Rattle.tx_apply.specs.Running.{charging, EndsCharged, entered_run, result_of, outcome_with}
 
 -- ---- the arguments, the work, the charge

@@ -29,11 +29,11 @@ use Rattle.call_spec.specs.Footprints.{by_footprint}
 use Rattle.call_spec.specs.HostFunctions.{MOST_FRAMES, opener_of}
 use Rattle.call_spec.specs.Outcomes.{Leaves, Says, trace_of}
 use Rattle.call_spec.specs.WholeRuns.{Work, arguments_in, does, meter_of, start_of, run_under, done_under}
-use Rattle.host_ledger.specs.Traced.{kind_of, known_of, IsTold}
+use Rattle.contract_call.specs.Traced.{kind_of, known_of, IsTold}
 use Rattle.contract_call.specs.Ended.{UnlessMemory}
 use Rattle.contract_call.specs.Worlds.{DoesAround, IsEnvOf, MayRun, authority_of, leaving_by, world_around}
 use Rattle.contract_call.specs.declared.host.Host.{Host}
-use Rattle.auth_parts.specs.Entering.{with_meter, Passes, Stops, Enters}
+use Rattle.contract_call.specs.Entering.{with_meter, Passes, Stops, Enters}
 use Rattle.tx_apply.specs.Running.{charging}
 use Rattle.tx_apply.specs.Watching.{seen_of, HasSeen, run_accesses, entered_accesses, Told}
 use Rattle.tx_apply.specs.declared.results.TransactionDone.{TransactionDone}

@@ -10,3 +10,9 @@ pub mod Simulating
 pub mod Changed
 pub mod Watching
 pub mod Resolved
+pub use Rattle.contract_call.specs.Entering
+pub use Rattle.contract_call.specs.Traced
+pub use Rattle.contract_call.specs.Ended
+pub use Rattle.contract_call.specs.Worlds
+pub use Rattle.contract_call.specs.declared.host.Host
+pub use Rattle.contract_call.specs.Placed

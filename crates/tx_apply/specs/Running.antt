@@ -26,11 +26,11 @@ use Rattle.call_spec.specs.Acts.{Failed, Spent, Out, Act, after, gives, paying, 
 use Rattle.call_spec.specs.Footprints.{by_footprint, first_rejected}
 use Rattle.call_spec.specs.WholeRuns.{Work, start_of, all_allowed, done_under}
 use Rattle.call_spec.specs.Invoked.{Invoked, written_bytes, unsuccessful}
-use Rattle.host_ledger.specs.Traced.{IsRecorded}
+use Rattle.contract_call.specs.Traced.{IsRecorded}
 use Rattle.contract_call.specs.Worlds.{authority_of, world_around}
 use Rattle.contract_call.specs.Ended.{IsEnd, EndsBy, UnlessMemory}
 use Rattle.contract_call.specs.declared.host.Host.{Host}
-use Rattle.auth_parts.specs.Entering.{with_meter, Passes, Stops}
+use Rattle.contract_call.specs.Entering.{with_meter, Passes, Stops}
 
 -- the charge for a value that is returned
 abbrev pub charging : Datum → Act Datum

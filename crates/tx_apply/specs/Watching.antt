@@ -23,8 +23,8 @@ use Rattle.call_spec.specs.WholeRuns.{Work, work_of, start_of, run_under, done_u
 use Rattle.call_spec.specs.Invoked.{declares_archived, read_bytes}
 use Rattle.apply_spec.specs.Checks.{refusal_of}
 use Rattle.apply_spec.specs.Enforced.{authority_of}
-use Rattle.auth_parts.specs.Entering.{with_meter}
-use Rattle.host_ledger.specs.Traced.{kind_of, IsTold}
+use Rattle.contract_call.specs.Entering.{with_meter}
+use Rattle.contract_call.specs.Traced.{kind_of, IsTold}
 use Rattle.contract_call.specs.Worlds.{IsEnvOf, world_around}
 use Rattle.contract_call.specs.Ended.{UnlessMemory}
 use Rattle.contract_call.specs.declared.host.Host.{Host}

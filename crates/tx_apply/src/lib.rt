@@ -24,6 +24,7 @@ mod writing;
 pub use authority::source_of;
 pub use call::budget_of;
 pub use checks::refusal_of;
+pub use contract_call::{Host, enter_all};
 pub use envelope::{TxDone, enforce, enforce_watched};
 pub use footprint::{read_only_of, read_write_of};
 pub use job::{Job, job_of, values};

@@ -8,7 +8,7 @@ use Rattle.ledger_spec.specs.LedgerMap.{LedgerMap}
 use Rattle.why_top.specs.Files.{HoldsLedger, HoldsVerdicts, ExplainsTarget, ExplainsFiles}
 use Rattle.why_top.specs.Refused.{AreRefusedVerdicts, IsRefused, IsRefusedTarget}
 use Rattle.why_top.specs.declared.error.WhyErr.{WhyErr}
-use Rattle.why_top.specs.declared.words.Request.{Request}
+use Rattle.why_words.specs.declared.request.Request.{Request}
 
 module _ (request : Request) (header : Header) (entries : LedgerMap) where
   -- the verdicts are refused, and the ledger is not

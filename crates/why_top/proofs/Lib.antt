@@ -1,4 +1,5 @@
 mod Counting
+mod Due
 mod Fitting
 mod Holding
 mod Ran

@@ -1,11 +1,13 @@
--- Counts of failed calls as causes of refusals (own).
-use Rattle.std.specs.Prelude.{◌≡◌, ◌⊎◌, ℕ, ◌≤◌, List, [], ◌∷◌, ⊤}
+-- Counts of failed calls as causes of refusals, and files on which no call fails (own).
+use Rattle.std.specs.Prelude.{◌≡◌, ◌⊎◌, ℕ, ◌≤◌, List, [], ◌∷◌, Option, Some, None, ⊤}
+use Rattle.edge_io.specs.Contents.{Contents, IsThere}
 use Rattle.edge_io.specs.Counts.{Rose}
 use Rattle.why_top.specs.declared.error.WhyErr.{WhyErr}
 use Rattle.why_top.specs.declared.error.WhyErr.TheVariants as refusals
-use Rattle.why_top.specs.declared.words.Request.{Request}
-use Rattle.why_top.specs.declared.words.Target.{Target}
-use Rattle.why_top.specs.declared.words.Target.TheVariants as targets
+use Rattle.why_words.specs.declared.request.Request.{Request}
+use Rattle.why_words.specs.declared.request.Target.{Target}
+use Rattle.why_words.specs.declared.request.Target.TheVariants as targets
+use Rattle.why_words.specs.Words.{asked_of}
 
 -- a file option by its number, and the name given for it
 pub record File : Type 0 where
@@ -40,6 +42,25 @@ HasCause files old new refusals.Usage = ⊥
 HasCause files old new (refusals.Shown text) = ⊥
 HasCause files old new (refusals.Fault name) = HasFaulted files name old new
 HasCause files old new _ = ⊤
+
+-- no call on a file failed
+abbrev pub IsNoFault : WhyErr → Type 0
+IsNoFault (refusals.Fault name) = ⊥
+IsNoFault _ = ⊤
+
+-- the files are there
+abbrev pub AreThere : Contents → List File → Type 0
+AreThere contents [] = ⊤
+AreThere contents (file ∷ files) = IsThere contents file.name × AreThere contents files
+
+-- the files of a request are there, if there is one
+abbrev pub AreThereFor : Option Request → Contents → Type 0
+AreThereFor None contents = ⊤
+AreThereFor (Some request) contents = AreThere contents (files_of request)
+
+-- the files that these words ask for are there
+abbrev pub AreAllThere : List (List ℕ) → Contents → Type 0
+AreAllThere words contents = AreThereFor (asked_of words) contents
 
 -- the refusal of a function that only computes
 abbrev pub IsOfBytes : WhyErr → Type 0

@@ -13,7 +13,7 @@ use Rattle.apply_spec.specs.SimulationFile.{result_line, used_line}
 use Rattle.run_trace.specs.Summed.{bytes_lines}
 use Rattle.run_trace.specs.declared.summary.Bytes.{Bytes}
 use Rattle.why_top.specs.Counted.{bytes_of}
-use Rattle.why_top.specs.declared.words.Form.{Form}
+use Rattle.why_words.specs.declared.request.Form.{Form}
 
 -- an envelope that ran, its effect, and the sums of its whole run
 pub record Ran : Type 0 where

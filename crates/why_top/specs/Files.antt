@@ -22,9 +22,9 @@ use Rattle.set_place.specs.Places.{tx_at}
 use Rattle.set_place.specs.declared.place.Place.{Place}
 use Rattle.why_top.specs.Explained.{Explains}
 use Rattle.why_top.specs.Placed.{EndsAsReported}
-use Rattle.why_top.specs.declared.words.Request.{Request}
-use Rattle.why_top.specs.declared.words.Target.{Target}
-use Rattle.why_top.specs.declared.words.Target.TheVariants as targets
+use Rattle.why_words.specs.declared.request.Request.{Request}
+use Rattle.why_words.specs.declared.request.Target.{Target}
+use Rattle.why_words.specs.declared.request.Target.TheVariants as targets
 
 -- ---- what a file holds
 

@@ -1,5 +1,6 @@
 pub mod Counted
 pub mod Counts
+pub mod Ends
 pub mod Explained
 pub mod Files
 pub mod Lines

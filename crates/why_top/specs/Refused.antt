@@ -27,9 +27,19 @@ use Rattle.set_place.specs.declared.place.Place.{Place}
 use Rattle.why_top.specs.Files.{FileSpells, Holds, HoldsLedger, HoldsVerdicts, Opens}
 use Rattle.why_top.specs.declared.error.WhyErr.{WhyErr}
 use Rattle.why_top.specs.declared.error.WhyErr.TheVariants as refusals
-use Rattle.why_top.specs.declared.words.Request.{Request}
-use Rattle.why_top.specs.declared.words.Target.{Target}
-use Rattle.why_top.specs.declared.words.Target.TheVariants as targets
+use Rattle.why_words.specs.declared.words.NoRequest.{NoRequest}
+use Rattle.why_words.specs.declared.words.NoRequest.TheVariants as no_request
+use Rattle.why_words.specs.declared.request.Request.{Request}
+use Rattle.why_words.specs.declared.request.Target.{Target}
+use Rattle.why_words.specs.declared.request.Target.TheVariants as targets
+
+-- ---- errors of words
+
+-- the refusal for words that are no request
+abbrev pub of_words : NoRequest → WhyErr
+of_words no_request.Usage = refusals.Usage
+of_words (no_request.Shown text) = refusals.Shown text
+of_words no_request.NoMemory = refusals.NoMemory
 
 -- ---- errors of reading
 

@@ -1,8 +1,8 @@
-//! Refusals: their lines and exit codes are those of the program `soroban`.
+//! Refusals: their lines and exit codes. Where `soroban_cmd` has the same refusal, they are its own.
 
 ghost use Rattle.std.specs.Prelude.{◌≡◌, ◌++◌, IfOk, codes, decimal};
 ghost use Rattle.why_top.specs.Lines.{conflict_line, line_of, name_of, number_of, place_line};
-ghost use Rattle.why_top.specs.Refused.{unread, unread_ledger};
+ghost use Rattle.why_top.specs.Refused.{of_words, unread, unread_ledger};
 ghost use Rattle.why_top.specs.declared.error.WhyErr.TheVariants.{NoMemory as OutOfMemory};
 
 use edge_io::Word;
@@ -11,6 +11,7 @@ use ledger_spec::LedgerWhy;
 use set_place::Place;
 use std::alloc::{AllocError, AllocFailed, Global};
 use text_lines::{push_hex, push_number};
+use why_words::NoRequest;
 use xdr_core::{NoMemory, ReadXdr};
 use xdr_spec::Why;
 
@@ -233,6 +234,18 @@ impl From<LedgerErr> for WhyErr {
                 at: refusal.at,
             },
             LedgerErr::NoMemory => WhyErr::NoMemory,
+        }
+    }
+}
+
+impl From<NoRequest> for WhyErr {
+    ghost from_gives = { λ error refusal. refusal ≡ of_words error };
+
+    fn from(error: NoRequest) -> WhyErr {
+        match error {
+            NoRequest::Usage => WhyErr::Usage,
+            NoRequest::Shown { text } => WhyErr::Shown { text },
+            NoRequest::NoMemory => WhyErr::NoMemory,
         }
     }
 }

@@ -14,7 +14,6 @@ ghost use Rattle.run_trace.specs.Lines.{told_of};
 ghost use Rattle.why_top.specs.Runs.{ShowsRun, IsRunOf};
 
 use crate::counted::{archived_of, bytes_of, events_of};
-use crate::words::Form;
 use budget_meter::Used;
 use entry_lookup::Ground;
 use ledger_file::Ledger;
@@ -26,6 +25,7 @@ use run_trace::{
 use std::alloc::{AllocError, Global};
 use tx_apply::{Simulated, TxDone, enforce_watched, simulate_watched};
 use tx_xdr::Envelope;
+use why_words::Form;
 use xdr_core::NoMemory;
 
 /// How many bytes of keys and values a trace keeps at most.

@@ -1,7 +1,9 @@
 //! Shows what a run of a transaction did, and why a call failed: from the words to the lines.
 #![tactic(auto)]
 
-ghost use Rattle.std.specs.Prelude.{◌≡◌};
+ghost use Rattle.std.specs.Prelude.{◌≡◌, ◌≢◌, ◌≤◌, IfErr};
+ghost use Rattle.why_top.specs.Counts.{AreAllThere, IsNoFault, NoLower};
+ghost use Rattle.why_top.specs.Ends.{code_due, said_of, Ends, IsDue, Prints};
 
 mod counted;
 mod error;
@@ -9,7 +11,6 @@ mod explaining;
 mod over_files;
 mod placing;
 mod reading;
-mod words;
 
 pub use counted::{archived_of, bytes_of, events_of};
 use edge_io::{EdgeErr, Files, Say, Word};
@@ -18,36 +19,66 @@ pub use explaining::{Run, explain, explain_over, watched};
 pub use over_files::explain_files;
 pub use placing::explain_place;
 use std::alloc::Global;
-use words::request_of;
-pub use words::{Form, Request, Target};
+use why_words::request_of;
+pub use why_words::{Form, Request, Target};
+
+/// The exit code if a call failed.
+const FAULT: u8 = 4;
+
+/// The exit code if memory ran out.
+const NO_MEMORY: u8 = 5;
 
 /// Runs the program of these words, and prints its lines, or the line of its refusal. Returns the exit code. It stores no file.
 pub fn why<F: Files, S: Say>(alloc: Global, words: &[Word], files: &mut F, say: &mut S) -> u8
-    ensures { F.contents files.new ≡ F.contents files.old }
+    // The lines or the line that are due are printed, and their code is returned: 4 if not all could be printed, and 5 if memory
+    // ran out.
+    ensures ends { Ends words.now (F.contents files.old) (F.faults files.old) (F.faults files.new) result
+        (S.text say.old) (S.text say.new) (S.faults say.old) (S.faults say.new) }
+    // On steady files that are there, with a steady output, no call fails.
+    ensures steady { F.steady files.old → S.steady say.old → AreAllThere words.now (F.contents files.old) → result ≢ 4 }
+    ensures same { F.contents files.new ≡ F.contents files.old }
+    ensures counts { NoLower (F.faults files.old) (F.faults files.new) }
+    ensures say_count { S.faults say.old ≤ S.faults say.new }
 {
     let came_to = lines(alloc, words, files);
     finish(alloc, came_to, say)
 }
 
 /// Prints the lines of a run, or the line of a refusal. Returns the exit code.
-fn finish<S: Say>(alloc: Global, came_to: Result<Vec<u8>, WhyErr>, say: &mut S) -> u8 {
-    let (said, code) = match came_to {
-        Ok(lines) => (say.say(&lines), 0),
+fn finish<S: Say>(alloc: Global, came_to: Result<Vec<u8>, WhyErr>, say: &mut S) -> u8
+    ensures prints { Prints (said_of (λ v. v.items) came_to) (code_due came_to) result
+        (S.text say.old) (S.text say.new) (S.faults say.old) (S.faults say.new) }
+    ensures steady { S.steady say.old → IfErr came_to IsNoFault → result ≢ 4 }
+    ensures say_count { S.faults say.old ≤ S.faults say.new }
+{
+    match came_to {
+        Ok(lines) => print(say, &lines, 0),
         Err(error) => match error.line(alloc) {
-            Ok(line) => (say.say(&line), error.code()),
-            Err(_) => (Err(EdgeErr::NoMemory), error.code()),
+            Ok(line) => print(say, &line, error.code()),
+            Err(_) => NO_MEMORY,
         },
-    };
-    match said {
-        Ok(()) => code,
-        Err(EdgeErr::Failed) => 4,
-        Err(EdgeErr::NoMemory) => 5,
+    }
+}
+
+/// Prints the bytes, and returns the code that is due for them, unless the output fails or memory runs out.
+fn print<S: Say>(say: &mut S, bytes: &[u8], due: u8) -> u8
+    ensures prints { Prints bytes.now due result (S.text say.old) (S.text say.new) (S.faults say.old) (S.faults say.new) }
+    ensures steady { S.steady say.old → due ≢ 4 → result ≢ 4 }
+    ensures say_count { S.faults say.old ≤ S.faults say.new }
+{
+    match say.say(bytes) {
+        Ok(()) => due,
+        Err(EdgeErr::Failed) => FAULT,
+        Err(EdgeErr::NoMemory) => NO_MEMORY,
     }
 }
 
 /// The lines of a run.
 fn lines<F: Files>(alloc: Global, words: &[Word], files: &mut F) -> Result<Vec<u8>, WhyErr>
-    ensures { F.contents files.new ≡ F.contents files.old }
+    ensures due { IsDue (λ v. v.items) words.now (F.contents files.old) (F.faults files.old) (F.faults files.new) result }
+    ensures steady { F.steady files.old → AreAllThere words.now (F.contents files.old) → IfErr result IsNoFault }
+    ensures same { F.contents files.new ≡ F.contents files.old }
+    ensures counts { NoLower (F.faults files.old) (F.faults files.new) }
 {
     let request = request_of(alloc, words)?;
     explain_files(alloc, files, &request)

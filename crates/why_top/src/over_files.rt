@@ -2,22 +2,23 @@
 
 ghost use Rattle.std.specs.Prelude.{◌≡◌, [], ◌∷◌, IfOk, IfErr, IfSome, IsTrue};
 ghost use Rattle.ledger_spec.specs.LedgerFile.{are_settings, has_next};
-ghost use Rattle.why_top.specs.Counts.{HasCause, NoLower, file, files_of, option_of};
+ghost use Rattle.edge_io.specs.Contents.{IsThere};
+ghost use Rattle.why_top.specs.Counts.{AreThere, HasCause, IsNoFault, NoLower, file, files_of, option_of};
 ghost use Rattle.why_top.specs.Files.{ExplainsFiles, ExplainsTarget, ExplainsEnvelope, ExplainsPlace};
 ghost use Rattle.why_top.specs.Refused.{IsRefused, IsRefusedTarget};
-ghost use Rattle.why_top.specs.declared.words.Target.TheVariants as targets;
+ghost use Rattle.why_words.specs.declared.request.Target.TheVariants as targets;
 
 use crate::error::WhyErr;
 use crate::explaining::explain;
 use crate::placing::explain_place;
 use crate::reading::{SET, TX, read_ledger, read_spelled, read_verdicts};
-use crate::words::{Request, Target};
 use edge_io::Files;
 use ledger_file::Ledger;
 use ledger_types::Verdicts;
 use set_place::Place;
 use std::alloc::Global;
 use tx_xdr::{Envelope, TxSet};
+use why_words::{Request, Target};
 
 /// Reads and checks the files of a request, and makes the lines of the transaction that it names.
 pub fn explain_files<F: Files>(
@@ -31,6 +32,9 @@ pub fn explain_files<F: Files>(
     ensures refused { IfSome (F.contents files.old) (λ m. IfErr result (IsRefused request.now m)) }
     // A fault has the name of a file whose count of failed calls rose. The words are not refused.
     ensures cause { IfErr result (HasCause (files_of request.now) (F.faults files.old) (F.faults files.new)) }
+    // On steady files that are there no call fails.
+    ensures steady { F.steady files.old → AreThere (F.contents files.old) (files_of request.now) →
+        IfErr result IsNoFault × F.steady files.new }
     ensures counts { NoLower (F.faults files.old) (F.faults files.new) }
     ensures same { F.contents files.new ≡ F.contents files.old }
 {
@@ -55,6 +59,8 @@ fn explain_target<F: Files>(
     ensures refused { IfSome (F.contents files.old) (λ m. IfErr result (IsRefusedTarget target request.now m)) }
     ensures cause { IfErr result (HasCause (file (option_of target) request.now.file ∷ [])
         (F.faults files.old) (F.faults files.new)) }
+    ensures steady { F.steady files.old → IsThere (F.contents files.old) request.now.file →
+        IfErr result IsNoFault × F.steady files.new }
     ensures counts { NoLower (F.faults files.old) (F.faults files.new) }
     ensures same { F.contents files.new ≡ F.contents files.old }
 {
@@ -78,6 +84,8 @@ fn of_envelope<F: Files>(
         ExplainsEnvelope request.now m ledger.now.header ledger.now.entries verdicts.now v.items)) }
     ensures refused { IfSome (F.contents files.old) (λ m. IfErr result (IsRefusedTarget targets.Envelope request.now m)) }
     ensures cause { IfErr result (HasCause (file 0 request.now.file ∷ []) (F.faults files.old) (F.faults files.new)) }
+    ensures steady { F.steady files.old → IsThere (F.contents files.old) request.now.file →
+        IfErr result IsNoFault × F.steady files.new }
     ensures counts { NoLower (F.faults files.old) (F.faults files.new) }
     ensures same { F.contents files.new ≡ F.contents files.old }
 {
@@ -108,6 +116,8 @@ fn of_place<F: Files>(
         ExplainsPlace place request.now m ledger.header ledger.entries verdicts.now v.items)) }
     ensures refused { IfSome (F.contents files.old) (λ m. IfErr result (IsRefusedTarget (targets.InSet place) request.now m)) }
     ensures cause { IfErr result (HasCause (file 3 request.now.file ∷ []) (F.faults files.old) (F.faults files.new)) }
+    ensures steady { F.steady files.old → IsThere (F.contents files.old) request.now.file →
+        IfErr result IsNoFault × F.steady files.new }
     ensures counts { NoLower (F.faults files.old) (F.faults files.new) }
     ensures same { F.contents files.new ≡ F.contents files.old }
 {

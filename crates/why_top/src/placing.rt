@@ -15,13 +15,13 @@ ghost use Rattle.why_top.specs.Refused.{IsRefusedPlace};
 
 use crate::error::WhyErr;
 use crate::explaining::explain;
-use crate::words::Form;
 use ledger_file::Ledger;
 use ledger_types::Verdicts;
 use set_place::{Place, PlaceErr, Reached, places_are_reported, reach};
 use std::alloc::Global;
 use tx_xdr::TxSet;
 use value_xdr::encode;
+use why_words::Form;
 
 /// Runs the transaction at a place of a set, with the footprint that it declares, on the ledger that it meets there. The last
 /// line is that of the result that the set has there. A set with a conflict is refused, and so is a place that the set does not

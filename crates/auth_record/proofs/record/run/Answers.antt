@@ -1,9 +1,9 @@
 use Rattle.std.proofs.Common.{◌≡◌, ℕ, List, [], IfOk, refl, ap, sym, subst, ◌∙◌, arith}
 use Rattle.auth_spec.specs.Authorities.{Authorised}
 use Rattle.contract_storage.specs.Stored.{Stored}
-use Rattle.host_ledger.specs.Traced.{IsRecorded}
+use Rattle.tx_apply.specs.Traced.{IsRecorded}
 use Rattle.call_spec.specs.World.{Authority}
-use Rattle.contract_call.specs.Placed.{IsPathFor}
+use Rattle.tx_apply.specs.Placed.{IsPathFor}
 use Rattle.tx_apply.specs.Jobs.{work_in}
 use Rattle.auth_record.specs.Given.{terms_in}
 use Rattle.auth_record.specs.Views.{recorded_in, recorded_with, has_failed, value_in}

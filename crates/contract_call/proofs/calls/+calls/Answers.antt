@@ -55,6 +55,7 @@ use Rattle.contract_call.specs.Placed.{IsNewPlace}
 use Rattle.contract_call.proofs.Construction.{creates_does, creates_refused, authorises_does, authorises_not, builds_does, builds_refused, constructs_does}
 use Rattle.contract_call.proofs.Demanding.{demanded_does, marked_stays, proves_does, proves_not, nothing_left, checks_does, grants_does, own_does, given_does, here_does}
 use Rattle.contract_call.proofs.Arity.{event_arity}
+use Rattle.contract_call.proofs.Undoing.{called_opened, stays_opened}
 use Rattle.contract_call.proofs.Rowing.{taken_does, called_by, over_same, row_answers, stays_on, valued_does, in_around}
 use Rattle.contract_call.proofs.calls.+calls.Goals as goal
 
@@ -258,22 +259,26 @@ call_row-returns-in-Err-clause-does g t c = c.in-Err.ensures.takes (λ env. call
 pub call_row-returns-in-Ok-clause-stays : goal.call_row-returns-in-Ok-clause-stays
 call_row-returns-in-Ok-clause-stays g t c = stays_on c.args.host.now c.call_words.new.host c.call-made.new.host c.in-Ok.ensures.stays c.call-made.ensures.stays
 
-pub try_row-returns-in-Ok-clause-does : goal.try_row-returns-in-Ok-clause-does
-try_row-returns-in-Ok-clause-does g t c =
+pub try_row-returns-in_ok-mark-in-Ok-clause-does : goal.try_row-returns-in_ok-mark-in-Ok-clause-does
+try_row-returns-in_ok-mark-in-Ok-clause-does g t c =
     let old = c.args.host.now in
     let mid = c.call_words.new.host in
+    let next = c.mark.new.self in
     let x = c.in-Ok.field-0 in
-    let marks = c.mark-mark.ensures in
+    let marks = c.in_ok-mark-in-Ok.ensures.mark in
+    let is = c.in_ok-mark-in-Ok.ensures.ok in
+    let stays = stays_opened mid next c.call-made.new.host is c.call-made.ensures.stays in
     taken_does x c.valued.result (λ env. answered (kinds.Address ∷ kinds.Symbol ∷ kinds.Vec ∷ []) (try_call env (opener_of env c.args.room)) c.args.words.now)
     (λ env x. try_call env (opener_of env c.args.room) x.contract x.function.items (datums x.args.items)) old mid c.caught-made.new.host c.in-Ok.ensures.stays (c.in-Ok.ensures.takes (λ env. try_call env (opener_of env c.args.room)))
     (called_by catching c.args.room x.contract c.as_slice.result.now x.function.items (datums x.args.items) c.caught-made.result c.valued.result mid c.caught-made.new.host c.as_slice.ensures.value
-    (c.caught-made.ensures.stays mid marks c.call-made.ensures.stays) c.valued.ensures.does (c.caught-made.ensures.does mid (λ (env : Env). calls env (opener_of env c.args.room) (record { caller = Some (Contract mid.ledger.frame.contract); address = x.contract; function = c.as_slice.result.now; args = datums x.args.items })) marks c.call-made.ensures.stays c.call-made.ensures.does))
+    (c.caught-made.ensures.stays mid marks stays) c.valued.ensures.does (c.caught-made.ensures.does mid (λ (env : Env). calls env (opener_of env c.args.room) (record { caller = Some (Contract mid.ledger.frame.contract); address = x.contract; function = c.as_slice.result.now; args = datums x.args.items })) marks stays
+    (called_opened c.call-made.result c.args.room x.contract c.as_slice.result.now (datums x.args.items) mid next c.call-made.new.host is c.call-made.ensures.does)))
 
-pub try_row-returns-in-Ok-clause-stays : goal.try_row-returns-in-Ok-clause-stays
-try_row-returns-in-Ok-clause-stays g t c =
+pub try_row-returns-in_ok-mark-in-Ok-clause-stays : goal.try_row-returns-in_ok-mark-in-Ok-clause-stays
+try_row-returns-in_ok-mark-in-Ok-clause-stays g t c =
     let mid = c.call_words.new.host in
-    let marks = c.mark-mark.ensures in
-    stays_on c.args.host.now mid c.caught-made.new.host c.in-Ok.ensures.stays (c.caught-made.ensures.stays mid marks c.call-made.ensures.stays)
+    let next = c.mark.new.self in
+    stays_on c.args.host.now mid c.caught-made.new.host c.in-Ok.ensures.stays (c.caught-made.ensures.stays mid c.in_ok-mark-in-Ok.ensures.mark (stays_opened mid next c.call-made.new.host c.in_ok-mark-in-Ok.ensures.ok c.call-made.ensures.stays))
 
 pub try_row-returns-in-Err-clause-does : goal.try_row-returns-in-Err-clause-does
 try_row-returns-in-Err-clause-does g t c = c.in-Err.ensures.takes (λ env. try_call env (opener_of env c.args.room))

@@ -1,11 +1,5 @@
-use Rattle.contract_call.proofs.Undoing.{catches_good, catches_end, catch_stays}
+use Rattle.contract_call.proofs.Undoing.{catches_end, catch_stays}
 use Rattle.contract_call.proofs.undo.caught.Goals as goal
-
-pub returns-in-Ok-clause-does : goal.returns-in-Ok-clause-does
-returns-in-Ok-clause-does g c start act marks stays does = catches_good c.args.made c.in-Ok.value act start c.args.host.now c.in-Ok.is does
-
-pub returns-in-Ok-clause-stays : goal.returns-in-Ok-clause-stays
-returns-in-Ok-clause-stays g c start marks stays = stays
 
 pub returns-in-Err-clause-does : goal.returns-in-Err-clause-does
 returns-in-Err-clause-does g c start act marks stays does =

@@ -1,5 +1,5 @@
 use Rattle.std.proofs.Common.{ℕ, ◌+◌, sym, ap, ◌∙◌}
-use Rattle.tx_apply.specs.Done.{effect_of}
+use Rattle.ledger_apply.specs.Done.{effect_of}
 use Rattle.spec_apply.proofs.Passes.{next_again, next_kept, on_ok}
 use Rattle.spec_apply.proofs.order.run_next.Goals as goal
 

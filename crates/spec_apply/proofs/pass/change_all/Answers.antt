@@ -3,7 +3,7 @@ use Rattle.std.proofs.lemmas.List.Elements.{All-head, All-rest, All-same}
 use Rattle.std.proofs.lemmas.List.Sums.{fold-append}
 use Rattle.stage_runs.specs.Maps.{LedgerMap}
 use Rattle.stage_runs.specs.Runs.{change}
-use Rattle.tx_apply.specs.Done.{CanChange}
+use Rattle.ledger_apply.specs.Done.{CanChange}
 use Rattle.spec_apply.proofs.pass.change_all.Goals as goal
 
 pub loop-made-init : goal.loop-made-init

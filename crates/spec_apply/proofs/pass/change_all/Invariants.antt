@@ -1,7 +1,7 @@
 use Rattle.std.proofs.Common.{◌≡◌, All}
 use Rattle.stage_runs.specs.Maps.{LedgerMap}
 use Rattle.stage_runs.specs.Runs.{change_all}
-use Rattle.tx_apply.specs.Done.{CanChange}
+use Rattle.ledger_apply.specs.Done.{CanChange}
 use Rattle.spec_apply.specs.Moved.{AreMoved}
 use Rattle.spec_apply.proofs.pass.change_all.Given as goal
 

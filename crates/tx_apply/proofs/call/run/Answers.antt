@@ -18,7 +18,7 @@ use Rattle.call_spec.specs.Invoked as spec
 use Rattle.call_spec.specs.Invoked.{by_run}
 use Rattle.contract_call.specs.Ended.{UnlessMemory}
 use Rattle.contract_call.specs.Placed.{IsPathFor}
-use Rattle.host_ledger.specs.Traced.{IsTold}
+use Rattle.contract_call.specs.Traced.{IsTold}
 use Rattle.tx_apply.specs.Authorities.{authority_in}
 use Rattle.tx_apply.specs.Jobs.{work_in}
 use Rattle.tx_apply.specs.Running.{entered_run, result_of}

@@ -4,7 +4,7 @@ use Rattle.auth_types.specs.declared.auth_entry.AuthEntry.{AuthEntry}
 use Rattle.auth_spec.specs.Demands.{Marked}
 use Rattle.auth_spec.specs.Authorities.{Authorised, by_entries}
 use Rattle.contract_storage.specs.Stored.{Stored}
-use Rattle.host_ledger.specs.Traced.{IsRecorded}
+use Rattle.contract_call.specs.Traced.{IsRecorded}
 use Rattle.call_spec.specs.World.{Authority}
 use Rattle.contract_call.specs.Placed.{IsPathFor}
 use Rattle.tx_apply.specs.Authorities.{authority_in}

@@ -1,21 +1,17 @@
-use Rattle.std.proofs.Common.{◌≡◌, true, rules}
-use Rattle.ledger_types.specs.Entry.{key_of}
+use Rattle.std.proofs.Common.{◌≡◌, true, refl, rules}
 use Rattle.contract_storage.specs.Touched.{admits}
 use Rattle.contract_storage.specs.Acts.{puts}
 use Rattle.contract_storage.specs.declared.access.Access.TheVariants.{Write}
 use Rattle.contract_storage.proofs.Doing.{fits_key}
-use Rattle.contract_storage.proofs.Calling.{does_ended, before_start}
+use Rattle.contract_storage.proofs.Calling.{does_noted, still_noted}
 use Rattle.contract_storage.proofs.storage.Storage.put.Goals as goal
+
+pub note_key-requires : goal.note_key-requires
+note_key-requires g c = fits_key c.args.key c.args.entry c.requires.key c.requires.fits
 
 pub ended-requires-clause-fits : goal.ended-requires-clause-fits
 ended-requires-clause-fits g c = fits_key c.args.key c.args.entry c.requires.key c.requires.fits
 
-pub ended-requires-clause-before : goal.ended-requires-clause-before
-ended-requires-clause-before g c =
-    before_start (puts c.args.entry) c.put_allowed-answer.result c.args.self.now c.put_allowed-answer.new.self _ c.snapshot-start.ensures c.put_allowed-answer.ensures
-
-pub returns : goal.returns
-returns g c =
-    let a : admits c.args.self.now.declared Write c.args.key ≡ true = search rules in
-    does_ended Write c.args.key (key_of c.args.entry) (puts c.args.entry) c.put_allowed-answer.result c.ended.result c.args.self.now c.put_allowed-answer.new.self c.ended.new.self _
-    c.requires.key a c.put_allowed-answer.ensures c.snapshot-start.ensures c.ended.ensures.out c.ended.ensures.ends c.ended.ensures.undone
+pub ended-requires-clause-noted : goal.ended-requires-clause-noted
+ended-requires-clause-noted g c =
+    still_noted Write c.args.key (puts c.args.entry) c.put_allowed-answer.result c.args.self.now c.note_key.new.self c.put_allowed-answer.new.self c.in-Ok.noted c.in-Ok.ensures.ok c.in-Ok.ensures.noted c.put_allowed-answer.ensures
