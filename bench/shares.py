@@ -30,7 +30,7 @@ PARTS = [
         *(f"contract_call::calls::{name}" for name in ("enter", "open", "inside", "run")),
     ]),
     ("finding the contract and its code", ["contract_call::", "call_parts::"]),
-    ("host functions and their storage", ["host_ledger::", "host_values::", "host_frame::", "object_store::"]),
+    ("host functions and their storage", ["host_acts::", "host_ledger::", "host_values::", "host_frame::", "object_store::"]),
     ("hashing", ["sha2::", "tx_xdr::hashing::", "ledger_types::keys::key_hash"]),
     ("writing the report and the ledger", ["ledger_file::writing::", "tx_results::", "soroban_top::outputs::"]),
 ]

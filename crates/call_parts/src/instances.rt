@@ -31,7 +31,7 @@ use budget_meter::{Budget, Kind};
 use contract_storage::{Storage, Watch};
 use entry_lookup::Ground;
 use host_frame::entry;
-use host_ledger::{InstanceCopy, end_of, instance_key, size_of};
+use host_ledger::{InstanceCopy, InstanceStorage, end_of, instance_key, size_of};
 use host_spec::HostErr;
 use ledger_spec::first_life;
 use ledger_types::{LedgerEntry, LedgerEntryData, Settings};
@@ -107,7 +107,10 @@ fn entered_copy(code: Hash, entries: &Entries) -> Result<InstanceCopy, HostErr>
 {
     let copy = clone_entries(entries)?;
     match entered(copy) {
-        Ok(storage) => Ok(InstanceCopy { code, storage }),
+        Ok(storage) => Ok(InstanceCopy {
+            code,
+            storage: InstanceStorage::new(storage),
+        }),
         Err(error) => Err(error),
     }
 }
@@ -126,7 +129,7 @@ fn instance_in(val: &ScVal) -> Result<InstanceCopy, HostErr>
             Executable::Wasm(code) => match &instance.storage {
                 None => Ok(InstanceCopy {
                     code,
-                    storage: None,
+                    storage: InstanceStorage::null(),
                 }),
                 Some(entries) => entered_copy(code, entries),
             },
@@ -215,7 +218,7 @@ fn same_storage(first: &Option<Entries>, second: &Option<Entries>) -> bool
 fn same_copy(first: &InstanceCopy, second: &InstanceCopy) -> bool
     ensures { Decides result (copied first.now ≡ copied second.now) }
 {
-    first.code == second.code && same_storage(&first.storage, &second.storage)
+    first.code == second.code && same_storage(first.storage.entries(), second.storage.entries())
 }
 
 /// Whether a frame's copy of the instance is the one at its start. Takes no memory.
@@ -230,10 +233,13 @@ pub fn clone_copy(copy: &InstanceCopy) -> Result<InstanceCopy, HostErr>
     ensures ok { IfOk result (λ c. c ≡ copy.now) }
     ensures memory { IfErr result (λ e. e ≡ ends.NoMemory) }
 {
-    Ok(InstanceCopy {
-        code: copy.code,
-        storage: clone_storage(&copy.storage)?,
-    })
+    match copy.storage.clone() {
+        Ok(storage) => Ok(InstanceCopy {
+            code: copy.code,
+            storage,
+        }),
+        Err(_) => Err(HostErr::NoMemory),
+    }
 }
 
 /// Writes a copy of an instance in ledger `n`.
@@ -252,7 +258,7 @@ pub fn write_instance<G: Ground, W: Watch>(
     ensures later { IsLater storage.old storage.new }
     ensures key { IfErr result IsKeySpelled }
 {
-    let storage_copy = clone_storage(&copy.storage)?;
+    let storage_copy = clone_storage(copy.storage.entries())?;
     let entry = instance_entry(n, contract, copy.code, storage_copy);
     let key = instance_key(contract);
     put(storage, budget, key, entry)

@@ -63,7 +63,7 @@ use contract_storage::Watch;
 use entry_lookup::Ground;
 use host_frame::Answer;
 use host_interface::HostImport;
-use host_ledger::{InstanceCopy, Running};
+use host_ledger::{InstanceCopy, InstanceStorage, Running};
 use host_spec::HostErr;
 use invoke_types::Function;
 use module_loader::LinkedModule;
@@ -657,7 +657,7 @@ fn construct<G: Ground, A: Authority, W: Watch>(
     }
     let copy = InstanceCopy {
         code: contract.code,
-        storage: None,
+        storage: InstanceStorage::null(),
     };
     let frame = running(host.allocator(), id, creator, copy);
     match constructor_place(host.allocator(), args.as_slice(), path) {

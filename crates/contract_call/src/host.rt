@@ -14,7 +14,7 @@ use budget_meter::Budget;
 use code_cache::Cache;
 use contract_storage::{Storage, Watch};
 use entry_lookup::Ground;
-use host_ledger::{Events, HostLedger, InstanceCopy, Running};
+use host_ledger::{Events, HostLedger, InstanceCopy, InstanceStorage, Running};
 use host_spec::HostErr;
 use ledger_types::{Header, Verdicts};
 use object_store::{Objects, Shown};
@@ -57,7 +57,7 @@ fn outside(alloc: Global) -> Running
         code: Hash([0; 32]),
         copy: InstanceCopy {
             code: Hash([0; 32]),
-            storage: None,
+            storage: InstanceStorage::null(),
         },
         shown: Shown::new(alloc),
     }

@@ -1,13 +1,8 @@
 -- The lemmas that other crates cite.
-pub use Rattle.host_ledger.proofs.Composing.{ends_then, serves_later}
-pub use Rattle.host_ledger.proofs.Emitting.{all_same}
-pub use Rattle.host_ledger.proofs.Keys.{durability_fits}
-pub use Rattle.host_ledger.proofs.Linking.{access_is, decided, got_of, got_tells, has_done, noted_still, reads_read}
-pub use Rattle.host_ledger.proofs.Linking.{refused_still, same_declared, same_map, touched_after}
-pub use Rattle.host_ledger.proofs.Making.{contract_made}
-pub use Rattle.host_ledger.proofs.Putting.{put_done, put_touched}
-pub use Rattle.host_ledger.proofs.Rows.{later_read, later_same, row}
-pub use Rattle.host_ledger.proofs.Spelling.{access_spelled, put_spelled}
+pub use Rattle.host_acts.proofs.Lemmas.{access_is, access_spelled, afterwards, all_same, as_storages, contract_made, decided}
+pub use Rattle.host_acts.proofs.Lemmas.{durability_fits, ends_then, got_of, got_tells, has_done, later_read, later_same}
+pub use Rattle.host_acts.proofs.Lemmas.{noted_still, put_done, put_spelled, put_touched, quietly, reads_read, refused_still}
+pub use Rattle.host_acts.proofs.Lemmas.{retold, same_declared, same_map, serves_later, since, tells_access, tells_equal}
+pub use Rattle.host_acts.proofs.Lemmas.{tells_still, touched_after}
+pub use Rattle.host_ledger.proofs.Rows.{row}
 pub use Rattle.host_ledger.proofs.Steps.{ready_after}
-pub use Rattle.host_ledger.proofs.Tracing.{afterwards, as_storages, quietly, retold, since, tells_access, tells_equal}
-pub use Rattle.host_ledger.proofs.Tracing.{tells_still}

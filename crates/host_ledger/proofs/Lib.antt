@@ -1,22 +1,8 @@
-mod Composing
-mod Editing
-mod Emitting
-mod EventLists
 mod Grouping
-mod Holding
-mod KeyLaws
-mod Keys
 pub mod Lemmas
-mod Limits
-mod Linking
-mod Living
-mod Making
 mod Naming
-mod Putting
 mod Rows
-mod Spelling
 mod Stepping
 mod Steps
 mod Storing
-mod Tracing
 mod Updating

@@ -1,5 +1,5 @@
 -- From the body of a row to the row.
-use Rattle.std.proofs.Common.{◌≡◌, ℕ, List, [], Result, refl, sym, subst, arith}
+use Rattle.std.proofs.Common.{◌≡◌, ℕ, List, [], Result, refl, sym, arith}
 use Rattle.std.proofs.lemmas.Grind.{common_steps}
 use Rattle.budget_meter.specs.Meter.{Meter}
 use Rattle.value_types.specs.Datum.{Datum}
@@ -7,22 +7,15 @@ use Rattle.host_interface.specs.declared.kinds.ArgKind.{ArgKind}
 use Rattle.host_spec.specs.declared.error.HostErr.{HostErr}
 use Rattle.object_store.specs.Shown.{shown_of}
 use Rattle.host_frame.specs.declared.answer.Answer.{Answer as Answer'}
-use Rattle.contract_storage.specs.Stored.{Stored, IsLater, IsRead}
+use Rattle.contract_storage.specs.Stored.{Stored, IsLater}
 use Rattle.call_spec.specs.World.{Env}
 use Rattle.call_spec.specs.Rules.{Rule}
 use Rattle.host_ledger.specs.Worlds.{IsHeld, copied, world_at}
-use Rattle.host_ledger.specs.Answered.{Answers, IsMadeIfOk}
+use Rattle.host_ledger.specs.Answered.{Answers}
+use Rattle.host_acts.specs.Answered.{IsMadeIfOk}
 use Rattle.host_ledger.specs.Accessed.{Runs}
 use Rattle.host_ledger.specs.declared.state.InstanceCopy.{InstanceCopy}
 use Rattle.host_ledger.specs.declared.state.HostLedger.{HostLedger}
-
--- a state is later than itself
-pub later_same : (old new : Stored) → new ≡ old → IsLater old new
-later_same old new e = subst (λ (s : Stored). IsLater old s) (sym e) refl
-
--- a state in which keys were touched is later
-pub later_read : (old new : Stored) → IsRead old new → IsLater old new
-later_read old new e = subst (λ (s : Stored). IsLater old s) (sym e) refl
 
 -- A body that runs as the row's rule, and leaves the events, makes its row.
 pub row : {G V : Type 0} (r : Result Answer' HostErr) (ks : List ArgKind) (rule : Env → Rule ks) (words : List ℕ) (shown : List Datum) (old : HostLedger G V) (s : Stored) (m : Meter) (c : InstanceCopy)

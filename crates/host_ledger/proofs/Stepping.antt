@@ -17,25 +17,25 @@ use Rattle.host_frame.specs.declared.answer.Answer.{Answer as Answer'}
 use Rattle.ledger_spec.specs.LedgerMap.{LedgerMap}
 use Rattle.contract_storage.specs.Stored.{Stored}
 use Rattle.call_spec.specs.World.{Write, Copied, World, Env, made_seq}
-use Rattle.call_spec.specs.Acts.{Act, Out, with_frame}
+use Rattle.call_spec.specs.Acts.{Act, Out, with_frame, after}
 use Rattle.call_spec.specs.Events.{event_of, emits, contract_event}
 use Rattle.call_spec.specs.Accesses.{access, puts}
 use Rattle.call_spec.specs.Keys.{data_key, data_entry}
 use Rattle.call_spec.specs.Outcomes.{quiet, Says}
-use Rattle.host_ledger.specs.Traced.{leaving}
+use Rattle.host_acts.specs.Traced.{leaving}
 use Rattle.call_spec.specs.Rules.{answered, nothing}
-use Rattle.call_spec.specs.Storage.{put_contract_data, get_contract_data, put_in_copy, get_in_copy, deletes, del_contract_data, extending, unless_backward, extend_contract_data_ttl}
-use Rattle.host_ledger.specs.Worlds.{Serves}
+use Rattle.call_spec.specs.Storage.{put_contract_data, get_contract_data, put_in_copy, get_in_copy, deletes, del_contract_data, extending, unless_backward, extend_contract_data_ttl, extend_current_contract_instance_and_code_ttl}
+use Rattle.host_acts.specs.Served.{Serves}
 use Rattle.host_ledger.specs.Accessed.{Runs}
 use Rattle.host_ledger.specs.Storing.{PutsInCopy}
-use Rattle.host_ledger.specs.Places.{IsPlace}
-use Rattle.host_ledger.proofs.Tracing.{quietly}
-use Rattle.host_ledger.specs.declared.place.Place.{Place}
-use Rattle.host_ledger.specs.declared.place.Place.TheVariants as places
+use Rattle.host_acts.specs.StorageTypes.{IsStorageType}
+use Rattle.host_acts.proofs.Lemmas.{lives, quietly}
+use Rattle.host_acts.specs.declared.storage_types.StorageType.{StorageType}
+use Rattle.host_acts.specs.declared.storage_types.StorageType.TheVariants as storage_types
 
 -- the place of data in the ledger
 abbrev pub IsAt : Durability → ℕ → Type 0
-IsAt durability kind = let r : Result Place HostErr = Ok (places.Ledger durability) in IsPlace r kind
+IsAt durability kind = let r : Result StorageType HostErr = Ok (storage_types.Ledger durability) in IsStorageType r kind
 
 -- the act of the frame's extension
 abbrev extension : Env → Datum → Durability → ℕ → ℕ → Act Answer
@@ -77,6 +77,25 @@ pub event_runs : (q : Result Answer' HostErr) (shown : List Datum) (contract : H
 event_runs q shown contract a b topics content event before entered after old new h1 h2 paid is h w i j k l =
     subst (λ (out : Out Answer). Says q answer_of out (quiet w (λ trace. record w { events = new; trace = trace; meter = after })))
     (sym (event_is w shown contract a b topics content event before entered k j l h1 h2 paid is)) (h (record w { meter = entered }) i refl)
+
+-- the frame's extension of its instance and of its code
+lives_is : (env : Env) (w : World) (shown : List Datum) (a b threshold extend_to : ℕ) (before after' : Meter) → w.frame.shown ≡ shown → w.meter ≡ before
+    → argument kinds.U32 shown a ≡ Ok threshold → argument kinds.U32 shown b ≡ Ok extend_to
+    → ((memory : List ℕ) → dispatched (a ∷ b ∷ []) (values.state shown memory before) ≡ values.Good tt (values.state shown memory after'))
+    → answered (kinds.U32 ∷ kinds.U32 ∷ []) (extend_current_contract_instance_and_code_ttl env) (a ∷ b ∷ []) w
+    ≡ unless_backward threshold extend_to (with_frame (λ frame. lives env frame.contract frame.code threshold extend_to)) (record w { meter = after' })
+lives_is env w shown a b threshold extend_to before after' k j h1 h2 paid = rw (k, j, h1, h2, paid w.frame.memory) refl
+
+pub lives_run : (q : Result Answer' HostErr) (shown : List Datum) (contract code : Hash) (a b threshold extend_to : ℕ) (old new : Stored) (before after' : Meter)
+    → argument kinds.U32 shown a ≡ Ok threshold → argument kinds.U32 shown b ≡ Ok extend_to
+    → ((memory : List ℕ) → dispatched (a ∷ b ∷ []) (values.state shown memory before) ≡ values.Good tt (values.state shown memory after'))
+    → ((env : Env) → Serves env old → (w : World) → w.entries ≡ old.map → w.frame.contract ≡ contract → w.frame.code ≡ code
+    → Says q answer_of (unless_backward threshold extend_to (with_frame (λ frame. lives env frame.contract frame.code threshold extend_to)) w) (leaving old new w.trace (λ trace. record w { entries = new.map; trace = trace })))
+    → (env : Env) → Serves env old → (w : World) → w.entries ≡ old.map → w.meter ≡ before → w.frame.shown ≡ shown → w.frame.contract ≡ contract → w.frame.code ≡ code
+    → Says q answer_of (answered (kinds.U32 ∷ kinds.U32 ∷ []) (extend_current_contract_instance_and_code_ttl env) (a ∷ b ∷ []) w) (leaving old new w.trace (λ trace. record w { entries = new.map; trace = trace; meter = after' }))
+lives_run q shown contract code a b threshold extend_to old new before after' h1 h2 paid h env serves w i j k l m =
+    subst (λ (out : Out Answer). Says q answer_of out (leaving old new w.trace (λ trace. record w { entries = new.map; trace = trace; meter = after' })))
+    (sym (lives_is env w shown a b threshold extend_to before after' k j h1 h2 paid)) (h env serves (record w { meter = after' }) i l m)
 
 -- the act of the frame's deletion
 abbrev deletion : Env → Datum → Durability → Act Answer
@@ -126,7 +145,7 @@ put_runs q shown contract a b c key val durability old new before entered after 
 -- ---- data in the frame's copy
 
 abbrev pub IsInCopy : ℕ → Type 0
-IsInCopy kind = let r : Result Place HostErr = Ok places.Copy in IsPlace r kind
+IsInCopy kind = let r : Result StorageType HostErr = Ok storage_types.Instance in IsStorageType r kind
 
 -- an act on the copy, in a storage that does not change
 in_copy : (q : Result Answer' HostErr) (out : Out Answer) (s : Stored) (entered : Meter) (copy : Copied) (w : World) → w.entries ≡ s.map

@@ -20,15 +20,14 @@ use Rattle.call_spec.specs.Acts.{lift, lifted, with_state}
 use Rattle.call_spec.specs.Frames.{Opener}
 use Rattle.call_spec.specs.HostFunctions.{world_rule, either}
 use Rattle.call_spec.specs.Outcomes.{Leaves, quiet, Says}
-use Rattle.host_ledger.specs.Traced.{Tells, leaving}
+use Rattle.host_acts.specs.Traced.{Tells, leaving}
 use Rattle.call_spec.specs.Rules.{Rule, answered, call_of}
 use Rattle.host_ledger.specs.Worlds.{IsHeld, world_at, IsReady, Stays, Shows}
 use Rattle.host_ledger.specs.Answered.{Answers}
 use Rattle.host_ledger.specs.Called.{Calls, Left}
 use Rattle.host_ledger.specs.Rows.{SaysBy, AnswersRow}
 use Rattle.host_ledger.specs.declared.state.HostLedger.{HostLedger}
-use Rattle.host_ledger.proofs.Composing.{ends_then, goes_then}
-use Rattle.host_ledger.proofs.Tracing.{afterwards}
+use Rattle.host_acts.proofs.Lemmas.{afterwards, ends_then, goes_then}
 
 -- ---- rows
 

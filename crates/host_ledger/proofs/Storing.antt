@@ -19,33 +19,8 @@ use Rattle.call_spec.specs.World.{Copied, World}
 use Rattle.call_spec.specs.Rules.{nothing}
 use Rattle.call_spec.specs.Storage.{members, put_in_copy}
 use Rattle.call_spec.specs.Outcomes.{quiet, Says}
-use Rattle.host_ledger.specs.Storing.{instance_with, PutsInCopy}
-
-pub empty_hosted : IsHosted (map (members_of []))
-unfolding size_of
-empty_hosted = record { made = map_made [] (omega arith) tt refl; sized = omega arith; shallow = omega arith }
-
-pub empty_as : (x : List Member) (es : List Entry) → x ≡ datum_pairs es → es ≡ [] → IsHosted (map (members_of x))
-empty_as x es e f = subst (λ (y : List Member). IsHosted (map (members_of y))) (sym (e ∙ ap (λ (ys : List Entry). datum_pairs ys) f)) empty_hosted
-
--- ---- limits
-
-both : (a b : Bool) → a && b ≡ true → (a ≡ true) × (b ≡ true)
-both true true h = (refl, refl)
-both true false h = absurd cc
-both false b h = absurd cc
-
-small_map : (code : Hash) (ms : List Member) → size_of (map (members_of ms)) ≤ size_of (instance_with code ms)
-unfolding size_of
-small_map code ms = omega (arith, length-append (executable_format.spell (Wasm code)))
-
--- the map of an instance within the limits is one that the host holds
-pub within_held : (code : Hash) (ms : List Member) → IsMade (map (members_of ms)) → is_within_limits (instance_with code ms) ≡ true → IsHosted (map (members_of ms))
-within_held code ms made h =
-    let two = both (nat_le (size_of (instance_with code ms)) 16777216) (nat_le (depth_of (instance_with code ms)) 100) h in
-    let size : size_of (instance_with code ms) ≤ 16777216 = grind arith in
-    let depth : depth_of (instance_with code ms) ≤ 100 = grind arith in
-    record { made = made; sized = omega (arith, small_map code ms); shallow = depth }
+use Rattle.instance_storage.specs.Held.{instance_with}
+use Rattle.host_ledger.specs.Storing.{PutsInCopy}
 
 -- ---- acts
 
@@ -87,8 +62,3 @@ pub refuse_says : (k v : Datum) (code : Hash) (storage : Option (List Member)) (
 refuse_says k v code storage after e h =
     subst (λ (x : Option (List Member)). let r : Result Answer HostErr = Err (ends.Failed errors.TOO_LARGE) in PutsInCopy r k v (record { code = code; storage = storage }) (record { code = code; storage = x }))
     (sym e) (refused k v (record { code = code; storage = storage }) h)
-
-pub put_held : (k v : Datum) (code : Hash) (old ms : List Member) → IsHosted (map (members_of old)) → IsMade k → IsMade v → ms ≡ put k v old → is_within_limits (instance_with code (put k v old)) ≡ true
-    → IsHosted (map (members_of ms))
-put_held k v code old ms hosted made_k made_v e h =
-    subst (λ (x : List Member). IsHosted (map (members_of x))) (sym e) (within_held code (put k v old) (put_made k v old hosted made_k made_v) h)

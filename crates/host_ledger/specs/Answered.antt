@@ -1,20 +1,16 @@
 -- What the body of a row does.
-use Rattle.std.specs.Prelude.{ℕ, List, Result, Ok, Err}
+pub use Rattle.host_acts.specs.Answered.{IsMadeIfOk}
+use Rattle.std.specs.Prelude.{ℕ, List, Result}
 use Rattle.host_interface.specs.declared.kinds.ArgKind.{ArgKind}
 use Rattle.host_spec.specs.declared.error.HostErr.{HostErr}
 use Rattle.host_frame.specs.Answered.{answer_of}
-use Rattle.host_frame.specs.Made.{IsAnswerMade}
 use Rattle.host_frame.specs.declared.answer.Answer.{Answer as Answer'}
 use Rattle.call_spec.specs.World.{Access, World, Env}
 use Rattle.call_spec.specs.Outcomes.{Says}
 use Rattle.call_spec.specs.Rules.{Rule, answered}
-use Rattle.host_ledger.specs.Traced.{leaving}
+use Rattle.host_acts.specs.Traced.{leaving}
 use Rattle.host_ledger.specs.Worlds.{world_at, IsEnv, Stays}
 use Rattle.host_ledger.specs.declared.state.HostLedger.{HostLedger}
-
-abbrev pub IsMadeIfOk : Result Answer' HostErr → Type 0
-IsMadeIfOk (Ok a) = IsAnswerMade (answer_of a)
-IsMadeIfOk (Err e) = Unit {0}
 
 -- The body returns what the row's rule returns for these words. This holds for every environment and world of the state, and
 -- every earlier trace.

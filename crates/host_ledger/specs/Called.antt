@@ -10,7 +10,7 @@ use Rattle.call_spec.specs.Frames.{Opener}
 use Rattle.call_spec.specs.HostFunctions.{host_function}
 use Rattle.call_spec.specs.Outcomes.{Says}
 use Rattle.host_ledger.specs.Worlds.{world_at, IsEnv, IsReady}
-use Rattle.host_ledger.specs.Traced.{leaving}
+use Rattle.host_acts.specs.Traced.{leaving}
 use Rattle.host_ledger.specs.declared.state.HostLedger.{HostLedger}
 
 -- The functions of the modules x and l that act on the ledger or the running frame alone: all that neither upload, create nor

@@ -1,10 +1,8 @@
-pub mod EventLists
-pub mod Traced
 pub mod Worlds
 pub mod Answered
-pub mod Spelled
 pub mod Accessed
-pub mod Places
 pub mod Storing
 pub mod Rows
 pub mod Called
+pub use Rattle.host_acts.specs.Spelled
+pub use Rattle.host_acts.specs.Traced

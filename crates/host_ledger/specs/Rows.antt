@@ -12,9 +12,9 @@ use Rattle.call_spec.specs.Frames.{Opener}
 use Rattle.call_spec.specs.HostFunctions.{world_rule}
 use Rattle.call_spec.specs.Outcomes.{Leaves, Says}
 use Rattle.call_spec.specs.Rules.{Rule, answered}
-use Rattle.host_ledger.specs.Traced.{leaving}
+use Rattle.host_acts.specs.Traced.{leaving}
 use Rattle.host_ledger.specs.Worlds.{world_at, IsEnv, Stays}
-use Rattle.host_ledger.specs.Answered.{IsMadeIfOk}
+use Rattle.host_acts.specs.Answered.{IsMadeIfOk}
 use Rattle.host_ledger.specs.declared.state.HostLedger.{HostLedger}
 
 -- a body returns what this rule says for these words

@@ -1,20 +1,14 @@
 -- The program's state as a world.
-use Rattle.std.specs.Prelude.{◌≡◌, ◌++◌, List, Option, Some, None}
+pub use Rattle.host_acts.specs.Served.{Serves}
+pub use Rattle.instance_storage.specs.Held.{IsHeld}
+use Rattle.std.specs.Prelude.{◌≡◌, ◌++◌, List}
 use Rattle.std.specs.Option.{option_map}
 use Rattle.value_types.specs.declared.hash.Hash.{Hash}
 use Rattle.value_types.specs.declared.address.ScAddress.{ScAddress}
 use Rattle.value_types.specs.declared.address.ScAddress.TheVariants.{Contract}
-use Rattle.value_types.specs.Datum.{map, members_of}
-use Rattle.host_spec.specs.MapRows.{Member}
-use Rattle.host_spec.specs.Hosted.{IsHosted}
 use Rattle.object_store.specs.Shown.{shown_of, AreIndices}
-use Rattle.ledger_types.specs.Key.{key_format}
-use Rattle.ledger_types.specs.declared.key.LedgerKey.{LedgerKey}
-use Rattle.ledger_spec.specs.LedgerMap.{key_bytes}
-use Rattle.contract_storage.specs.Stored.{Stored, HasBounds, IsLater}
-use Rattle.contract_storage.specs.Touched.{admits}
-use Rattle.call_spec.specs.World.{AccessKind, Access, Copied, World, Env, next_seq, made_seq}
-use Rattle.host_ledger.specs.Traced.{kind_of}
+use Rattle.contract_storage.specs.Stored.{HasBounds, IsLater}
+use Rattle.call_spec.specs.World.{Access, Copied, World, Env, next_seq}
 use Rattle.host_ledger.specs.declared.state.InstanceCopy.{InstanceCopy}
 use Rattle.host_ledger.specs.declared.state.HostLedger.{HostLedger}
 
@@ -46,24 +40,12 @@ world_at rest h trace = record rest {
 
 -- ---- environments
 
--- A storage makes the accesses of an environment: in its ledger, with its settings, and its judge allows what the storage allows.
-pub record Serves (env : Env) (s : Stored) : Type 0 where
-  pub number : s.n ≡ made_seq env
-  pub lives : s.lives ≡ env.header.settings
-  pub judge : (kind : AccessKind) (key : LedgerKey) → key_format.fits key
-      → admits s.declared (kind_of kind) key ≡ env.judge kind (key_bytes key)
-
 -- an environment of the program's state
 pub record IsEnv {G V : Type 0} (env : Env) (h : HostLedger G V) : Type 0 where
   pub header : env.header ≡ h.header.now
   pub serves : Serves env h.storage
 
 -- ---- the state of a run
-
--- instance storage is null or a map that the host holds
-abbrev pub IsHeld : Option (List Member) → Type 0
-IsHeld None = Unit {0}
-IsHeld (Some members) = IsHosted (map (members_of members))
 
 -- The storage was made with the number of the ledger that is made and with the header's settings, words index what was shown, and
 -- instance storage is held. A row needs this state, and leaves such a state.

@@ -12,7 +12,7 @@ ghost use Rattle.host_ledger.specs.Worlds.{world_at, IsReady, Shows};
 ghost use Rattle.host_interface.specs.Named.{import_named};
 ghost use Rattle.host_ledger.specs.Called.{IsLedgerCall, Calls, IsNamedCall, CallsNamed};
 ghost use Rattle.host_ledger.specs.Rows.{AnswersRow};
-ghost use Rattle.host_ledger.specs.Spelled.{IsKeySpelled};
+ghost use Rattle.host_acts.specs.Spelled.{IsKeySpelled};
 
 use crate::groups::{four_words, one_word, three_words, two_words, without_words};
 use crate::state::HostLedger;

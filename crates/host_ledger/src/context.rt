@@ -1,8 +1,8 @@
 //! Module x: the ledger that is made, the running contract, failing.
 
-ghost use Rattle.std.specs.Prelude.{◌≡◌, ◌+◌, ◌<◌, ◌^◌, [], ◌∷◌, IfOk, IfErr};
+ghost use Rattle.std.specs.Prelude.{◌≡◌, [], ◌∷◌, IfOk, IfErr};
 ghost use Rattle.host_interface.specs.declared.kinds.ArgKind.TheVariants as kinds;
-ghost use Rattle.value_types.specs.Datum.{bytes, u64, address};
+ghost use Rattle.value_types.specs.Datum.{bytes, u64};
 ghost use Rattle.ledger_spec.specs.Changes.{furthest as furthest_in};
 ghost use Rattle.contract_storage.specs.Stored.{HasBounds};
 ghost use Rattle.host_spec.specs.Answers.{value};
@@ -14,17 +14,18 @@ ghost use Rattle.call_spec.specs.Events.{get_ledger_version, get_ledger_sequence
 ghost use Rattle.call_spec.specs.Events.{get_current_contract_address, get_max_live_until_ledger, fail_with_error};
 ghost use Rattle.host_ledger.specs.Worlds.{IsReady};
 ghost use Rattle.host_ledger.specs.Answered.{Answers};
-ghost use Rattle.host_ledger.specs.Spelled.{IsKeySpelled};
+ghost use Rattle.host_acts.specs.Spelled.{IsKeySpelled};
 
 use crate::errors::NO_CONTRACT_ERROR;
 use crate::state::HostLedger;
 use contract_storage::Watch;
 use entry_lookup::Ground;
+use host_acts::address_of;
 use host_frame::{Answer, Values, enter};
 use host_spec::{HostErr, ValueErr};
 use ledger_types::Header;
 use std::alloc::Global;
-use value_types::{Hash, ScAddress, ScError, ScVal};
+use value_types::{Hash, ScError, ScVal};
 
 /// The number of the ledger that is made.
 pub fn made_seq(header: &Header) -> u32
@@ -50,15 +51,6 @@ fn number64(number: u64) -> Answer
     ensures made { IsAnswerMade (answer_of result) }
 {
     Answer::value(ScVal::U64(number))
-}
-
-/// The address of a contract, as an answer.
-#[tactic(auto, using(crate::proofs::Making::contract_made), unfolding(value_types::specs::Address::address_format, value_types::specs::Hash::hash_format))]
-pub(crate) fn address_of(contract: Hash) -> Answer
-    ensures value { answer_of result ≡ value (address (ScAddress.Contract contract)) }
-    ensures made { IsAnswerMade (answer_of result) }
-{
-    Answer::value(ScVal::Address(ScAddress::Contract(contract)))
 }
 
 /// A hash as an answer.

@@ -1,9 +1,8 @@
 //! The frame's copy of the instance.
 
-ghost use Rattle.std.specs.Prelude.{◌≡◌, Some, None, IfOk, IfErr, IfSome, MatchOption};
-ghost use Rattle.value_types.specs.Datum.{members_of, map};
-ghost use Rattle.value_types.specs.Views.{datum, datum_pairs};
-ghost use Rattle.host_spec.specs.Hosted.{IsHosted, IsMade};
+ghost use Rattle.std.specs.Prelude.{◌≡◌, None, IfOk, IfErr, IfSome, MatchOption, Some};
+ghost use Rattle.value_types.specs.Views.{datum};
+ghost use Rattle.host_spec.specs.Hosted.{IsMade};
 ghost use Rattle.host_spec.specs.MapRows.{value_at as value_in};
 ghost use Rattle.host_spec.specs.declared.error.ValueErr.TheVariants as errs;
 ghost use Rattle.host_frame.specs.Answered.{answer_of};
@@ -11,35 +10,18 @@ ghost use Rattle.call_spec.specs.World.{World};
 ghost use Rattle.call_spec.specs.Outcomes.{quiet, Says};
 ghost use Rattle.call_spec.specs.Storage.{members, get_in_copy, storage_without};
 ghost use Rattle.host_ledger.specs.Worlds.{IsHeld, copied};
-ghost use Rattle.host_ledger.specs.Answered.{IsMadeIfOk};
+ghost use Rattle.host_acts.specs.Answered.{IsMadeIfOk};
 ghost use Rattle.host_ledger.specs.Storing.{PutsInCopy};
-ghost use Rattle.host_ledger.specs.Spelled.{IsKeySpelled};
+ghost use Rattle.host_acts.specs.Spelled.{IsKeySpelled};
 
-use crate::errors::{NO_ENTRY, TOO_LARGE};
-use crate::puts::{Unput, delete_in, put_in};
+use crate::errors::TOO_LARGE;
 use crate::state::InstanceCopy;
-use crate::values::clone_value;
-use host_frame::{Answer, index_of};
+use host_acts::{NO_ENTRY, clone_value};
+use host_frame::Answer;
 use host_spec::{HostErr, ValueErr};
+use instance_storage::Unput;
 use std::alloc::Global;
-use value_types::{Entries, Entry, ScVal};
-
-/// The value of a key.
-#[tactic(auto, using(host_frame::proofs::Lemmas::value_there, host_frame::proofs::Lemmas::value_gap, host_frame::proofs::Lemmas::val_made))]
-fn value_at<'a>(key: &ScVal, entries: &'a [Entry]) -> Option<&'a ScVal>
-    requires { IsHosted (map (members_of (datum_pairs entries.now))) }
-    ensures found { MatchOption result (value_in (datum key.now) (datum_pairs entries.now) ≡ None)
-        (λ v. value_in (datum key.now) (datum_pairs entries.now) ≡ Some (datum v.now)) }
-    ensures made { IfSome result (λ v. IsMade (datum v.now)) }
-{
-    match index_of(key, entries) {
-        Ok(index) => {
-            let entry = &entries[index];
-            Some(&entry.val)
-        }
-        Err(_) => None,
-    }
-}
+use value_types::{Entry, ScVal};
 
 /// The value of a key in instance storage.
 pub(crate) fn in_copy<'a>(copy: &'a InstanceCopy, key: &ScVal) -> Option<&'a ScVal>
@@ -48,10 +30,7 @@ pub(crate) fn in_copy<'a>(copy: &'a InstanceCopy, key: &ScVal) -> Option<&'a ScV
         (λ v. value_in (datum key.now) (members copy.now.storage) ≡ Some (datum v.now)) }
     ensures made { IfSome result (λ v. IsMade (datum v.now)) }
 {
-    match &copy.storage {
-        None => None,
-        Some(entries) => value_at(key, entries.as_slice()),
-    }
+    copy.storage.get(key)
 }
 
 /// The value of a key in instance storage, as an answer.
@@ -79,48 +58,19 @@ fn entry_of(key: &ScVal, val: &ScVal) -> Result<Entry, ValueErr>
     Ok(Entry { key, val })
 }
 
-/// Puts an entry into a copy whose storage was null.
-fn put_first(copy: &mut InstanceCopy, alloc: Global, entry: Entry) -> Result<Answer, HostErr>
-    requires null { copy.old.storage ≡ None }
+/// Puts an entry into instance storage, unless the instance would be too large or too deep.
+fn put_entry(copy: &mut InstanceCopy, alloc: Global, entry: Entry) -> Result<Answer, HostErr>
+    requires held { IsHeld copy.old.storage }
     requires key { IsMade (datum entry.key) }
     requires val { IsMade (datum entry.val) }
-    ensures does { PutsInCopy result (datum entry.key) (datum entry.val) (record { code = copy.old.code; storage = None })
-        (copied copy.new) }
+    ensures does { PutsInCopy result (datum entry.key) (datum entry.val) (copied copy.old) (copied copy.new) }
     ensures made { IsMadeIfOk result }
     ensures held { IsHeld copy.new.storage }
     ensures key { IfErr result IsKeySpelled }
 {
-    match put_in(copy.code, Entries::from_vec(Vec::new(alloc)), entry) {
-        Ok(entries) => {
-            copy.storage = Some(entries);
-            Ok(Answer::void())
-        }
-        Err(Unput::TooLarge(_)) => Err(TOO_LARGE),
-        Err(Unput::NoMemory) => Err(HostErr::NoMemory),
-    }
-}
-
-/// Puts an entry into the entries that were taken from a copy.
-fn put_more(copy: &mut InstanceCopy, entries: Entries, entry: Entry) -> Result<Answer, HostErr>
-    requires hosted { IsHosted (map (members_of entries)) }
-    requires null { copy.old.storage ≡ None }
-    requires key { IsMade (datum entry.key) }
-    requires val { IsMade (datum entry.val) }
-    ensures does { PutsInCopy result (datum entry.key) (datum entry.val) (record { code = copy.old.code; storage = Some entries })
-        (copied copy.new) }
-    ensures made { IsMadeIfOk result }
-    ensures held { IsHeld copy.new.storage }
-    ensures key { IfErr result IsKeySpelled }
-{
-    match put_in(copy.code, entries, entry) {
-        Ok(entries) => {
-            copy.storage = Some(entries);
-            Ok(Answer::void())
-        }
-        Err(Unput::TooLarge(entries)) => {
-            copy.storage = Some(entries);
-            Err(TOO_LARGE)
-        }
+    match copy.storage.put(alloc, copy.code, entry) {
+        Ok(()) => Ok(Answer::void()),
+        Err(Unput::TooLarge) => Err(TOO_LARGE),
         Err(Unput::NoMemory) => Err(HostErr::NoMemory),
     }
 }
@@ -141,20 +91,14 @@ pub(crate) fn put_in_copy(
     ensures key { IfErr result IsKeySpelled }
 {
     let entry = entry_of(key, val)?;
-    match copy.storage.take() {
-        None => put_first(copy, alloc, entry),
-        Some(entries) => put_more(copy, entries, entry),
-    }
+    put_entry(copy, alloc, entry)
 }
 
 /// Deletes a key's entry from instance storage. It takes no memory.
-#[tactic(auto, using(crate::proofs::Holding::without_held))]
 pub(crate) fn del_in_copy(copy: &mut InstanceCopy, key: &ScVal)
     requires { IsHeld copy.old.storage }
     ensures does { copied copy.new ≡ record { code = copy.old.code; storage = storage_without (datum key.now) copy.old.storage } }
     ensures held { IsHeld copy.new.storage }
 {
-    if let Some(entries) = copy.storage.take() {
-        copy.storage = Some(delete_in(entries, key));
-    }
+    copy.storage.delete(key);
 }

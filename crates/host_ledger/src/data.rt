@@ -1,102 +1,30 @@
 //! Module l: contract data.
 
-ghost use Rattle.std.specs.Prelude.{◌≡◌, [], ◌∷◌, IfOk, IfErr};
-ghost use Rattle.value_types.specs.Views.{datum};
-ghost use Rattle.ledger_types.specs.Key.{key_format};
-ghost use Rattle.ledger_types.specs.Entry.{entry_format};
-ghost use Rattle.ledger_spec.specs.LedgerMap.{HasCodeHash};
+ghost use Rattle.std.specs.Prelude.{◌≡◌, [], ◌∷◌, IfErr};
 ghost use Rattle.host_interface.specs.declared.kinds.ArgKind.TheVariants as kinds;
-ghost use Rattle.host_spec.specs.Hosted.{IsHosted};
-ghost use Rattle.host_spec.specs.declared.error.ValueErr.TheVariants as errs;
 ghost use Rattle.contract_storage.specs.Stored.{IsRead, IsLater};
-ghost use Rattle.call_spec.specs.World.{Write, Copied, World, Env, made_seq as made_in};
-ghost use Rattle.call_spec.specs.Acts.{with_frame};
-ghost use Rattle.call_spec.specs.Outcomes.{Says};
-ghost use Rattle.host_ledger.specs.Traced.{leaving};
-ghost use Rattle.call_spec.specs.Keys.{data_key as data_key_at, data_entry as data_entry_at};
-ghost use Rattle.call_spec.specs.Accesses.{access, puts};
-ghost use Rattle.call_spec.specs.Rules.{nothing};
+ghost use Rattle.call_spec.specs.World.{Copied};
 ghost use Rattle.call_spec.specs.Storage.{put_contract_data, del_contract_data, has_contract_data, get_contract_data};
-ghost use Rattle.call_spec.specs.Storage.{extend_contract_data_ttl, unless_backward, extending, deletes};
-ghost use Rattle.value_types.specs.Address.{address_format};
-ghost use Rattle.host_frame.specs.Answered.{answer_of};
-ghost use Rattle.host_ledger.specs.Worlds.{IsReady, IsHeld, Serves, copied};
-ghost use Rattle.host_ledger.specs.Answered.{Answers, IsMadeIfOk};
+ghost use Rattle.call_spec.specs.Storage.{extend_contract_data_ttl};
+ghost use Rattle.host_ledger.specs.Worlds.{IsReady, IsHeld, copied};
+ghost use Rattle.host_ledger.specs.Answered.{Answers};
+ghost use Rattle.host_acts.specs.Answered.{IsMadeIfOk};
 ghost use Rattle.host_ledger.specs.Accessed.{Runs};
-ghost use Rattle.host_ledger.specs.Spelled.{IsKeySpelled};
+ghost use Rattle.host_acts.specs.Spelled.{IsKeySpelled};
 
-use crate::accesses::{del, extend, get, has, is_backward, put};
 use crate::context::made_seq;
 use crate::copies::{del_in_copy, get_in_copy, in_copy, put_in_copy};
-use crate::errors::{INVALID_EXTENSION, INVALID_STORAGE_INPUT};
-use crate::place::{Place, place_of};
+use crate::errors::INVALID_EXTENSION;
 use crate::state::{HostLedger, InstanceCopy};
-use crate::values::clone_value;
 use budget_meter::Budget;
 use contract_storage::{Storage, Watch};
 use entry_lookup::Ground;
+use host_acts::{
+    StorageType, data_key, del_entry, extend_entry, get, has, put_entry, storage_type,
+};
 use host_frame::{Answer, Values, enter};
-use host_spec::{HostErr, ValueErr};
-use ledger_types::{ContractDataEntry, Durability, LedgerEntry, LedgerEntryData, LedgerKey};
-use value_types::{Hash, ScAddress, ScVal};
-
-/// The entry of a contract's data.
-#[tactic(auto, using(crate::proofs::Keys::same_scval, crate::proofs::Keys::data_entry_fits))]
-fn data_entry(
-    n: u32,
-    contract: Hash,
-    key: &ScVal,
-    durability: Durability,
-    val: &ScVal,
-) -> Result<LedgerEntry, ValueErr>
-    requires key { IsHosted (datum key.now) }
-    requires val { IsHosted (datum val.now) }
-    ensures entry { IfOk result (λ e. e ≡ data_entry_at n contract (datum key.now) durability (datum val.now)) }
-    ensures fits { IfOk result (λ e. entry_format.fits e) }
-    ensures hashed { IfOk result (λ e. HasCodeHash e.data) }
-    ensures memory { IfErr result (λ e. e ≡ errs.NoMemory) }
-{
-    hold_contract(contract);
-    let key = clone_value(key)?;
-    let val = clone_value(val)?;
-    Ok(LedgerEntry {
-        last_modified_ledger_seq: n,
-        data: LedgerEntryData::ContractData(ContractDataEntry {
-            contract: ScAddress::Contract(contract),
-            key,
-            durability,
-            val,
-        }),
-    })
-}
-
-/// Puts the entry of a contract's data.
-fn put_entry<G: Ground, W: Watch>(
-    storage: &mut Storage<'_, G, W>,
-    budget: &mut Budget,
-    n: u32,
-    contract: Hash,
-    key: &ScVal,
-    durability: Durability,
-    val: &ScVal,
-) -> Result<Answer, HostErr>
-    requires key { IsHosted (datum key.now) }
-    requires val { IsHosted (datum val.now) }
-    requires number { storage.old.n ≡ n }
-    ensures does { (env : Env) → Serves env storage.old → (w : World) → w.entries ≡ storage.old.map → w.meter ≡ budget.old
-        → w.frame.contract ≡ contract
-        → Says result answer_of (with_frame (λ frame. access env Write (data_key_at frame.contract (datum key.now) durability)
-        (puts env (data_entry_at (made_in env) frame.contract (datum key.now) durability (datum val.now)) nothing)) w)
-        (leaving storage.old storage.new w.trace
-        (λ trace. record w { entries = storage.new.map; trace = trace; meter = budget.new })) }
-    ensures made { IsMadeIfOk result }
-    ensures later { IsLater storage.old storage.new }
-    ensures key { IfErr result IsKeySpelled }
-{
-    let named = data_key(contract, key, durability)?;
-    let entry = data_entry(n, contract, key, durability, val)?;
-    put(storage, budget, named, entry)
-}
+use host_spec::HostErr;
+use value_types::Hash;
 
 /// The body of `put_contract_data`.
 fn put_data<G: Ground, W: Watch>(
@@ -122,9 +50,9 @@ fn put_data<G: Ground, W: Watch>(
     let key = values.value(a)?;
     let val = values.value(b)?;
     enter(budget, &[a, b])?;
-    match place_of(c)? {
-        Place::Copy => put_in_copy(copy, values.allocator(), key.get(), val.get()),
-        Place::Ledger(durability) => {
+    match storage_type(c)? {
+        StorageType::Instance => put_in_copy(copy, values.allocator(), key.get(), val.get()),
+        StorageType::Ledger(durability) => {
             put_entry(
                 storage,
                 budget,
@@ -164,51 +92,6 @@ pub fn put_contract_data<G: Ground, W: Watch>(
     )
 }
 
-/// Deletes the entry of a contract's data.
-fn del_entry<G: Ground, W: Watch>(
-    storage: &mut Storage<'_, G, W>,
-    contract: Hash,
-    key: &ScVal,
-    durability: Durability,
-) -> Result<Answer, HostErr>
-    requires { IsHosted (datum key.now) }
-    ensures does { (env : Env) → Serves env storage.old → (w : World) → w.entries ≡ storage.old.map → w.frame.contract ≡ contract
-        → Says result answer_of (with_frame
-        (λ frame. access env Write (data_key_at frame.contract (datum key.now) durability) deletes) w)
-        (leaving storage.old storage.new w.trace (λ trace. record w { entries = storage.new.map; trace = trace })) }
-    ensures made { IsMadeIfOk result }
-    ensures later { IsLater storage.old storage.new }
-    ensures key { IfErr result IsKeySpelled }
-{
-    let key = data_key(contract, key, durability)?;
-    del(storage, key)
-}
-
-/// Says that the address of a contract has a spelling.
-#[tactic(auto, unfolding(value_types::specs::Address::address_format, value_types::specs::Hash::hash_format))]
-pub(crate) fn hold_contract(contract: Hash)
-    ensures { address_format.fits (ScAddress.Contract contract) }
-{
-    let _ = contract;
-}
-
-/// The key of a contract's data.
-#[tactic(auto, using(crate::proofs::Keys::same_scval, crate::proofs::Keys::data_key_fits))]
-fn data_key(contract: Hash, key: &ScVal, durability: Durability) -> Result<LedgerKey, ValueErr>
-    requires { IsHosted (datum key.now) }
-    ensures key { IfOk result (λ k. k ≡ data_key_at contract (datum key.now) durability) }
-    ensures fits { IfOk result (λ k. key_format.fits k) }
-    ensures memory { IfErr result (λ e. e ≡ errs.NoMemory) }
-{
-    hold_contract(contract);
-    let key = key.clone()?;
-    Ok(LedgerKey::ContractData {
-        contract: ScAddress::Contract(contract),
-        key,
-        durability,
-    })
-}
-
 /// The body of `has_contract_data`.
 fn has_data<G: Ground, W: Watch>(
     storage: &mut Storage<'_, G, W>,
@@ -228,9 +111,9 @@ fn has_data<G: Ground, W: Watch>(
 {
     let key = values.value(a)?;
     enter(budget, &[a])?;
-    match place_of(b)? {
-        Place::Copy => Ok(Answer::boolean(in_copy(copy, key.get()).is_some())),
-        Place::Ledger(durability) => {
+    match storage_type(b)? {
+        StorageType::Instance => Ok(Answer::boolean(in_copy(copy, key.get()).is_some())),
+        StorageType::Ledger(durability) => {
             let key = data_key(contract, key.get(), durability)?;
             has(storage, key)
         }
@@ -259,31 +142,6 @@ pub fn has_contract_data<G: Ground, W: Watch>(
     )
 }
 
-/// Extends the life of the entry of a contract's data.
-fn extend_entry<G: Ground, W: Watch>(
-    storage: &mut Storage<'_, G, W>,
-    contract: Hash,
-    key: &ScVal,
-    durability: Durability,
-    threshold: u32,
-    extend_to: u32,
-) -> Result<Answer, HostErr>
-    requires { IsHosted (datum key.now) }
-    ensures does { (env : Env) → Serves env storage.old → (w : World) → w.entries ≡ storage.old.map → w.frame.contract ≡ contract
-        → Says result answer_of (unless_backward threshold extend_to
-        (with_frame (λ frame. extending env (data_key_at frame.contract (datum key.now) durability) threshold extend_to)) w)
-        (leaving storage.old storage.new w.trace (λ trace. record w { entries = storage.new.map; trace = trace })) }
-    ensures made { IsMadeIfOk result }
-    ensures later { IsLater storage.old storage.new }
-    ensures key { IfErr result IsKeySpelled }
-{
-    if is_backward(threshold, extend_to) {
-        return Err(INVALID_STORAGE_INPUT);
-    }
-    let key = data_key(contract, key, durability)?;
-    extend(storage, key, threshold, extend_to)
-}
-
 /// The body of `extend_contract_data_ttl`.
 fn extend_data<G: Ground, W: Watch>(
     storage: &mut Storage<'_, G, W>,
@@ -306,9 +164,9 @@ fn extend_data<G: Ground, W: Watch>(
     let threshold = values.number32(c)?;
     let extend_to = values.number32(d)?;
     enter(budget, &[a, c, d])?;
-    match place_of(b)? {
-        Place::Copy => Err(INVALID_EXTENSION),
-        Place::Ledger(durability) => {
+    match storage_type(b)? {
+        StorageType::Instance => Err(INVALID_EXTENSION),
+        StorageType::Ledger(durability) => {
             extend_entry(
                 storage,
                 contract,
@@ -366,9 +224,9 @@ fn get_data<G: Ground, W: Watch>(
 {
     let key = values.value(a)?;
     enter(budget, &[a])?;
-    match place_of(b)? {
-        Place::Copy => get_in_copy(copy, key.get()),
-        Place::Ledger(durability) => {
+    match storage_type(b)? {
+        StorageType::Instance => get_in_copy(copy, key.get()),
+        StorageType::Ledger(durability) => {
             let key = data_key(contract, key.get(), durability)?;
             get(storage, budget, key)
         }
@@ -417,12 +275,12 @@ fn del_data<G: Ground, W: Watch>(
 {
     let key = values.value(a)?;
     enter(budget, &[a])?;
-    match place_of(b)? {
-        Place::Copy => {
+    match storage_type(b)? {
+        StorageType::Instance => {
             del_in_copy(copy, key.get());
             Ok(Answer::void())
         }
-        Place::Ledger(durability) => del_entry(storage, contract, key.get(), durability),
+        StorageType::Ledger(durability) => del_entry(storage, contract, key.get(), durability),
     }
 }
 

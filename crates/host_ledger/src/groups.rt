@@ -3,7 +3,7 @@
 ghost use Rattle.std.specs.Prelude.{◌≡◌, [], ◌∷◌, IfErr};
 ghost use Rattle.host_ledger.specs.Worlds.{IsReady};
 ghost use Rattle.host_ledger.specs.Rows.{AnswersRow, group_of};
-ghost use Rattle.host_ledger.specs.Spelled.{IsKeySpelled};
+ghost use Rattle.host_acts.specs.Spelled.{IsKeySpelled};
 
 use crate::context::{
     fail_with_error, get_current_contract_address, get_ledger_network_id, get_ledger_sequence,

@@ -5,10 +5,7 @@
 //! `HostLedger` has what a transaction's run changes: storage, events, budget and values, and the running frame. `world_at` shows
 //! it as a world of call_spec. What the state does not hold is left open and quantified: the accesses so far, the authorisations
 //! that were used, the open contracts, and the frame's other fields (its function and arguments, path and linear memory). `IsEnv`
-//! says which environments fit the state: those with its header, whose judge allows what the storage allows. So a row holds over
-//! each ground, for each footprint, and if the storage records. A clause says what an act leaves: `leaving` (specs/Traced) if the
-//! act may access the ledger, else `quiet` of call_spec. By `leaving`, a storage that has recorded the accesses before the act
-//! has recorded those after it. `proofs/Tracing` leads from one act to the next.
+//! says which environments fit the state: those with its header that its storage serves (`Serves` of host_acts).
 //!
 //! How a row is written
 //!
@@ -20,20 +17,13 @@
 //! 3. Any other row lends parts of the state to a body, as its last act. The body takes `Values`, so its `?`s and the drops of
 //!    its values do not touch the state. Its clause is `Runs`: the same over every world with these parts. The row's answer is
 //!    the lemma `proofs/Rows/row`.
-//! 4. A body resolves the arguments from left to right, enters, and branches as the rule does (`place_of`). Each branch ends in a
-//!    call whose clause has the branch's act of call_spec, word for word (`extend_entry`). Then the body proves itself, or by a
-//!    lemma of `proofs/Stepping`.
-//! 5. An access of the ledger is a call of `accesses`. Its clause is `Accesses`, or `Pays` if it charges. The lemmas are those of
-//!    `proofs/Linking` and `proofs/Putting`: what a call of the storage returns is how the access of call_spec ends, and what it
-//!    notes is that access.
-//! 6. A charge that comes before a write may be made after it: a run that the charge ends shows nothing but its budget.
-//! 7. Two acts in a row are two calls and a `match` on the first result: `proofs/Composing` has the lemmas (`extend_both`).
+//! 4. A body resolves the arguments from left to right, enters, and branches as the rule does (`storage_type`). Each branch ends
+//!    in a call whose clause has the branch's act of call_spec, word for word (`extend_entry`). Most of these calls are acts of
+//!    host_acts. Then the body proves itself, or by a lemma of `proofs/Stepping`.
 //!
 //! Instance storage
 //!
-//! The entries of the frame's copy rise strictly by their keys, so `index_of` of host_frame finds a key by halving. A put changes
-//! the entries in place, then tests the whole instance against the limits of values, and undoes the change if the instance
-//! exceeds them (`puts`). So a put is linear in the size of the instance.
+//! The frame has a copy of its contract's instance. `copies` reads it and changes it (`InstanceStorage` of instance_storage).
 //!
 //! Calls
 //!
@@ -42,24 +32,18 @@
 //! is ready for the next one.
 #![tactic(auto)]
 
-mod accesses;
 mod call;
 mod context;
 mod copies;
 mod data;
 mod errors;
-mod event_list;
 mod events;
 mod groups;
 mod ids;
 mod instance;
-mod place;
-mod puts;
 mod state;
 mod updates;
-mod values;
 
-pub use accesses::{end_of, size_of};
 pub use call::{call_function, ledger_call};
 pub use context::{
     fail_with_error, get_current_contract_address, get_ledger_network_id, get_ledger_sequence,
@@ -69,11 +53,10 @@ pub use data::{
     del_contract_data, extend_contract_data_ttl, get_contract_data, has_contract_data,
     put_contract_data,
 };
-pub use errors::NO_ENTRY;
-pub use event_list::Events;
 pub use events::contract_event;
+pub use host_acts::{Events, clone_values, code_key, end_of, instance_key, size_of};
 pub use ids::get_contract_id;
-pub use instance::{code_key, extend_current_contract_instance_and_code_ttl, instance_key};
+pub use instance::extend_current_contract_instance_and_code_ttl;
+pub use instance_storage::InstanceStorage;
 pub use state::{HostLedger, InstanceCopy, Running};
 pub use updates::update_current_contract_wasm;
-pub use values::clone_values;

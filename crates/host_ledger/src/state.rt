@@ -1,20 +1,21 @@
 //! The state in which contracts run.
 
-use crate::event_list::Events;
 use budget_meter::Budget;
 use contract_storage::{Storage, Watch};
 use entry_lookup::Ground;
+use host_acts::Events;
+use instance_storage::InstanceStorage;
 use ledger_types::Header;
 use object_store::{Objects, Shown};
-use value_types::{Entries, Hash};
+use value_types::Hash;
 
 /// What a frame copies of its contract's instance.
 #[derive(Drop)]
 pub struct InstanceCopy {
     /// The hash of the code.
     pub code: Hash,
-    /// Instance storage. `None` is null.
-    pub storage: Option<Entries>,
+    /// Instance storage.
+    pub storage: InstanceStorage,
 }
 
 /// What the running frame has, beside what its WebAssembly instance holds.

@@ -14,13 +14,14 @@ use crate::host::outcomes::push_size;
 use case_text::{CaseErr, push_hex};
 use contract_storage::{Change, NoWatch, Storage};
 use entry_lookup::Ground;
-use host_ledger::{HostLedger, InstanceCopy};
+use host_ledger::{HostLedger, InstanceCopy, InstanceStorage};
 use host_spec::HostErr;
 use invoke_types::ContractEvent;
 use ledger_spec::Kept;
 use ledger_types::{Durability, LedgerKey};
 use std::alloc::Global;
 use std::fmt::Write;
+use std::mem;
 use value_types::{Entries, ScVal};
 use value_xdr::{Xdr, encode, value_to_bytes};
 use xdr_core::NoMemory;
@@ -147,7 +148,8 @@ fn push_copy(
     requires { IsHeld copy.old.storage }
 {
     let code = copy.code.0.as_slice() != prepared.copied_code.as_slice();
-    let storage = storage_bytes(alloc, copy.storage.take())?;
+    let taken = mem::replace(&mut copy.storage, InstanceStorage::null());
+    let storage = storage_bytes(alloc, taken.into_entries())?;
     if code || storage != prepared.copied_storage {
         push_copied(alloc, out, &copy.code.0, &storage)?;
     }

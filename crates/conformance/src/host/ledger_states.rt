@@ -15,7 +15,7 @@ use crate::host::ledger_prepared::PreparedLedger;
 use case_text::CaseErr;
 use contract_storage::{NoWatch, Storage};
 use host_frame::entry;
-use host_ledger::{InstanceCopy, Running};
+use host_ledger::{InstanceCopy, InstanceStorage, Running};
 use ledger_file::Ledger;
 use ledger_types::LedgerKey;
 use object_store::Shown;
@@ -99,7 +99,7 @@ pub fn frame_of(alloc: Global, prepared: &PreparedLedger) -> Result<Running, Cas
         code,
         copy: InstanceCopy {
             code: copied_code,
-            storage,
+            storage: InstanceStorage::new(storage),
         },
         shown: Shown::new(alloc),
     })

@@ -1,4 +1,5 @@
-use Rattle.host_ledger.proofs.Rows.{row, later_read}
+use Rattle.host_acts.proofs.Lemmas.{later_read}
+use Rattle.host_ledger.proofs.Rows.{row}
 use Rattle.host_ledger.proofs.data.has_contract_data.Goals as goal
 
 pub returns-clause-does : goal.returns-clause-does

@@ -1,8 +1,7 @@
 use Rattle.std.proofs.Common.{refl, sym}
 use Rattle.host_ledger.specs.Worlds.{world_at}
 use Rattle.host_frame.specs.Answered.{answer_of}
-use Rattle.host_ledger.proofs.Tracing.{quietly}
-use Rattle.host_ledger.proofs.Rows.{later_same}
+use Rattle.host_acts.proofs.Lemmas.{later_same, quietly}
 use Rattle.host_ledger.proofs.events.append_event.Goals as goal
 
 pub returns-clause-does : goal.returns-clause-does

@@ -3,8 +3,7 @@ use Rattle.std.proofs.lemmas.Grind.{common_steps}
 use Rattle.ledger_types.specs.declared.header.Header.{Header}
 use Rattle.host_ledger.specs.Worlds.{world_at}
 use Rattle.host_frame.specs.Answered.{answer_of}
-use Rattle.host_ledger.proofs.Tracing.{quietly}
-use Rattle.host_ledger.proofs.Rows.{later_same}
+use Rattle.host_acts.proofs.Lemmas.{later_same, quietly}
 use Rattle.host_ledger.proofs.ids.get_contract_id.Goals as goal
 
 pub returns-clause-does : goal.returns-clause-does

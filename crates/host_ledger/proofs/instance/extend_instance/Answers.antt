@@ -1,4 +1,4 @@
-use Rattle.host_ledger.proofs.Living.{lives_run}
+use Rattle.host_ledger.proofs.Stepping.{lives_run}
 use Rattle.host_ledger.proofs.instance.extend_instance.Goals as goal
 
 pub returns-clause-does : goal.returns-clause-does

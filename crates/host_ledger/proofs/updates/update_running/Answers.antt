@@ -1,6 +1,6 @@
 use Rattle.std.proofs.Common.{refl, sym, subst}
 use Rattle.host_ledger.specs.Worlds.{IsHeld, world_at}
-use Rattle.host_ledger.proofs.Rows.{later_read}
+use Rattle.host_acts.proofs.Lemmas.{later_read}
 use Rattle.host_ledger.proofs.updates.update_running.Goals as goal
 
 pub returns-clause-does : goal.returns-clause-does

@@ -1,7 +1,7 @@
 use Rattle.std.proofs.Common.{ap, ◌∙◌}
 use Rattle.ledger_types.specs.declared.key.LedgerKey.{LedgerKey}
 use Rattle.call_spec.specs.Keys.{code_key}
-use Rattle.host_ledger.specs.Accessed.{end_of}
+use Rattle.host_acts.specs.Accessed.{end_of}
 use Rattle.host_ledger.specs.Worlds.{copied}
 use Rattle.host_ledger.proofs.Updating.{update_goes, update_stops}
 use Rattle.host_ledger.proofs.updates.update_to.Goals as goal

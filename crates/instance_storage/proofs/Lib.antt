@@ -1,0 +1,4 @@
+mod Editing
+mod Holding
+mod KeyLaws
+mod Measuring

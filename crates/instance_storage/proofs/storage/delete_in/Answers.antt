@@ -1,0 +1,25 @@
+use Rattle.std.proofs.Common.{◌≡◌, List, Some, sym, subst, ap, ◌∙◌}
+use Rattle.value_types.specs.Views.{datum}
+use Rattle.host_spec.specs.MapRows.{Member}
+use Rattle.host_frame.specs.KeyIndex.{IsGap, IsThere}
+use Rattle.instance_storage.proofs.Holding.{without_held}
+use Rattle.instance_storage.specs.Held.{IsHeld}
+use Rattle.instance_storage.proofs.KeyLaws.{without_gap, without_there}
+use Rattle.instance_storage.proofs.storage.delete_in.Goals as goal
+
+pub returns-in-Ok-clause-deleted : goal.returns-in-Ok-clause-deleted
+returns-in-Ok-clause-deleted c =
+    ap Some (c.remove_at.ensures
+    ∙ sym (without_there (datum c.args.key.now) c.args.entries c.in-Ok.index (subst (λ (ms : List Member). IsThere (datum c.args.key.now) ms c.in-Ok.index) c.as_slice.ensures c.in-Ok.ensures.stands)))
+
+pub returns-in-Err-clause-deleted : goal.returns-in-Err-clause-deleted
+returns-in-Err-clause-deleted c =
+    ap Some (sym (without_gap (datum c.args.key.now) c.args.entries c.in-Err.field-0 c.requires.hosted
+    (subst (λ (ms : List Member). IsGap (datum c.args.key.now) ms c.in-Err.field-0) c.as_slice.ensures c.in-Err.ensures.stands)))
+
+pub returns-in-Ok-clause-held : goal.returns-in-Ok-clause-held
+returns-in-Ok-clause-held c =
+    subst IsHeld
+    (sym (ap Some (c.remove_at.ensures
+    ∙ sym (without_there (datum c.args.key.now) c.args.entries c.in-Ok.index (subst (λ (ms : List Member). IsThere (datum c.args.key.now) ms c.in-Ok.index) c.as_slice.ensures c.in-Ok.ensures.stands)))))
+    (without_held (datum c.args.key.now) c.args.entries c.requires.hosted)
