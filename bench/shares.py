@@ -29,7 +29,7 @@ PARTS = [
         "wasm_run::", "wasm_machine::", "wasm_num::",
         *(f"contract_call::calls::{name}" for name in ("enter", "open", "inside", "run")),
     ]),
-    ("finding the contract and its code", ["contract_call::", "call_parts::"]),
+    ("finding the contract and its code", ["contract_call::", "call_host::", "call_parts::"]),
     ("host functions and their storage", ["host_acts::", "host_ledger::", "host_values::", "host_frame::", "object_store::"]),
     ("hashing", ["sha2::", "tx_xdr::hashing::", "ledger_types::keys::key_hash"]),
     ("writing the report and the ledger", ["ledger_file::writing::", "tx_results::", "soroban_top::outputs::"]),

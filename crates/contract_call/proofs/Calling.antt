@@ -26,18 +26,16 @@ use Rattle.call_parts.specs.Started.{IsStarted, refusal_of}
 use Rattle.host_ledger.specs.Worlds.{address_of, copied}
 use Rattle.host_ledger.specs.declared.state.InstanceCopy.{InstanceCopy}
 use Rattle.host_ledger.specs.declared.state.Running.{Running}
-use Rattle.contract_call.specs.Worlds.{world_around, leaving_by, numbered, IsEnvOf, DoesAround, Stays}
-use Rattle.contract_call.specs.Running.{entered}
-use Rattle.contract_call.specs.Targets.{call_at, target, target_of, enters_at, call_of}
-use Rattle.contract_call.specs.Placed.{IsNewPlace}
-use Rattle.contract_call.specs.declared.host.Host.{Host}
-use Rattle.contract_call.specs.declared.place.Place.{Place}
-use Rattle.contract_call.specs.declared.targets.Target.{Target as Target'}
-use Rattle.contract_call.specs.declared.targets.ContractCall.{ContractCall}
-use Rattle.contract_call.proofs.Joining.{stop, go_on, same_act, fails_as, as_fails, traced, keep_rest}
+use Rattle.call_host.specs.Worlds.{world_around, leaving_by, numbered, IsEnvOf, DoesAround, Stays}
+use Rattle.call_host.specs.Running.{entered}
+use Rattle.call_host.specs.Targets.{call_at, target, target_of, enters_at, call_of}
+use Rattle.call_host.specs.Placed.{IsNewPlace}
+use Rattle.call_host.specs.declared.host.Host.{Host}
+use Rattle.call_host.specs.declared.place.Place.{Place}
+use Rattle.call_host.specs.declared.targets.Target.{Target as Target'}
+use Rattle.call_host.specs.declared.targets.ContractCall.{ContractCall}
+use Rattle.call_host.proofs.Lemmas.{as_fails, calls_first, fails_as, go_on, keep_rest, same_act, stop, telling, traced}
 use Rattle.contract_call.proofs.Looping.{same_authority, place_again}
-use Rattle.contract_call.proofs.Showing.{telling}
-use Rattle.contract_call.proofs.Splitting.{calls_first}
 
 -- ---- acts of the host, one after another
 

@@ -21,17 +21,16 @@ use Rattle.call_spec.specs.HostFunctions.{host_of, opener_of}
 use Rattle.host_ledger.specs.Worlds.{address_of, copied}
 use Rattle.host_ledger.specs.declared.state.InstanceCopy.{InstanceCopy}
 use Rattle.host_ledger.specs.declared.state.Running.{Running}
-use Rattle.contract_call.specs.Worlds.{world_around, IsEnvOf, DoesAround, Stays}
-use Rattle.contract_call.specs.Running.{entered}
+use Rattle.call_host.specs.Worlds.{world_around, IsEnvOf, DoesAround, Stays}
+use Rattle.call_host.specs.Running.{entered}
 use Rattle.contract_call.specs.Made.{identifying, granting, authorising, building, constructing, builds_with, if_void, IsConstructed}
-use Rattle.contract_call.specs.Placed.{IsNewPlace}
-use Rattle.contract_call.specs.declared.host.Host.{Host}
-use Rattle.contract_call.specs.declared.place.Place.{Place}
+use Rattle.call_host.specs.Placed.{IsNewPlace}
+use Rattle.call_host.specs.declared.host.Host.{Host}
+use Rattle.call_host.specs.declared.place.Place.{Place}
 use Rattle.contract_call.proofs.Calling.{env_later, around_on, around_stop, around_same, start_same, opens}
 use Rattle.contract_call.proofs.Constructing.{at_first, authorising_first, void_says}
 use Rattle.host_ledger.proofs.Lemmas.{quietly}
-use Rattle.contract_call.proofs.Joining.{traced}
-use Rattle.contract_call.proofs.Splitting.{joined}
+use Rattle.call_host.proofs.Lemmas.{joined, traced}
 
 -- a call that changes nothing
 pub returns_around : {A B G U V : Type 0} (r : Result A HostErr) (view : A → B) (act : Env → Act B) (old : Host G U V) → ((env : Env) → Returns r view (act env)) → DoesAround r view act old old

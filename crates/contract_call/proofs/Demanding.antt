@@ -34,12 +34,12 @@ use Rattle.auth_parts.specs.declared.asking.Asked.{Asked as Asked'}
 use Rattle.host_ledger.specs.Worlds.{address_of, IsEnv}
 use Rattle.host_ledger.specs.declared.state.HostLedger.{HostLedger}
 use Rattle.contract_call.proofs.Constructing.{does_around}
-use Rattle.contract_call.proofs.Lending.{around}
+use Rattle.call_host.proofs.Lemmas.{around}
 use Rattle.auth_parts.proofs.Lemmas.{entry_asked}
 use Rattle.contract_call.specs.Demanded.{called, requires_here, settled, asks_at, granted, denied_end, if_good, checked}
 use Rattle.contract_call.specs.Made.{granting, IsValued}
-use Rattle.contract_call.specs.Worlds.{leaving_by, world_around, IsEnvOf, DoesAround, DoesIn, Stays}
-use Rattle.contract_call.specs.declared.host.Host.{Host}
+use Rattle.call_host.specs.Worlds.{leaving_by, world_around, IsEnvOf, DoesAround, DoesIn, Stays}
+use Rattle.call_host.specs.declared.host.Host.{Host}
 use Rattle.contract_call.proofs.Calling.{around_on, around_stop, around_same}
 use Rattle.contract_call.proofs.Rowing.{in_around, valued_does}
 

@@ -25,8 +25,8 @@ use Rattle.call_spec.proofs.Lemmas.{Same, done_local, end_to_end_law, unwatched,
 use Rattle.host_ledger.specs.Traced.{kind_of, known_of, IsRecorded, Tells}
 use Rattle.host_ledger.proofs.Lemmas.{retold}
 use Rattle.contract_call.specs.Ended.{IsEnd, EndsBy, Ends, UnlessMemory, EndsRecorded}
-use Rattle.contract_call.specs.Worlds.{world_around, authority_of, leaving_by, DoesAround, MayRun}
-use Rattle.contract_call.specs.declared.host.Host.{Host}
+use Rattle.call_host.specs.Worlds.{world_around, authority_of, leaving_by, DoesAround, MayRun}
+use Rattle.call_host.specs.declared.host.Host.{Host}
 
 -- ---- outcomes that differ
 

@@ -26,17 +26,16 @@ use Rattle.call_spec.specs.HostFunctions.{host_function, host_of, of_row, opener
 use Rattle.call_spec.specs.Outcomes.{Says, trace_of, stopped_kind}
 use Rattle.host_ledger.specs.Traced.{Tells as Tells'}
 use Rattle.host_ledger.proofs.Lemmas.{later_same, retold, serves_later}
-use Rattle.contract_call.specs.Worlds.{authority_of, world_in, ending, leaving_by, IsEnvOf}
+use Rattle.call_host.specs.Worlds.{authority_of, world_in, ending, leaving_by, IsEnvOf}
 use Rattle.contract_storage.proofs.Lemmas.{again}
-use Rattle.contract_call.specs.Worlds.{MayRun}
-use Rattle.contract_call.specs.Running.{DoesOver, StaysIn}
+use Rattle.call_host.specs.Worlds.{MayRun}
+use Rattle.call_host.specs.Running.{DoesOver, StaysIn}
 use Rattle.auth_spec.specs.Authorities.{Authorised, IsLaterState}
 use Rattle.auth_trees.proofs.Lemmas.{later_self, later_twice}
-use Rattle.contract_call.specs.declared.host.Host.{Host}
-use Rattle.contract_call.specs.declared.place.Place.{Place}
-use Rattle.contract_call.specs.Placed.{IsPathFor, HasRoom}
-use Rattle.contract_call.proofs.Joining.{Telling, knowing, keep_memory, says_stopped, traced}
-use Rattle.contract_call.proofs.Showing.{shown_as, telling}
+use Rattle.call_host.specs.declared.host.Host.{Host}
+use Rattle.call_host.specs.declared.place.Place.{Place}
+use Rattle.call_host.specs.Placed.{IsPathFor, HasRoom}
+use Rattle.call_host.proofs.Lemmas.{Telling, keep_memory, knowing, says_stopped, shown_as, telling, traced}
 
 -- the rest with another linear memory
 abbrev pub kept : List ℕ → World → World

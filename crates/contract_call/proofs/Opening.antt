@@ -27,12 +27,11 @@ use Rattle.host_ledger.specs.Worlds.{copied}
 use Rattle.host_ledger.specs.declared.state.InstanceCopy.{InstanceCopy}
 use Rattle.host_ledger.specs.declared.state.Running.{Running}
 use Rattle.host_ledger.proofs.Lemmas.{as_storages, later_same}
-use Rattle.contract_call.specs.Worlds.{contracts_of, placed, world_in, world_around, ending, IsOpened, IsClosed, IsEnvOf, DoesAround, Stays}
-use Rattle.contract_call.specs.Running.{entered, IsNewFrame, Starts, StaysIn, DoesFrom}
-use Rattle.contract_call.specs.declared.host.Host.{Host}
-use Rattle.contract_call.specs.declared.place.Place.{Place}
-use Rattle.contract_call.proofs.Joining.{Telling, knowing, same_act, keep_rest}
-use Rattle.contract_call.proofs.Showing.{telling}
+use Rattle.call_host.specs.Worlds.{contracts_of, placed, world_in, world_around, ending, IsOpened, IsClosed, IsEnvOf, DoesAround, Stays}
+use Rattle.call_host.specs.Running.{entered, IsNewFrame, Starts, StaysIn, DoesFrom}
+use Rattle.call_host.specs.declared.host.Host.{Host}
+use Rattle.call_host.specs.declared.place.Place.{Place}
+use Rattle.call_host.proofs.Lemmas.{Telling, keep_rest, knowing, same_act, telling}
 
 -- ---- the start of the code
 

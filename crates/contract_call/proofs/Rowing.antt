@@ -27,15 +27,14 @@ use Rattle.call_spec.specs.Rules.{returning}
 use Rattle.host_ledger.specs.Traced.{leaving}
 use Rattle.host_ledger.specs.Worlds.{address_of, copied, IsHeld}
 use Rattle.host_ledger.specs.declared.state.Running.{Running}
-use Rattle.contract_call.specs.Worlds.{leaving_by, contracts_of, placed, world_in, world_around, with_memory, DoesAround, DoesIn, Stays, MayRun}
-use Rattle.contract_call.specs.Running.{StaysIn, DoesOver}
+use Rattle.call_host.specs.Worlds.{leaving_by, contracts_of, placed, world_in, world_around, with_memory, DoesAround, DoesIn, Stays, MayRun}
+use Rattle.call_host.specs.Running.{StaysIn, DoesOver}
 use Rattle.contract_call.specs.Made.{IsValued}
-use Rattle.contract_call.specs.Taken.{TakesIn}
-use Rattle.contract_call.specs.declared.host.Host.{Host}
-use Rattle.contract_call.proofs.Joining.{stop, go_on, same_act, fails_as, as_fails, keep_rest}
+use Rattle.call_host.specs.Taken.{TakesIn}
+use Rattle.call_host.specs.declared.host.Host.{Host}
+use Rattle.call_host.proofs.Lemmas.{as_fails, fails_as, go_on, keep_rest, same_act, shown_as, stop, telling}
 use Rattle.contract_storage.proofs.Lemmas.{again}
 use Rattle.contract_call.proofs.Looping.{env_in, place_again}
-use Rattle.contract_call.proofs.Showing.{shown_as, telling}
 
 -- an act around the running frame, in it
 pub in_around : {A B G U V : Type 0} (r : Result A HostErr) (view : A → B) (act : Env → Act B) (old new : Host G U V) → Stays old new → DoesAround r view act old new → DoesIn r view act old new

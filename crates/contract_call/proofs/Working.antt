@@ -14,16 +14,14 @@ use Rattle.call_spec.specs.HostFunctions.{MOST_FRAMES, opener_of}
 use Rattle.call_spec.specs.WholeRuns.{Work, does, done_under}
 use Rattle.call_parts.specs.Steps.{Steps}
 use Rattle.host_ledger.specs.declared.state.HostLedger.{HostLedger}
-use Rattle.contract_call.specs.Placed.{HasRoom}
-use Rattle.contract_call.specs.Undone.{opened, IsMark}
-use Rattle.contract_call.specs.Worlds.{world_around, DoesAround, Stays}
-use Rattle.contract_call.specs.declared.host.Host.{Host}
-use Rattle.contract_call.specs.declared.undo.Mark.{Mark}
+use Rattle.call_host.specs.Placed.{HasRoom}
+use Rattle.call_host.specs.Undone.{opened, IsMark}
+use Rattle.call_host.specs.Worlds.{world_around, DoesAround, Stays}
+use Rattle.call_host.specs.declared.host.Host.{Host}
+use Rattle.call_host.specs.declared.undo.Mark.{Mark}
 use Rattle.host_ledger.specs.Traced.{Tells}
-use Rattle.contract_call.proofs.Joining.{go_on, keep_rest}
-use Rattle.contract_call.proofs.Showing.{shown_as, telling}
+use Rattle.call_host.proofs.Lemmas.{does_opened, go_on, keep_rest, shown_as, stays_opened, telling}
 use Rattle.contract_call.proofs.Calling.{around_stop}
-use Rattle.contract_call.proofs.Undoing.{does_opened, stays_opened}
 
 -- ---- values
 

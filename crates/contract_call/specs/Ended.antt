@@ -12,8 +12,8 @@ use Rattle.call_spec.specs.Footprints.{by_footprint, first_rejected}
 use Rattle.call_spec.specs.Laws.{Agree, Maps}
 use Rattle.call_spec.specs.WholeRuns.{Work, all_allowed, done_under}
 use Rattle.host_ledger.specs.Traced.{IsRecorded}
-use Rattle.contract_call.specs.Worlds.{world_around, authority_of}
-use Rattle.contract_call.specs.declared.host.Host.{Host}
+use Rattle.call_host.specs.Worlds.{world_around, authority_of}
+use Rattle.call_host.specs.declared.host.Host.{Host}
 
 -- this, unless memory ran out
 abbrev pub UnlessMemory : {A : Type 0} → Result A HostErr → Type 0 → Type 0

@@ -25,15 +25,15 @@ ghost use Rattle.call_spec.specs.HostFunctions.{host_of, host_function, opener_o
 ghost use Rattle.host_ledger.specs.Worlds.{address_of, IsHeld, copied};
 ghost use Rattle.host_ledger.specs.Spelled.{IsKeySpelled};
 ghost use Rattle.std.specs.Option.{option_map};
-ghost use Rattle.contract_call.specs.Worlds.{DoesAround, DoesIn, RunsIn, Stays, MayRun};
-ghost use Rattle.contract_call.specs.Creations.{creation_of, AreArgsHosted};
+ghost use Rattle.call_host.specs.Worlds.{DoesAround, DoesIn, RunsIn, Stays, MayRun};
+ghost use Rattle.call_host.specs.Creations.{creation_of, AreArgsHosted};
 ghost use Rattle.auth_parts.specs.Asked.{by_contract, asks_then};
 ghost use Rattle.contract_call.specs.Demanded.{settled, requires_here};
 ghost use Rattle.contract_call.specs.Made.{authorising, builds_with, constructing};
-ghost use Rattle.contract_call.specs.Placed.{IsNewPlace, IsPathFor, IsPathBelow, HasRoom};
-ghost use Rattle.contract_call.specs.Taken.{creates_here};
-ghost use Rattle.contract_call.specs.Targets.{may_name as may_name_in, call_of, call_at, target, enters_at};
-ghost use Rattle.contract_call.specs.Running.{entered, IsNewFrame, Starts, StaysIn, DoesFrom, DoesOver};
+ghost use Rattle.call_host.specs.Placed.{IsNewPlace, IsPathFor, IsPathBelow, HasRoom};
+ghost use Rattle.call_host.specs.Taken.{creates_here};
+ghost use Rattle.call_host.specs.Targets.{may_name as may_name_in, call_of, call_at, target, enters_at};
+ghost use Rattle.call_host.specs.Running.{entered, IsNewFrame, Starts, StaysIn, DoesFrom, DoesOver};
 
 use crate::creating::{
     addressed, constructed, constructor_place, create_function, given_args, has_constructor, made,
@@ -43,21 +43,15 @@ use crate::demands::{
     ask_entry, authorised, call_with, checked, contract_address, granted, own_call,
 };
 use crate::errors::{DENIED, TOO_MANY_FRAMES};
-use crate::host::Host;
-use crate::parts::{Part, part_of};
-use crate::place::{Place, new_place};
-use crate::rows::{ledger_answer, shown, upload_row, value_answer};
-use crate::running::{begin, end, running};
-use crate::targets::{ContractCall, Target, find_target, may_name};
-use crate::telling::{tell_called, tell_demanded, tell_returned};
-use crate::undo::caught;
-use crate::words::{
-    AuthArgs, CallArgs, auth_for_args_words, auth_words, call_words, construct_words, create_words,
-};
-use crate::works::NewContract;
 use auth_parts::Asked;
 use auth_spec::Demand;
 use auth_trees::Authority;
+use call_host::{
+    AuthArgs, CallArgs, ContractCall, Host, NewContract, Part, Place, Target, auth_for_args_words,
+    auth_words, begin, call_words, caught, construct_words, create_words, end, find_target,
+    ledger_answer, may_name, new_frame, new_place, part_of, shown, tell_called, tell_demanded,
+    tell_returned, upload_row, value_answer,
+};
 use call_parts::{clone_copy, start_instance};
 use contract_storage::Watch;
 use entry_lookup::Ground;
@@ -169,7 +163,7 @@ fn call_target<G: Ground, A: Authority, W: Watch>(
     } = found;
     match new_place(alloc, call.function, call.args.as_slice(), path) {
         Ok(place) => {
-            let frame = running(alloc, contract, call.caller, copy);
+            let frame = new_frame(alloc, contract, call.caller, copy);
             enter(host, room, frame, place, module.linked(), call.args)
         }
         Err(error) => Err(error),
@@ -659,7 +653,7 @@ fn construct<G: Ground, A: Authority, W: Watch>(
         code: contract.code,
         storage: InstanceStorage::null(),
     };
-    let frame = running(host.allocator(), id, creator, copy);
+    let frame = new_frame(host.allocator(), id, creator, copy);
     match constructor_place(host.allocator(), args.as_slice(), path) {
         Ok(place) => {
             let returned = enter(host, room - 1, frame, place, module, args);

@@ -16,14 +16,13 @@ ghost use Rattle.auth_parts.specs.Asked.{asks_first};
 ghost use Rattle.auth_parts.specs.Views.{asked, IsAskedHosted};
 ghost use Rattle.contract_call.specs.Made.{IsValued};
 ghost use Rattle.contract_call.specs.Demanded.{called, asks_at, granted as granted_to, checked as checked_by};
-ghost use Rattle.contract_call.specs.Worlds.{DoesAround, MayRun, Stays};
+ghost use Rattle.call_host.specs.Worlds.{DoesAround, MayRun, Stays};
 
 use crate::errors::DENIED;
-use crate::host::Host;
-use crate::place::{clone_args, clone_bytes};
 use auth_parts::{Asked, ask};
 use auth_trees::Authority;
 use auth_types::AuthEntry;
+use call_host::{Host, clone_args, clone_bytes};
 use contract_storage::Watch;
 use entry_lookup::Ground;
 use host_frame::Answer;

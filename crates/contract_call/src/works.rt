@@ -13,16 +13,14 @@ ghost use Rattle.call_parts.specs.Steps.{Steps};
 ghost use Rattle.host_ledger.specs.Worlds.{IsReady};
 ghost use Rattle.host_ledger.specs.Spelled.{IsKeySpelled};
 ghost use Rattle.call_spec.specs.WholeRuns.{calling, uploading, creating, done_under};
-ghost use Rattle.contract_call.specs.Worlds.{DoesAround, MayRun};
-ghost use Rattle.contract_call.specs.Creations.{creation_of, AreArgsHosted};
+ghost use Rattle.call_host.specs.Worlds.{DoesAround, MayRun};
+ghost use Rattle.call_host.specs.Creations.{creation_of, AreArgsHosted};
 ghost use Rattle.contract_call.specs.Ended.{Ends, EndsRecorded};
-ghost use Rattle.contract_call.specs.Placed.{HasRoom};
+ghost use Rattle.call_host.specs.Placed.{HasRoom};
 
 use crate::calls;
-use crate::host::Host;
-use crate::targets::ContractCall;
-use crate::undo::ended;
 use auth_trees::Authority;
+use call_host::{ContractCall, Host, NewContract, ended};
 use contract_storage::Watch;
 use entry_lookup::Ground;
 use host_ledger::HostLedger;
@@ -107,16 +105,6 @@ pub fn upload<G: Ground, A: Authority, W: Watch>(
     let mark = host.mark()?;
     let made = upload_in(&mut host.ledger, code);
     ended(host, mark, made)
-}
-
-/// What makes a contract. Without constructor arguments it is a CREATE_CONTRACT, with them, even with none, a CREATE_CONTRACT_V2.
-#[derive(Drop)]
-pub struct NewContract {
-    pub deployer: ScAddress,
-    /// The hash of its code.
-    pub code: Hash,
-    pub salt: Hash,
-    pub args: Option<Vec<ScVal>>,
 }
 
 /// Makes a contract and calls its constructor, if it has one. Returns the contract's id.

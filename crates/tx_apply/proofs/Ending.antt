@@ -22,7 +22,7 @@ use Rattle.call_spec.specs.WholeRuns.{Work, all_allowed, done_under}
 use Rattle.contract_call.specs.Traced.{known_of, IsRecorded}
 use Rattle.contract_call.specs.Worlds.{authority_of, world_around}
 use Rattle.contract_call.specs.Ended.{IsEnd, EndsBy, Ends, UnlessMemory, EndsRecorded}
-use Rattle.contract_call.specs.declared.host.Host.{Host}
+use Rattle.contract_call.specs.Host.{Host}
 use Rattle.contract_call.specs.Entering.{with_meter, Enters}
 use Rattle.tx_apply.specs.Running.{charging, Charges, EndsCharged, EndsChargedRecorded}
 use Rattle.tx_apply.proofs.Running.{charged_traced}

@@ -21,7 +21,7 @@ use Rattle.call_spec.specs.Entering.{entering}
 use Rattle.call_spec.specs.WholeRuns.{Work, arguments_in, does, meter_of, start_of, all_allowed, run_under, done_under, whole}
 use Rattle.contract_call.specs.Worlds.{authority_of, world_around}
 use Rattle.contract_call.specs.Ended.{IsEnd, UnlessMemory}
-use Rattle.contract_call.specs.declared.host.Host.{Host}
+use Rattle.contract_call.specs.Host.{Host}
 use Rattle.contract_call.specs.Entering.{with_meter, Passes, Stops, Enters}
 use Rattle.apply_spec.specs.Recorded.{footprint_by, no_footprint}
 use Rattle.apply_spec.specs.Simulated.{Needs, needs_of}

@@ -36,7 +36,7 @@ use Rattle.contract_storage.specs.Stored.{Stored}
 use Rattle.auth_spec.specs.Authorities.{Authorised}
 use Rattle.contract_call.specs.Worlds.{authority_of, world_around}
 use Rattle.contract_call.specs.Ended.{IsEnd, EndsBy}
-use Rattle.contract_call.specs.declared.host.Host.{Host}
+use Rattle.contract_call.specs.Host.{Host}
 use Rattle.contract_call.specs.Entering.{with_meter, Passes, Stops, Enters}
 use Rattle.tx_apply.specs.Running.{charging, EndsCharged, entered_run, result_of, outcome_with}
 

@@ -32,7 +32,7 @@ use Rattle.call_spec.specs.WholeRuns.{Work, arguments_in, does, meter_of, start_
 use Rattle.contract_call.specs.Traced.{kind_of, known_of, IsTold}
 use Rattle.contract_call.specs.Ended.{UnlessMemory}
 use Rattle.contract_call.specs.Worlds.{DoesAround, IsEnvOf, MayRun, authority_of, leaving_by, world_around}
-use Rattle.contract_call.specs.declared.host.Host.{Host}
+use Rattle.contract_call.specs.Host.{Host}
 use Rattle.contract_call.specs.Entering.{with_meter, Passes, Stops, Enters}
 use Rattle.tx_apply.specs.Running.{charging}
 use Rattle.tx_apply.specs.Watching.{seen_of, HasSeen, run_accesses, entered_accesses, Told}

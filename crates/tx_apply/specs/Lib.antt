@@ -14,5 +14,5 @@ pub use Rattle.contract_call.specs.Entering
 pub use Rattle.contract_call.specs.Traced
 pub use Rattle.contract_call.specs.Ended
 pub use Rattle.contract_call.specs.Worlds
-pub use Rattle.contract_call.specs.declared.host.Host
+pub use Rattle.contract_call.specs.Host
 pub use Rattle.contract_call.specs.Placed

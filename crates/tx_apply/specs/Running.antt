@@ -29,7 +29,7 @@ use Rattle.call_spec.specs.Invoked.{Invoked, written_bytes, unsuccessful}
 use Rattle.contract_call.specs.Traced.{IsRecorded}
 use Rattle.contract_call.specs.Worlds.{authority_of, world_around}
 use Rattle.contract_call.specs.Ended.{IsEnd, EndsBy, UnlessMemory}
-use Rattle.contract_call.specs.declared.host.Host.{Host}
+use Rattle.contract_call.specs.Host.{Host}
 use Rattle.contract_call.specs.Entering.{with_meter, Passes, Stops}
 
 -- the charge for a value that is returned

@@ -27,7 +27,7 @@ use Rattle.contract_call.specs.Entering.{with_meter}
 use Rattle.contract_call.specs.Traced.{kind_of, IsTold}
 use Rattle.contract_call.specs.Worlds.{IsEnvOf, world_around}
 use Rattle.contract_call.specs.Ended.{UnlessMemory}
-use Rattle.contract_call.specs.declared.host.Host.{Host}
+use Rattle.contract_call.specs.Host.{Host}
 
 -- ---- observers
 

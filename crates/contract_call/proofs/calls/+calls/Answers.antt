@@ -5,16 +5,16 @@ use Rattle.host_spec.specs.declared.error.HostErr.{HostErr}
 use Rattle.wasm_run.specs.Suspended.{Suspended, Does, IsFresh}
 use Rattle.wasm_run.specs.declared.instance.Event.TheVariants as event
 use Rattle.wasm_spec.specs.declared.module.Module.{Module}
-use Rattle.contract_call.specs.Worlds.{DoesIn, DoesAround, Stays}
+use Rattle.call_host.specs.Worlds.{DoesIn, DoesAround, Stays}
 use Rattle.call_parts.specs.Started.{IsStarted}
 use Rattle.contract_call.proofs.Looping.{Told, follows_first, run_answered, run_done, run_trapped, run_spent, run_refused, stays_same, stays_twice, may_pay, env_in, refilled, still_room}
 use Rattle.value_types.specs.Views.{datum, datums}
 use Rattle.call_spec.specs.Frames.{framed}
 use Rattle.call_spec.specs.HostFunctions.{host_of, opener_of}
 use Rattle.wasm_spec.specs.Instances.{Ready, start_of}
-use Rattle.contract_call.specs.Running.{entered}
+use Rattle.call_host.specs.Running.{entered}
 use Rattle.contract_call.proofs.Calling.{env_later, around_begins, numbered_stays, stays_then, call_enters, target_enters, call_refused, start_ready, start_refused}
-use Rattle.contract_call.specs.Targets.{may_name, call_of, call_at}
+use Rattle.call_host.specs.Targets.{may_name, call_of, call_at}
 use Rattle.contract_call.specs.Demanded.{settled}
 use Rattle.contract_call.specs.Made.{authorising, constructing}
 use Rattle.contract_call.proofs.Between.{told_between}
@@ -25,9 +25,8 @@ use Rattle.std.specs.declared.alloc.Global.{Global}
 use Rattle.wasm_run.specs.declared.instance.CallPhase.TheVariants as phase
 use Rattle.wasm_spec.specs.Meaning.{meaning}
 use Rattle.host_ledger.specs.Worlds.{copied}
-use Rattle.contract_call.specs.Framed.{argument_words}
-use Rattle.contract_call.proofs.Beginning.{words_of}
-use Rattle.contract_call.proofs.Framing.{not_begun, not_run, all_run}
+use Rattle.call_host.specs.Framed.{argument_words}
+use Rattle.call_host.proofs.Lemmas.{all_run, called_opened, not_begun, not_run, stays_opened, words_of}
 use Rattle.contract_call.proofs.Opening.{started_does, closes, framed_does, frame_stays, stays_equal}
 use Rattle.std.specs.Prelude.{List, [], ◌∷◌, ◌++◌}
 use Rattle.host_ledger.specs.declared.state.InstanceCopy.{InstanceCopy}
@@ -46,16 +45,15 @@ use Rattle.call_spec.specs.Creating.{creates, creates_at, create_contract, creat
 use Rattle.call_spec.specs.Demands.{demanded, require_auth, require_auth_for_args}
 use Rattle.call_spec.specs.HostFunctions.{host_function}
 use Rattle.host_ledger.specs.Worlds.{address_of}
-use Rattle.contract_call.specs.Creations.{creation_of}
-use Rattle.contract_call.specs.Parts.{IsPart}
-use Rattle.contract_call.specs.Taken.{creates_here}
+use Rattle.call_host.specs.Creations.{creation_of}
+use Rattle.call_host.specs.Parts.{IsPart}
+use Rattle.call_host.specs.Taken.{creates_here}
 use Rattle.auth_parts.specs.Asked.{asks_then}
 use Rattle.auth_parts.specs.Views.{asked}
-use Rattle.contract_call.specs.Placed.{IsNewPlace}
+use Rattle.call_host.specs.Placed.{IsNewPlace}
 use Rattle.contract_call.proofs.Construction.{creates_does, creates_refused, authorises_does, authorises_not, builds_does, builds_refused, constructs_does}
 use Rattle.contract_call.proofs.Demanding.{demanded_does, marked_stays, proves_does, proves_not, nothing_left, checks_does, grants_does, own_does, given_does, here_does}
 use Rattle.contract_call.proofs.Arity.{event_arity}
-use Rattle.contract_call.proofs.Undoing.{called_opened, stays_opened}
 use Rattle.contract_call.proofs.Rowing.{taken_does, called_by, over_same, row_answers, stays_on, valued_does, in_around}
 use Rattle.contract_call.proofs.calls.+calls.Goals as goal
 
@@ -90,13 +88,13 @@ call_below-returns-in-Ok-clause-does g t c =
 
 pub call_target-returns-in-Ok-clause-does : goal.call_target-returns-in-Ok-clause-does
 call_target-returns-in-Ok-clause-does g t c =
-    target_enters c.args.room c.args.call c.args.found c.running-frame.result c.in-Ok.place c.enter.result c.args.host.now c.enter.new.host c.args.path.items
-    (subst (λ (vs : List ScVal). IsNewPlace c.in-Ok.place c.args.call.function.now vs c.args.path.items) c.as_slice.ensures.value c.in-Ok.ensures.ok) c.running-frame.ensures.contract c.running-frame.ensures.caller
-    c.running-frame.ensures.copy
+    target_enters c.args.room c.args.call c.args.found c.new_frame-frame.result c.in-Ok.place c.enter.result c.args.host.now c.enter.new.host c.args.path.items
+    (subst (λ (vs : List ScVal). IsNewPlace c.in-Ok.place c.args.call.function.now vs c.args.path.items) c.as_slice.ensures.value c.in-Ok.ensures.ok) c.new_frame-frame.ensures.contract c.new_frame-frame.ensures.caller
+    c.new_frame-frame.ensures.copy
     (subst
     (λ (m : Module). DoesAround c.enter.result datum
     (λ env. with_start (start_of m c.in-Ok.place.function.items (length (datums c.args.call.args.items)))
-    (λ index store. framed env (host_of env (opener_of env c.args.room)) (entered c.running-frame.result c.in-Ok.place.function.items (datums c.args.call.args.items) c.in-Ok.place.path.items m index store)))
+    (λ index store. framed env (host_of env (opener_of env c.args.room)) (entered c.new_frame-frame.result c.in-Ok.place.function.items (datums c.args.call.args.items) c.in-Ok.place.path.items m index store)))
     c.args.host.now c.enter.new.host)
     c.linked.ensures c.enter.ensures.does)
 
@@ -410,8 +408,8 @@ pub construct-returns-in-Ok-clause-does : goal.construct-returns-in-Ok-clause-do
 construct-returns-in-Ok-clause-does g t c =
     let copy : InstanceCopy = record { code = c.args.contract.code; storage = None } in
     let args = c.given_args-args.result.items in
-    constructs_does c.args.room c.if-room-eq0.false c.args.creator c.args.id (creation_of c.args.contract) copy c.running-frame.result c.in-Ok.place args c.args.path.items c.args.module.now c.enter-returned.result c.constructed.result
-    c.args.host.now c.enter-returned.new.host c.given_args-args.ensures.args (sym c.if-not-has_constructor.ensures) c.running-frame.ensures.contract c.running-frame.ensures.caller c.running-frame.ensures.copy refl
+    constructs_does c.args.room c.if-room-eq0.false c.args.creator c.args.id (creation_of c.args.contract) copy c.new_frame-frame.result c.in-Ok.place args c.args.path.items c.args.module.now c.enter-returned.result c.constructed.result
+    c.args.host.now c.enter-returned.new.host c.given_args-args.ensures.args (sym c.if-not-has_constructor.ensures) c.new_frame-frame.ensures.contract c.new_frame-frame.ensures.caller c.new_frame-frame.ensures.copy refl
     (subst (λ (vs : List ScVal). IsNewPlace c.in-Ok.place CONSTRUCTOR vs (c.args.path.items ++ 1 ∷ [])) c.as_slice.ensures.value c.in-Ok.ensures.ok) c.enter-returned.ensures.stays c.constructed.ensures.does c.enter-returned.ensures.does
 
 pub build-returns-in-Ok-clause-does : goal.build-returns-in-Ok-clause-does

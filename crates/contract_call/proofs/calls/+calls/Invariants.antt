@@ -1,7 +1,7 @@
 use Rattle.std.proofs.Common.{◌≡◌, ◌+◌, ◌*◌}
 use Rattle.wasm_run.specs.declared.instance.CallPhase.TheVariants as phase
 use Rattle.wasm_run.specs.Suspended.{work}
-use Rattle.contract_call.specs.Running.{StaysIn}
+use Rattle.call_host.specs.Running.{StaysIn}
 use Rattle.contract_call.proofs.Looping.{Follows}
 use Rattle.contract_call.proofs.calls.+calls.Given as goal
 

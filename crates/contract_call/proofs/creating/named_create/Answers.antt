@@ -7,8 +7,8 @@ use Rattle.invoke_types.specs.declared.function.Function.TheVariants as function
 use Rattle.std.specs.Prelude.{Vec, Option}
 use Rattle.std.specs.declared.alloc.Global.{Global}
 use Rattle.call_spec.specs.Creating.{function_of}
-use Rattle.contract_call.specs.Creations.{creation_of}
-use Rattle.contract_call.specs.declared.works.NewContract.{NewContract}
+use Rattle.call_host.specs.Creations.{creation_of}
+use Rattle.call_host.specs.declared.words.NewContract.{NewContract}
 use Rattle.host_ledger.proofs.Lemmas.{all_same}
 use Rattle.contract_call.proofs.creating.named_create.Goals as goal
 

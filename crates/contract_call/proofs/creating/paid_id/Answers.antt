@@ -1,4 +1,4 @@
-use Rattle.contract_call.specs.Creations.{creation_of}
+use Rattle.call_host.specs.Creations.{creation_of}
 use Rattle.contract_call.specs.Made.{identifying}
 use Rattle.contract_call.proofs.Constructing.{charges_around}
 use Rattle.contract_call.proofs.creating.paid_id.Goals as goal

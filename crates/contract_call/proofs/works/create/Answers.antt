@@ -4,9 +4,9 @@ use Rattle.value_types.specs.declared.address.ScAddress.TheVariants.{Contract}
 use Rattle.call_spec.specs.Creating.{creates}
 use Rattle.call_spec.specs.HostFunctions.{opener_of}
 use Rattle.call_spec.specs.WholeRuns.{creating}
-use Rattle.contract_call.specs.Creations.{creation_of}
+use Rattle.call_host.specs.Creations.{creation_of}
 use Rattle.contract_call.proofs.Working.{has_room, viewed_as, work_does, same_declared}
-use Rattle.contract_call.proofs.Undoing.{stays_opened, room_opened}
+use Rattle.call_host.proofs.Lemmas.{room_opened, stays_opened}
 use Rattle.contract_call.proofs.Ending.{ends_so, recorded_so}
 use Rattle.contract_call.proofs.works.create.Goals as goal
 

@@ -1,7 +1,7 @@
 use Rattle.value_types.specs.Views.{datum, datums}
 use Rattle.call_spec.specs.WholeRuns.{calling}
 use Rattle.contract_call.proofs.Working.{has_room, hosted_made, work_does, same_declared}
-use Rattle.contract_call.proofs.Undoing.{stays_opened, room_opened}
+use Rattle.call_host.proofs.Lemmas.{room_opened, stays_opened}
 use Rattle.contract_call.proofs.Ending.{ends_so, recorded_so}
 use Rattle.contract_call.proofs.works.invoke.Goals as goal
 

@@ -4,7 +4,7 @@ use Rattle.call_spec.specs.Creating.{uploads}
 use Rattle.call_spec.specs.HostFunctions.{MOST_FRAMES}
 use Rattle.call_spec.specs.WholeRuns.{uploading}
 use Rattle.contract_call.proofs.Working.{steps_around, steps_stay, viewed_as, work_does, same_declared}
-use Rattle.contract_call.proofs.Undoing.{stays_opened}
+use Rattle.call_host.proofs.Lemmas.{stays_opened}
 use Rattle.contract_call.proofs.Ending.{ends_so, recorded_so}
 use Rattle.contract_call.proofs.works.upload.Goals as goal
 

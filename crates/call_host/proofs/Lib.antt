@@ -1,0 +1,15 @@
+mod Answering
+mod Arguments
+mod Beginning
+mod Counting
+mod Counts
+mod Dividing
+mod Framing
+mod Joining
+pub mod Lemmas
+mod Lending
+mod Showing
+mod Splitting
+mod Stepping
+mod Undoing
+mod Valuing

@@ -1,0 +1,16 @@
+use Rattle.std.proofs.Common.{ℕ, List, [], ◌∷◌, sym, subst}
+use Rattle.host_interface.specs.declared.kinds.ArgKind.TheVariants as kinds
+use Rattle.call_spec.specs.Rules.{answered}
+use Rattle.value_types.specs.Views.{datums}
+use Rattle.object_store.specs.Shown.{shown_of}
+use Rattle.call_host.specs.Taken.{Takes}
+use Rattle.call_host.proofs.Counts.{just_three}
+use Rattle.call_host.proofs.Lending.{taken_in}
+use Rattle.call_host.proofs.words.call_words.Goals as goal
+
+pub returns-clause-takes : goal.returns-clause-takes
+returns-clause-takes g c rule =
+    let words = c.args.words.now in
+    taken_in c.call_taken.result (λ env. answered (kinds.Address ∷ kinds.Symbol ∷ kinds.Vec ∷ []) (rule env) words) (λ env x. rule env x.contract x.function.items (datums x.args.items)) c.args.host.now c.call_taken.new.ledger c.call_taken.ensures.paid
+    (λ env. subst (λ (ws : List ℕ). Takes c.call_taken.result (answered (kinds.Address ∷ kinds.Symbol ∷ kinds.Vec ∷ []) (rule env) ws) (λ x. rule env x.contract x.function.items (datums x.args.items)) (shown_of c.args.host.now.ledger.objects c.args.host.now.ledger.frame.shown) c.args.host.now.ledger.budget c.call_taken.new.ledger.budget)
+    (sym (just_three words c.requires.arity)) (c.call_taken.ensures.takes (rule env)))

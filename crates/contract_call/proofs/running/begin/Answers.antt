@@ -1,9 +1,0 @@
-use Rattle.value_types.specs.Views.{datums}
-use Rattle.contract_call.specs.Framed.{argument_words}
-use Rattle.contract_call.proofs.Beginning.{words_of}
-use Rattle.contract_call.proofs.Showing.{begun_in}
-use Rattle.contract_call.proofs.running.begin.Goals as goal
-
-pub returns-clause-does : goal.returns-clause-does
-returns-clause-does g c =
-    begun_in c.args.host.now c.begin_in.new.ledger c.begin_in.result words_of (argument_words c.args.module.now.memories (datums c.args.args.items)) c.begin_in.ensures.stays c.begin_in.ensures.does
