@@ -11,9 +11,9 @@ use Rattle.host_frame.proofs.Lemmas.{spelled_bounded}
 use Rattle.call_spec.specs.Entering.{entering}
 use Rattle.call_spec.specs.WholeRuns.{arguments_in}
 use Rattle.contract_call.specs.Entering.{IsEncodable, Passes, Enters}
-use Rattle.tx_apply.specs.Jobs.{work_in, values_in}
-use Rattle.tx_apply.specs.declared.job.Job.{Job}
-use Rattle.tx_apply.specs.declared.job.Job.TheVariants as jobs
+use Rattle.tx_steps.specs.Jobs.{work_in, values_in}
+use Rattle.tx_steps.specs.declared.job.Job.{Job}
+use Rattle.tx_steps.specs.declared.job.Job.TheVariants as jobs
 
 same_arguments : (job : Job) → arguments_in (work_in job) ≡ datums (values_in job)
 same_arguments (jobs.Call contract function args) = refl

@@ -1,4 +1,5 @@
 -- Ends of the host's calls, under other views of their values.
+use Rattle.std.specs.Prelude.{IsErrAnd}
 use Rattle.std.proofs.Common.{◌≡◌, Bool, true, false, List, [], Option, Some, None, Result, Ok, Err, refl, sym, ap, subst, ◌∙◌}
 use Rattle.budget_meter.specs.Meter.{Meter}
 use Rattle.budget_meter.specs.declared.kind.Kind.TheVariants.{ValSer}
@@ -26,6 +27,11 @@ use Rattle.contract_call.specs.Host.{Host}
 use Rattle.contract_call.specs.Entering.{with_meter, Enters}
 use Rattle.tx_apply.specs.Running.{charging, Charges, EndsCharged, EndsChargedRecorded}
 use Rattle.tx_apply.proofs.Running.{charged_traced}
+
+-- a result that is this error
+pub by_error : {A E : Type 0} (P : Result A E → Type 0) (r : Result A E) (e : E) → IsErrAnd r (λ y. y ≡ e) → (let none : Result A E = Err e in P none) → P r
+by_error P (Ok a) e h p = absurd h
+by_error {A} {E} P (Err y) e h p = subst (λ (z : E). let none : Result A E = Err z in P none) (sym h) p
 
 module _ {A B G U V : Type 0} (f : A → Datum) (g : B → Datum) (may : Judge) (m : LedgerMap) (old new : Host G U V) where
   abbrev ByA : Option Access → Out Datum → Result A HostErr → Type 0

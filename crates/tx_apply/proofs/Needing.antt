@@ -25,10 +25,11 @@ use Rattle.contract_call.specs.Host.{Host}
 use Rattle.contract_call.specs.Entering.{with_meter, Passes, Stops, Enters}
 use Rattle.apply_spec.specs.Recorded.{footprint_by, no_footprint}
 use Rattle.apply_spec.specs.Simulated.{Needs, needs_of}
-use Rattle.tx_apply.specs.declared.needs.Needs as code
+use Rattle.tx_steps.specs.declared.needs.Needs as code
 use Rattle.tx_apply.specs.Running.{charging, EndsChargedRecorded, entered_run}
-use Rattle.tx_apply.specs.Needed.{needs_in}
-use Rattle.tx_apply.specs.Recording.{ran_out, touched_in}
+use Rattle.tx_steps.specs.Needed.{needs_in}
+use Rattle.tx_steps.specs.Touched.{touched_in}
+use Rattle.tx_apply.specs.Recording.{ran_out}
 use Rattle.tx_apply.proofs.Running.{Starts, started_same}
 use Rattle.tx_apply.proofs.Recorded.{known_keys, footprint_same}
 use Rattle.contract_storage.specs.Touched.{Known}

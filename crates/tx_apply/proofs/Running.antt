@@ -38,7 +38,8 @@ use Rattle.contract_call.specs.Worlds.{authority_of, world_around}
 use Rattle.contract_call.specs.Ended.{IsEnd, EndsBy}
 use Rattle.contract_call.specs.Host.{Host}
 use Rattle.contract_call.specs.Entering.{with_meter, Passes, Stops, Enters}
-use Rattle.tx_apply.specs.Running.{charging, EndsCharged, entered_run, result_of, outcome_with}
+use Rattle.tx_steps.specs.CallResults.{result_of, outcome_with}
+use Rattle.tx_apply.specs.Running.{charging, EndsCharged, entered_run}
 
 -- ---- the arguments, the work, the charge
 

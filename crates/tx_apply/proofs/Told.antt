@@ -26,7 +26,8 @@ use Rattle.call_spec.specs.Invoked.{Invoked, invoked}
 use Rattle.apply_spec.specs.Checks.{refusal_of}
 use Rattle.apply_spec.specs.Enforced as whole
 use Rattle.apply_spec.proofs.Lemmas.{call_effect, extended_effect, invoked_tells}
-use Rattle.tx_apply.specs.Outcomes.{Ended, extended, ended_of_call, called, performed, first_performed, unless_refused, ended}
+use Rattle.tx_steps.specs.Outcomes.{Ended, extended, ended_of_call}
+use Rattle.tx_apply.specs.Performed.{called, performed, first_performed, unless_refused, ended}
 
 -- the effect of a transaction that ended
 abbrev pub told : Header → Envelope → Ended → Effect

@@ -36,7 +36,7 @@ use Rattle.contract_call.specs.Host.{Host}
 use Rattle.contract_call.specs.Entering.{with_meter, Passes, Stops, Enters}
 use Rattle.tx_apply.specs.Running.{charging}
 use Rattle.tx_apply.specs.Watching.{seen_of, HasSeen, run_accesses, entered_accesses, Told}
-use Rattle.tx_apply.specs.declared.results.TransactionDone.{TransactionDone}
+use Rattle.tx_steps.specs.declared.results.TransactionDone.{TransactionDone}
 use Rattle.tx_apply.proofs.Running.{Starts, start_same, charged_traced}
 
 -- ---- what the storage knows

@@ -1,15 +1,11 @@
-pub mod Outcomes
+pub mod Performed
 pub mod Done
-pub mod Spellings
 pub mod Authorities
-pub mod Jobs
 pub mod Running
 pub mod Recording
-pub mod Needed
 pub mod Simulating
-pub mod Changed
 pub mod Watching
-pub mod Resolved
+pub use Rattle.tx_steps.specs.Jobs
 pub use Rattle.contract_call.specs.Entering
 pub use Rattle.contract_call.specs.Traced
 pub use Rattle.contract_call.specs.Ended

@@ -1,21 +1,12 @@
 -- How a host function ends after the charge for its value, as the code has it (own).
-use Rattle.std.specs.Prelude.{◌≡◌, ℕ, List, [], Result, Ok, Err, Option, Some, None, IsSomeAnd, nat_lt, if◌then◌else◌}
-use Rattle.sha2.specs.Sha256.{sha256}
+use Rattle.std.specs.Prelude.{◌≡◌, List, [], Result, Ok, Err, None, IsSomeAnd}
 use Rattle.budget_meter.specs.Meter.{Meter}
-use Rattle.budget_meter.specs.declared.budget.Used.{Used}
 use Rattle.budget_meter.specs.declared.kind.Kind.TheVariants.{ValSer}
 use Rattle.value_types.specs.Datum.{Datum}
 use Rattle.value_types.specs.Views.{datum}
 use Rattle.value_types.specs.declared.value.ScVal.{ScVal}
-use Rattle.value_types.specs.Hash.{hash_of}
 use Rattle.ledger_types.specs.declared.header.Header.{Header}
-use Rattle.invoke_types.specs.Success.{success_format}
-use Rattle.invoke_types.specs.declared.event.ContractEvent.{ContractEvent}
-use Rattle.invoke_types.specs.declared.success.SuccessPreimage.{SuccessPreimage}
 use Rattle.tx_xdr.specs.declared.transaction.Footprint.{Footprint}
-use Rattle.tx_xdr.specs.declared.transaction.SorobanData.{SorobanData}
-use Rattle.tx_results.specs.declared.operation.InvokeResult.{InvokeResult}
-use Rattle.tx_results.specs.declared.operation.InvokeResult.TheVariants.{Success, Trapped, ResourceLimitExceeded}
 use Rattle.ledger_spec.specs.LedgerMap.{LedgerMap}
 use Rattle.host_spec.specs.Hosted.{size_of}
 use Rattle.host_spec.specs.declared.error.HostErr.{HostErr}
@@ -25,7 +16,6 @@ use Rattle.call_spec.specs.World.{Access, World, Authority}
 use Rattle.call_spec.specs.Acts.{Failed, Spent, Out, Act, after, gives, paying, world_of}
 use Rattle.call_spec.specs.Footprints.{by_footprint, first_rejected}
 use Rattle.call_spec.specs.WholeRuns.{Work, start_of, all_allowed, done_under}
-use Rattle.call_spec.specs.Invoked.{Invoked, written_bytes, unsuccessful}
 use Rattle.contract_call.specs.Traced.{IsRecorded}
 use Rattle.contract_call.specs.Worlds.{authority_of, world_around}
 use Rattle.contract_call.specs.Ended.{IsEnd, EndsBy, UnlessMemory}
@@ -68,27 +58,3 @@ EndsChargedRecorded work r old new =
 abbrev pub entered_run : Header → Authority → Meter → Work → LedgerMap → Out Datum
 entered_run header authority meter work entries =
     after (done_under all_allowed header authority work) charging (with_meter meter (start_of header 0 entries))
-
--- ---- outcomes
-
--- the result of a host function that ended without a value; there is none if memory ran out
-abbrev pub result_of : HostErr → Option InvokeResult
-result_of ends.Spent = Some ResourceLimitExceeded
-result_of (ends.Failed e) = Some Trapped
-result_of (ends.Undeclared key) = Some Trapped
-result_of (ends.Archived key) = Some Trapped
-result_of ends.NoMemory = None
-
-abbrev pub successful_with : SuccessPreimage → LedgerMap → Used → Invoked
-successful_with success new used = record {
-  result = Success (hash_of (sha256 (success_format.spell success)));
-  success = Some success;
-  entries = new;
-  used = used;
-}
-
--- a host function that returned a value in ledger n, with the map, the events and the sums then
-abbrev pub outcome_with : ℕ → SorobanData → LedgerMap → ScVal → LedgerMap → List ContractEvent → Used → Invoked
-outcome_with n resources old value new events used =
-    if nat_lt resources.write_bytes (written_bytes n old new) then unsuccessful ResourceLimitExceeded old used
-    else successful_with (record { return_value = value; events = events }) new used

@@ -1,38 +1,29 @@
 //! INVOKE_HOST_FUNCTION.
 
-ghost use Rattle.std.specs.Prelude.{◌≡◌, ◌≢◌, [], All, IfOk, IsSomeAnd, IsTrue};
+ghost use Rattle.std.specs.Prelude.{◌≡◌, [], All, IfOk, IsTrue};
 ghost use Rattle.value_types.specs.Views.{datum, datums};
 ghost use Rattle.auth_types.specs.AuthEntry.{auth_entry_format};
 ghost use Rattle.ledger_types.specs.Key.{key_format};
-ghost use Rattle.ledger_spec.specs.LedgerMap.{LedgerMap};
 ghost use Rattle.ledger_spec.specs.LedgerFile.{are_settings, has_next};
 ghost use Rattle.invoke_types.specs.HostFunction.{host_function_format};
 ghost use Rattle.invoke_types.specs.Success.{success_format};
-ghost use Rattle.contract_storage.specs.Differences.{AreDifferences};
 ghost use Rattle.host_spec.specs.Hosted.{IsHosted, AreHosted};
 ghost use Rattle.call_spec.specs.World.{next_seq};
 ghost use Rattle.call_spec.specs.Footprints.{by_footprint};
 ghost use Rattle.call_spec.specs.WholeRuns.{work_of, whole};
 ghost use Rattle.call_spec.specs.Invoked.{by_run, invoked};
 ghost use Rattle.tx_apply.specs.Authorities.{authority_in};
-ghost use Rattle.tx_apply.specs.Changed.{CanStand};
-ghost use Rattle.tx_apply.specs.Jobs.{work_in, values_in, IsSpelled};
-ghost use Rattle.tx_apply.specs.Running.{entered_run, result_of as result_of_end, successful_with, outcome_with};
-ghost use Rattle.tx_apply.specs.Outcomes.{ended_of_call, unsuccessful};
-ghost use Rattle.tx_apply.specs.Done.{ended_of, CanEnd};
+ghost use Rattle.tx_steps.specs.Jobs.{work_in, values_in, IsSpelled};
+ghost use Rattle.tx_steps.specs.CallResults.{outcome_with};
+ghost use Rattle.tx_apply.specs.Running.{entered_run};
+ghost use Rattle.tx_steps.specs.Outcomes.{ended_of_call};
+ghost use Rattle.tx_steps.specs.Effects.{ended_of, CanEnd};
 ghost use Rattle.tx_apply.specs.Watching.{HasSeen, entered_accesses, run_accesses, work_accesses};
 
 use crate::authority::Authority;
-use crate::changes::{by_key, changes_at, extensions_at};
-use crate::job::{Job, job_of, values};
-use crate::reading::{declares_archived, reads_more};
-use crate::resolved::Resolved;
-use crate::results::{TransactionDone, failed_call, nothing_used, one_result};
 use crate::run::run_told;
-use crate::success::success_hash;
-use crate::writing::writes_more;
 use auth_trees::Marks;
-use budget_meter::{Budget, Limits, Used};
+use budget_meter::{Budget, Limits};
 use code_cache::Cache;
 use contract_call::{Events, Host, HostLedger, enter_all};
 use contract_storage::{Storage, Watch};
@@ -41,8 +32,12 @@ use host_spec::HostErr;
 use invoke_types::{HostFunction, SuccessPreimage};
 use ledger_types::{Header, Settings};
 use std::alloc::Global;
-use tx_results::{InnerResult, InvokeResult, OperationResult, TransactionOutcome};
-use tx_xdr::{Footprint, SorobanData};
+use tx_results::InvokeResult;
+use tx_steps::{
+    Job, Resolved, TransactionDone, declares_archived, ended, failed_call, job_of, nothing_used,
+    reads_more, succeeded, values, writes_more,
+};
+use tx_xdr::SorobanData;
 use value_types::{Items, ScVal};
 use xdr_core::NoMemory;
 
@@ -60,36 +55,6 @@ pub fn budget_of(settings: &Settings, instructions: u32) -> Budget
     Budget::new(limits, settings.terms)
 }
 
-/// The result of a host function that ended without a value, or `None` if memory ran out.
-fn result_of(end: &HostErr) -> Option<InvokeResult>
-    ensures { result ≡ result_of_end end.now }
-{
-    match end {
-        HostErr::Failed(_) | HostErr::Undeclared(_) | HostErr::Archived(_) => {
-            Some(InvokeResult::Trapped)
-        }
-        HostErr::Spent => Some(InvokeResult::ResourceLimitExceeded),
-        HostErr::NoMemory => None,
-    }
-}
-
-/// The outcome of a host function that ended without a value.
-fn ended<W: Watch>(
-    alloc: Global,
-    end: &HostErr,
-    used: Used,
-    watch: W,
-) -> Result<TransactionDone<W>, NoMemory>
-    ensures done { IfOk result (λ done. IsSomeAnd (result_of_end end.now) (λ r. ended_of done ≡ unsuccessful r used)) }
-    ensures watch { IfOk result (λ done. done.watch ≡ watch) }
-    ensures memory { IfOk result (λ done. end.now ≢ HostErr.NoMemory) }
-{
-    match result_of(end) {
-        Some(result_of_call) => failed_call(alloc, result_of_call, used, watch),
-        None => Err(NoMemory),
-    }
-}
-
 /// The success preimage.
 fn success_of(value: ScVal, events: Events) -> SuccessPreimage
     requires { IsHosted (datum value) }
@@ -101,41 +66,6 @@ fn success_of(value: ScVal, events: Events) -> SuccessPreimage
         return_value: value,
         events: Items::from_vec(events),
     }
-}
-
-/// The outcome of a host function that succeeded.
-fn succeeded<G: Ground, W: Watch>(
-    alloc: Global,
-    ground: &G,
-    footprint: &Footprint,
-    changes: &[contract_storage::Change],
-    success: SuccessPreimage,
-    used: Used,
-    watch: W,
-) -> Result<TransactionDone<W>, NoMemory>
-    requires read_only { All (λ key. key_format.fits key) footprint.now.read_only }
-    requires read_write { All (λ key. key_format.fits key) footprint.now.read_write }
-    requires changes { All CanStand changes.now }
-    requires success { success_format.fits success }
-    ensures done { IfOk result (λ done. (new : LedgerMap) → AreDifferences (G.map ground.now) new changes.now
-        → ended_of done ≡ ended_of_call (G.map ground.now) footprint.now (successful_with success new used)) }
-    ensures can { IfOk result (λ done. CanEnd (ended_of done)) }
-    ensures watch { IfOk result (λ done. done.watch ≡ watch) }
-{
-    let hash = success_hash(alloc, &success)?;
-    let changed = by_key(alloc, changes)?;
-    let changes = changes_at(alloc, ground, &changed, footprint.read_write.as_slice())?;
-    let extensions = extensions_at(alloc, ground, &changed, footprint.read_only.as_slice())?;
-    let only = OperationResult::Inner(InnerResult::Invoke(InvokeResult::Success(hash)));
-    let results = one_result(alloc, only)?;
-    Ok(TransactionDone {
-        outcome: TransactionOutcome::Success(results),
-        success: Some(success),
-        changes: Items::from_vec(changes),
-        extensions: Items::from_vec(extensions),
-        used,
-        watch,
-    })
 }
 
 /// Returns the events of a run, and its observer.

@@ -1,15 +1,12 @@
 //! Runs one envelope: a transaction, or a fee bump's inner transaction as if alone.
 
-ghost use Rattle.std.specs.Prelude.{◌≡◌, [], pos, IfOk, IsTrue};
+ghost use Rattle.std.specs.Prelude.{◌≡◌, [], IfOk, IsTrue};
 ghost use Rattle.ledger_spec.specs.LedgerMap.{LedgerMap};
 ghost use Rattle.ledger_spec.specs.LedgerFile.{are_settings, has_next};
-ghost use Rattle.value_types.specs.Hash.{hash_format};
 ghost use Rattle.tx_xdr.specs.Envelope.{envelope_format, transaction_in};
-ghost use Rattle.tx_results.specs.Results.{outcome_format, envelope_outcome_format, pair_format};
 ghost use Rattle.stage_runs.specs.Maps.{AgreeOn};
 ghost use Rattle.stage_runs.specs.Transactions.{declares};
-ghost use Rattle.apply_spec.specs.Enforced.{enforced, is_success as is_success_in, fee_bump_outcome as fee_bump_outcome_in};
-ghost use Rattle.apply_spec.specs.Enforced.{envelope_outcome as envelope_outcome_in, result_pair as result_pair_in};
+ghost use Rattle.apply_spec.specs.Enforced.{enforced};
 ghost use Rattle.tx_apply.specs.Done.{effect_of, IsWithin};
 ghost use Rattle.tx_apply.specs.Watching.{HasSeen, accesses_of};
 
@@ -22,12 +19,10 @@ use invoke_types::SuccessPreimage;
 use ledger_types::{Header, Verdicts};
 use stage_runs::{Change, Extension};
 use std::alloc::Global;
-use tx_results::{
-    EnvelopeOutcome, InnerTransactionResult, InnerTransactionResultPair, TransactionOutcome,
-    TransactionResult, TransactionResultPair,
-};
-use tx_xdr::{Envelope, envelope_hash, tx_hash};
-use value_types::{Hash, Items};
+use tx_results::TransactionResultPair;
+use tx_steps::result_pair;
+use tx_xdr::Envelope;
+use value_types::Items;
 use xdr_core::NoMemory;
 
 /// The effect of an envelope: its result, and what it does to the entries of a ledger.
@@ -41,79 +36,6 @@ pub struct TxDone {
     /// At keys that the transaction declares read-only. They are pending until they are put in.
     pub extensions: Items<Extension, 4294967295>,
     pub used: Used,
-}
-
-fn is_success(outcome: &TransactionOutcome) -> bool
-    ensures { result ≡ is_success_in outcome.now }
-{
-    matches!(outcome, TransactionOutcome::Success(_))
-}
-
-/// Returns the outcome of a fee bump. `hash` is that of its inner transaction.
-fn fee_bump_outcome(hash: Hash, outcome: TransactionOutcome) -> EnvelopeOutcome
-    requires hash { hash_format.fits hash }
-    requires outcome { outcome_format.fits outcome }
-    ensures value { result ≡ fee_bump_outcome_in outcome
-        (record { hash = hash; result = record { fee_charged = pos 0; outcome = outcome } }) }
-    ensures fits { envelope_outcome_format.fits result }
-{
-    let succeeded = is_success(&outcome);
-    let inner = InnerTransactionResultPair {
-        hash,
-        result: InnerTransactionResult {
-            fee_charged: 0,
-            outcome,
-        },
-    };
-    if succeeded {
-        EnvelopeOutcome::FeeBumpInnerSuccess(inner)
-    } else {
-        EnvelopeOutcome::FeeBumpInnerFailed(inner)
-    }
-}
-
-/// Returns the outcome of an envelope by that of its transaction.
-fn envelope_outcome(
-    alloc: Global,
-    network: &Hash,
-    envelope: &Envelope,
-    outcome: TransactionOutcome,
-) -> Result<EnvelopeOutcome, NoMemory>
-    requires envelope { envelope_format.fits envelope.now }
-    requires outcome { outcome_format.fits outcome }
-    ensures value { IfOk result (λ o. o ≡ envelope_outcome_in network.now envelope.now outcome) }
-    ensures fits { IfOk result envelope_outcome_format.fits }
-{
-    match envelope {
-        Envelope::Transaction(_) => Ok(EnvelopeOutcome::Transaction(outcome)),
-        Envelope::FeeBump(_) => {
-            let hash = tx_hash(alloc, network, envelope.transaction())?;
-            Ok(fee_bump_outcome(hash, outcome))
-        }
-    }
-}
-
-/// Returns the hash of an envelope with the outcome of its transaction. No fee is charged.
-fn result_pair(
-    alloc: Global,
-    network: &Hash,
-    envelope: &Envelope,
-    outcome: TransactionOutcome,
-) -> Result<TransactionResultPair, NoMemory>
-    requires envelope { envelope_format.fits envelope.now }
-    requires outcome { outcome_format.fits outcome }
-    ensures value { IfOk result (λ pair. pair ≡ result_pair_in network.now envelope.now outcome) }
-    ensures fits { IfOk result pair_format.fits }
-{
-    let outcome = envelope_outcome(alloc, network, envelope, outcome)?;
-    let hash = envelope_hash(alloc, network, envelope)?;
-    Ok(TransactionResultPair {
-        hash,
-        result: TransactionResult {
-            fee_charged: 0,
-            outcome,
-        },
-    })
 }
 
 /// Checks and runs an envelope, as `enforce` does. The observer sees each access of the run that the footprint allows, and its

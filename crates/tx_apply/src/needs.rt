@@ -1,6 +1,6 @@
 //! Finds the footprint that a transaction needs.
 
-ghost use Rattle.std.specs.Prelude.{◌≡◌, All, false, true, None, IfOk, IfSome, IsTrue};
+ghost use Rattle.std.specs.Prelude.{◌≡◌, All, None, IfOk, IsTrue};
 ghost use Rattle.auth_types.specs.AuthEntry.{auth_entry_format};
 ghost use Rattle.ledger_spec.specs.LedgerFile.{are_settings, has_next};
 ghost use Rattle.invoke_types.specs.HostFunction.{host_function_format};
@@ -8,53 +8,20 @@ ghost use Rattle.tx_xdr.specs.Operation.{body_format};
 ghost use Rattle.tx_xdr.specs.Soroban.{footprint_format};
 ghost use Rattle.tx_xdr.specs.Transaction.{transaction_format};
 ghost use Rattle.call_spec.specs.WholeRuns.{work_of};
-ghost use Rattle.apply_spec.specs.Checks.{footprint_of};
-ghost use Rattle.apply_spec.specs.Recorded.{no_footprint};
-ghost use Rattle.apply_spec.specs.Simulated.{needs_nothing, work_needs, body_needs, acts_on_footprint, keeps_footprint, needs};
+ghost use Rattle.apply_spec.specs.Simulated.{work_needs, body_needs, needs};
 ghost use Rattle.tx_apply.specs.Authorities.{authority_in};
-ghost use Rattle.tx_apply.specs.Needed.{needs_in};
+ghost use Rattle.tx_steps.specs.Needed.{needs_in};
 
 use crate::authority::{Authority, authority_of};
-use crate::checks::form_refusal;
-use crate::job::job_of;
 use crate::recording::record;
-use crate::results::nothing_used;
-use budget_meter::Used;
 use code_cache::Cache;
 use entry_lookup::Ground;
 use invoke_types::HostFunction;
 use ledger_types::{Header, Verdicts};
 use std::alloc::Global;
-use tx_xdr::{Footprint, Operation, OperationBody, Transaction, TransactionExt};
+use tx_steps::{Needs, form_refusal, job_of, kept_footprint, no_needs, nothing_used};
+use tx_xdr::{Operation, OperationBody, Transaction, TransactionExt};
 use xdr_core::NoMemory;
-
-/// The footprint that a transaction needs, and the sums of the run that needs it.
-#[derive(Drop)]
-pub(crate) struct Needs {
-    pub footprint: Footprint,
-    pub used: Used,
-}
-
-/// The needs of a run that accesses no key.
-pub(crate) fn no_keys(alloc: Global, used: Used) -> Needs
-    ensures needs { needs_in result ≡ record { footprint = no_footprint; used = used } }
-    ensures fits { footprint_format.fits result.footprint }
-{
-    Needs {
-        footprint: Footprint::empty(alloc),
-        used,
-    }
-}
-
-/// The needs of a transaction that runs nothing.
-fn nothing(alloc: Global) -> Needs
-    ensures needs { needs_in result ≡ needs_nothing }
-    ensures fits { footprint_format.fits result.footprint }
-{
-    no_keys(alloc, nothing_used())
-}
-
-// ---- the operation
 
 /// The needs of INVOKE_HOST_FUNCTION. A malformed call runs nothing.
 fn call_needs<G: Ground>(
@@ -75,7 +42,7 @@ fn call_needs<G: Ground>(
     ensures fits { IfOk result (λ n. footprint_format.fits n.footprint) }
 {
     match job_of(function) {
-        None => Ok(nothing(alloc)),
+        None => Ok(no_needs(alloc)),
         Some(job) => record(alloc, ground, header, instructions, authority, &job, codes),
     }
 }
@@ -98,14 +65,14 @@ fn operation_needs<G: Ground>(
     ensures fits { IfOk result (λ n. footprint_format.fits n.footprint) }
 {
     let TransactionExt::Soroban(resources) = &tx.ext else {
-        return Ok(nothing(alloc));
+        return Ok(no_needs(alloc));
     };
     let OperationBody::InvokeHostFunction {
         host_function,
         auth,
     } = &operation.body
     else {
-        return Ok(nothing(alloc));
+        return Ok(no_needs(alloc));
     };
     let authority = authority_of(verdicts, tx, operation.source, auth.as_slice());
     call_needs(
@@ -117,31 +84,6 @@ fn operation_needs<G: Ground>(
         host_function,
         codes,
     )
-}
-
-// ---- the transaction
-
-fn acts_on_footprint(operation: &Operation) -> bool
-    ensures { result ≡ acts_on_footprint operation.now.body }
-{
-    match operation.body {
-        OperationBody::InvokeHostFunction { .. } => false,
-        OperationBody::ExtendFootprintTtl { .. } | OperationBody::RestoreFootprint => true,
-    }
-}
-
-/// The footprint of a transaction that acts on the footprint that it declares, or `None` if the transaction does not.
-fn kept_footprint(tx: &Transaction) -> Option<&Footprint>
-    ensures kept { IfSome result (λ f. (f.now ≡ footprint_of tx.now) × (keeps_footprint tx.now ≡ true)) }
-    ensures other { result ≡ None → keeps_footprint tx.now ≡ false }
-{
-    let TransactionExt::Soroban(resources) = &tx.ext else {
-        return None;
-    };
-    match tx.operations.as_slice() {
-        [operation] if acts_on_footprint(operation) => Some(&resources.footprint),
-        _ => None,
-    }
 }
 
 /// Finds the footprint that a transaction needs over the entries of a ledger.
@@ -166,10 +108,10 @@ pub(crate) fn needed<G: Ground>(
         });
     }
     if form_refusal(header, tx).is_some() {
-        return Ok(nothing(alloc));
+        return Ok(no_needs(alloc));
     }
     match tx.operations.as_slice() {
-        [] => Ok(nothing(alloc)),
+        [] => Ok(no_needs(alloc)),
         [operation, ..] => operation_needs(alloc, ground, header, verdicts, tx, operation, codes),
     }
 }

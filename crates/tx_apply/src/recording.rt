@@ -1,105 +1,36 @@
 //! Finds the footprint that a host function needs, by a run over a storage that records the keys that it touches.
 
-ghost use Rattle.std.specs.Prelude.{◌≡◌, ◌≢◌, All, false, if◌then◌else◌, IfOk, OnOk, IsTrue};
-ghost use Rattle.std.specs.BTreeSet.{insert_key};
+ghost use Rattle.std.specs.Prelude.{◌≡◌, ◌≢◌, All, false, IfOk, IsTrue};
 ghost use Rattle.value_types.specs.Views.{datums};
 ghost use Rattle.auth_types.specs.AuthEntry.{auth_entry_format};
-ghost use Rattle.ledger_types.specs.KeyOrder.{key_cmp};
 ghost use Rattle.ledger_spec.specs.LedgerFile.{are_settings, has_next};
 ghost use Rattle.tx_xdr.specs.Soroban.{footprint_format};
 ghost use Rattle.host_spec.specs.Hosted.{AreHosted};
-ghost use Rattle.contract_storage.specs.Touched.{AreSpelled};
-ghost use Rattle.call_spec.specs.Laws.{is_write};
 ghost use Rattle.call_spec.specs.WholeRuns.{whole};
 ghost use Rattle.apply_spec.specs.Recorded.{footprint_by, no_footprint};
 ghost use Rattle.apply_spec.specs.Simulated.{needs_of};
 ghost use Rattle.tx_apply.specs.Authorities.{authority_in};
-ghost use Rattle.tx_apply.specs.Jobs.{work_in, values_in, IsSpelled};
+ghost use Rattle.tx_steps.specs.Jobs.{work_in, values_in, IsSpelled};
 ghost use Rattle.tx_apply.specs.Running.{entered_run};
-ghost use Rattle.tx_apply.specs.Needed.{needs_in};
-ghost use Rattle.tx_apply.specs.Recording.{ran_out, kind_in, touched_in, keys_in};
+ghost use Rattle.tx_steps.specs.Needed.{needs_in};
+ghost use Rattle.tx_steps.specs.Touched.{touched_in};
+ghost use Rattle.tx_apply.specs.Recording.{ran_out};
 
 use crate::authority::Authority;
 use crate::call::budget_of;
-use crate::job::{Job, values};
-use crate::needs::{Needs, no_keys};
 use crate::run::run_job;
 use auth_trees::Marks;
 use budget_meter::{Budget, Used};
 use code_cache::Cache;
 use contract_call::{Host, enter_all};
-use contract_storage::{Access, NoWatch, Storage, Touch};
+use contract_storage::{NoWatch, Storage};
 use entry_lookup::Ground;
 use host_spec::{HostErr, ValueErr};
-use ledger_types::{Header, LedgerKey};
-use std::alloc::{AllocError, Global};
-use std::collections::BTreeSet;
-use tx_xdr::Footprint;
-use value_types::{Items, ScVal};
+use ledger_types::Header;
+use std::alloc::Global;
+use tx_steps::{Job, Needs, footprint_of, no_keys, values};
+use value_types::ScVal;
 use xdr_core::NoMemory;
-
-// ---- the footprint of recorded keys
-
-fn is_write(access: Access) -> bool
-    ensures { result ≡ is_write (kind_in access) }
-{
-    match access {
-        Access::Write => true,
-        Access::Read | Access::Extend => false,
-    }
-}
-
-/// Adds a key if it is chosen.
-fn add_chosen(
-    keys: &mut BTreeSet<LedgerKey>,
-    key: &LedgerKey,
-    is_chosen: bool,
-) -> Result<(), NoMemory>
-    ensures { OnOk result (keys.new.keys ≡ (if is_chosen then insert_key key_cmp keys.old.keys key.now else keys.old.keys)) }
-{
-    if is_chosen {
-        keys.insert(key.clone()?)?;
-    }
-    Ok(())
-}
-
-fn in_order(alloc: Global, keys: BTreeSet<LedgerKey>) -> Result<Vec<LedgerKey>, AllocError>
-    ensures { IfOk result (λ list. list.items ≡ keys.keys) }
-{
-    keys.into_iter().collect(alloc)
-}
-
-/// The keys with a write, or those without, in the order of their XDR bytes.
-fn keys_of(
-    alloc: Global,
-    touches: &[Touch],
-    written: bool,
-) -> Result<Items<LedgerKey, 4294967295>, NoMemory>
-    requires { AreSpelled touches.now }
-    ensures { IfOk result (λ keys. keys ≡ keys_in written touches.now) }
-{
-    let mut keys = BTreeSet::new(alloc);
-    for touch in touches {
-        add_chosen(&mut keys, &touch.key, is_write(touch.access) == written)?;
-    }
-    Ok(Items::from_vec(in_order(alloc, keys)?))
-}
-
-/// The footprint of recorded keys: those with a write are read-write, and the others are read-only.
-fn footprint_of(alloc: Global, touches: &[Touch]) -> Result<Footprint, NoMemory>
-    requires { AreSpelled touches.now }
-    ensures footprint { IfOk result (λ f. f ≡ footprint_by (touched_in touches.now)) }
-    ensures fits { IfOk result (λ f. footprint_format.fits f) }
-{
-    let read_only = keys_of(alloc, touches, false)?;
-    let read_write = keys_of(alloc, touches, true)?;
-    Ok(Footprint {
-        read_only,
-        read_write,
-    })
-}
-
-// ---- the run
 
 /// Whether memory ran out.
 fn ran_out(end: &Result<ScVal, HostErr>) -> bool

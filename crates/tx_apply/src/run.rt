@@ -13,12 +13,11 @@ ghost use Rattle.contract_call.specs.Creations.{args_of, creation_of, AreArgsHos
 ghost use Rattle.contract_call.specs.Ended.{Ends, EndsRecorded};
 ghost use Rattle.contract_call.specs.Placed.{HasRoom};
 ghost use Rattle.contract_call.specs.Worlds.{MayRun};
-ghost use Rattle.tx_apply.specs.Jobs.{work_in, values_in, datums_in, IsSpelled};
+ghost use Rattle.tx_steps.specs.Jobs.{work_in, values_in, datums_in, IsSpelled};
 ghost use Rattle.contract_call.specs.Entering.{Enters};
 ghost use Rattle.tx_apply.specs.Running.{Charges, EndsCharged, EndsChargedRecorded};
 ghost use Rattle.tx_apply.specs.Watching.{Told};
 
-use crate::job::Job;
 use auth_trees::Authority;
 use budget_meter::{Budget, Kind};
 use contract_call::{Host, NewContract, clone_values, create, invoke, upload};
@@ -27,6 +26,7 @@ use entry_lookup::Ground;
 use host_frame::{charge, size_of};
 use host_spec::{HostErr, ValueErr};
 use std::alloc::Global;
+use tx_steps::Job;
 use value_types::{Blob, Hash, ScAddress, ScVal};
 
 /// Says that a hash has a spelling.

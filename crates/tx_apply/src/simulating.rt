@@ -12,21 +12,22 @@ ghost use Rattle.stage_runs.specs.Maps.{AgreeOn};
 ghost use Rattle.stage_runs.specs.Transactions.{declares};
 ghost use Rattle.apply_spec.specs.Recorded.{IsSmaller};
 ghost use Rattle.apply_spec.specs.Enforced.{enforced};
-ghost use Rattle.apply_spec.specs.Simulated.{simulated, tx_with, ext_with, with_footprint as with_footprint_in};
+ghost use Rattle.apply_spec.specs.Simulated.{simulated, with_footprint as with_footprint_in};
 ghost use Rattle.apply_spec.specs.SimulatedLaws.{IsTrapped};
 ghost use Rattle.tx_apply.specs.Done.{effect_of, IsWithin};
 ghost use Rattle.tx_apply.specs.Simulating.{simulated_in};
 ghost use Rattle.tx_apply.specs.Watching.{HasSeen, accesses_of};
 
 use crate::envelope::{TxDone, enforce_watched};
-use crate::needs::{Needs, needed};
+use crate::needs::needed;
 use budget_meter::Used;
 use code_cache::Cache;
 use contract_storage::{NoWatch, Watch};
 use entry_lookup::Ground;
 use ledger_types::{Header, Verdicts};
 use std::alloc::Global;
-use tx_xdr::{Envelope, Footprint, SorobanData, Transaction, TransactionExt};
+use tx_steps::{Needs, with_footprint};
+use tx_xdr::{Envelope, Footprint};
 use xdr_core::NoMemory;
 
 /// A simulated envelope.
@@ -41,30 +42,6 @@ pub struct Simulated {
     pub envelope: Envelope,
     /// The sums of the whole run, also if a test stops the operation before it runs. They are 0 if nothing runs.
     pub used: Used,
-}
-
-/// Puts a footprint into a transaction that has Soroban data.
-fn set_footprint(tx: &mut Transaction, footprint: Footprint)
-    ensures { tx.new ≡ tx_with footprint tx.old }
-{
-    if let TransactionExt::Soroban(resources) = &mut tx.ext {
-        resources.footprint = footprint;
-    }
-}
-
-/// Puts a footprint into the transaction of an envelope, of a fee bump into the inner one.
-#[tactic(auto, using(crate::proofs::Simulation::envelope_fits))]
-fn with_footprint(mut envelope: Envelope, footprint: Footprint) -> Envelope
-    requires envelope { envelope_format.fits envelope }
-    requires footprint { footprint_format.fits footprint }
-    ensures with { result ≡ with_footprint_in footprint envelope }
-    ensures fits { envelope_format.fits result }
-{
-    match &mut envelope {
-        Envelope::Transaction(signed) => set_footprint(&mut signed.tx, footprint),
-        Envelope::FeeBump(signed) => set_footprint(&mut signed.fee_bump.inner.tx, footprint),
-    }
-    envelope
 }
 
 /// Simulates an envelope, as `simulate_with` does. The observer sees the run with the footprint: each access, and its moments. It

@@ -10,65 +10,22 @@ ghost use Rattle.tx_xdr.specs.Transaction.{transaction_format};
 ghost use Rattle.stage_runs.specs.Transactions.{footprint_in};
 ghost use Rattle.apply_spec.specs.Checks.{footprint_of};
 ghost use Rattle.tx_apply.specs.Authorities.{authority_in};
-ghost use Rattle.tx_apply.specs.Outcomes.{ended, extended, called, performed};
-ghost use Rattle.tx_apply.specs.Done.{ended_of, CanEnd};
+ghost use Rattle.tx_apply.specs.Performed.{ended, called, performed};
+ghost use Rattle.tx_steps.specs.Effects.{ended_of, CanEnd};
 ghost use Rattle.tx_apply.specs.Watching.{HasSeen, called_accesses, body_accesses, accesses_of};
 
 use crate::authority::{Authority, authority_of};
 use crate::call::call;
-use crate::checks::refusal_of;
-use crate::extend::{extensions, may_extend};
-use crate::footprint::{read_only_of, read_write_of};
-use crate::results::{TransactionDone, failed, nothing_used, one_result, without_effect};
 use code_cache::Cache;
 use contract_storage::Watch;
 use entry_lookup::Ground;
 use invoke_types::HostFunction;
 use ledger_types::{Header, Verdicts};
 use std::alloc::Global;
-use tx_results::{ExtendResult, InnerResult, OperationResult, TransactionOutcome};
+use tx_results::{OperationResult, TransactionOutcome};
+use tx_steps::{TransactionDone, extend_footprint, failed, refusal_of, without_effect};
 use tx_xdr::{Operation, OperationBody, Transaction, TransactionExt};
-use value_types::Items;
 use xdr_core::NoMemory;
-
-fn extension(result_of_extend: ExtendResult) -> OperationResult
-    ensures { result ≡ OperationResult.Inner (InnerResult.Extend result_of_extend) }
-{
-    OperationResult::Inner(InnerResult::Extend(result_of_extend))
-}
-
-/// Runs EXTEND_FOOTPRINT_TTL.
-fn extend<G: Ground, W: Watch>(
-    alloc: Global,
-    ground: &G,
-    header: &Header,
-    tx: &Transaction,
-    extend_to: u32,
-    watch: W,
-) -> Result<TransactionDone<W>, NoMemory>
-    requires read_only { All (λ key. key_format.fits key) (footprint_of tx.now).read_only }
-    requires settings { IsTrue (are_settings header.now.settings) }
-    requires next { IsTrue (has_next header.now) }
-    ensures done { IfOk result (λ done. ended_of done ≡ extended header.now (G.map ground.now) (footprint_of tx.now) extend_to) }
-    ensures can { IfOk result (λ done. CanEnd (ended_of done)) }
-    ensures watch { IfOk result (λ done. done.watch ≡ watch) }
-{
-    let keys = read_only_of(tx);
-    if !may_extend(&header.settings, keys, read_write_of(tx), extend_to) {
-        return failed(alloc, extension(ExtendResult::Malformed), watch);
-    }
-    let n = header.seq + 1;
-    let extensions = extensions(alloc, ground, n, keys, n + extend_to)?;
-    let results = one_result(alloc, extension(ExtendResult::Success))?;
-    Ok(TransactionDone {
-        outcome: TransactionOutcome::Success(results),
-        success: None,
-        changes: Items::from_vec(Vec::new(alloc)),
-        extensions: Items::from_vec(extensions),
-        used: nothing_used(),
-        watch,
-    })
-}
 
 /// Runs INVOKE_HOST_FUNCTION with the resources that the transaction declares.
 fn call_with<G: Ground, W: Watch>(
@@ -130,7 +87,7 @@ fn perform<G: Ground, W: Watch>(
 {
     match &operation.body {
         OperationBody::ExtendFootprintTtl { extend_to } => {
-            extend(alloc, ground, header, tx, *extend_to, watch)
+            extend_footprint(alloc, ground, header, tx, *extend_to, watch)
         }
         OperationBody::RestoreFootprint => failed(alloc, OperationResult::NotSupported, watch),
         OperationBody::InvokeHostFunction {

@@ -1,7 +1,6 @@
 use Rattle.tx_results.specs.declared.operation.InvokeResult.TheVariants as invokes
-use Rattle.tx_apply.specs.Outcomes.{unsuccessful}
-use Rattle.tx_apply.proofs.Effects.{call_failed_can, limit_fits, malformed_call_fits, archived_fits}
-use Rattle.tx_apply.proofs.Mapped.{can_from}
+use Rattle.tx_steps.specs.Outcomes.{unsuccessful}
+use Rattle.tx_steps.proofs.Lemmas.{call_failed_can, limit_fits, malformed_call_fits, archived_fits, can_from}
 use Rattle.tx_apply.proofs.call.call_over.Goals as goal
 
 pub returns-in_default-clause-can : goal.returns-in_default-clause-can

@@ -7,11 +7,11 @@ use Rattle.call_spec.specs.WholeRuns.{meter_of, whole}
 use Rattle.call_spec.specs.Invoked as spec
 use Rattle.call_spec.specs.Invoked.{by_run}
 use Rattle.tx_apply.specs.Authorities.{authority_in}
-use Rattle.tx_apply.specs.Jobs.{work_in}
-use Rattle.tx_apply.specs.Running.{result_of}
-use Rattle.tx_apply.specs.Outcomes.{ended_of_call}
+use Rattle.tx_steps.specs.Jobs.{work_in}
+use Rattle.tx_steps.specs.CallResults.{result_of}
+use Rattle.tx_steps.specs.Outcomes.{ended_of_call}
 use Rattle.tx_apply.proofs.Running.{whole_entered, stopped_comes, meter_is}
-use Rattle.tx_apply.proofs.Mapped.{done_from, ended_done, ended_can}
+use Rattle.tx_steps.proofs.Lemmas.{done_from, ended_done, ended_can}
 use Rattle.tx_apply.proofs.Arguments.{passed_arguments, stopped_arguments, encodable_arguments}
 use Rattle.tx_apply.proofs.Watching.{entered_seen, stopped_seen, seen_as, seen_stopped}
 use Rattle.tx_apply.proofs.call.enter_and_run.Goals as goal

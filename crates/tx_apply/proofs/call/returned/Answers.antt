@@ -7,10 +7,9 @@ use Rattle.contract_storage.specs.Differences.{AreDifferences}
 use Rattle.contract_storage.specs.declared.changes.Change.{Change}
 use Rattle.call_spec.specs.Invoked as spec
 use Rattle.call_spec.specs.Invoked.{written_bytes}
-use Rattle.tx_apply.specs.Outcomes.{unsuccessful, ended_of_call}
-use Rattle.tx_apply.specs.Running.{successful_with}
-use Rattle.tx_apply.proofs.Effects.{call_failed_can, limit_fits}
-use Rattle.tx_apply.proofs.Mapped.{can_from, done_from}
+use Rattle.tx_steps.specs.Outcomes.{unsuccessful, ended_of_call}
+use Rattle.tx_steps.specs.CallResults.{successful_with}
+use Rattle.tx_steps.proofs.Lemmas.{call_failed_can, limit_fits, can_from, done_from}
 use Rattle.tx_apply.proofs.call.returned.Goals as goal
 
 pub returns-then-writes_more-clause-done : goal.returns-then-writes_more-clause-done

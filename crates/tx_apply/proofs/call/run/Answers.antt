@@ -20,11 +20,12 @@ use Rattle.contract_call.specs.Ended.{UnlessMemory}
 use Rattle.contract_call.specs.Placed.{IsPathFor}
 use Rattle.contract_call.specs.Traced.{IsTold}
 use Rattle.tx_apply.specs.Authorities.{authority_in}
-use Rattle.tx_apply.specs.Jobs.{work_in}
-use Rattle.tx_apply.specs.Running.{entered_run, result_of}
-use Rattle.tx_apply.specs.Outcomes.{ended_of_call}
+use Rattle.tx_steps.specs.Jobs.{work_in}
+use Rattle.tx_steps.specs.CallResults.{result_of}
+use Rattle.tx_apply.specs.Running.{entered_run}
+use Rattle.tx_steps.specs.Outcomes.{ended_of_call}
 use Rattle.tx_apply.specs.Watching.{HasSeen, entered_accesses}
-use Rattle.tx_apply.proofs.Mapped.{done_from, ended_done, ended_can}
+use Rattle.tx_steps.proofs.Lemmas.{done_from, ended_done, ended_can}
 use Rattle.tx_apply.proofs.Running.{new_starts, started_comes}
 use Rattle.tx_apply.proofs.Watching.{run_seen, seen_after, seen_ended}
 use Rattle.tx_apply.proofs.call.run.Goals as goal

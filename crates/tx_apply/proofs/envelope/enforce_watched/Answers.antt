@@ -6,8 +6,8 @@ use Rattle.tx_results.specs.Report.{has_preimage}
 use Rattle.tx_results.specs.Results.{outcome_in}
 use Rattle.tx_results.specs.declared.results.TransactionResultPair.{TransactionResultPair}
 use Rattle.apply_spec.proofs.Lemmas.{step_framed}
-use Rattle.tx_apply.specs.Outcomes.{ended}
-use Rattle.tx_apply.specs.Done.{ended_of}
+use Rattle.tx_apply.specs.Performed.{ended}
+use Rattle.tx_steps.specs.Effects.{ended_of}
 use Rattle.tx_apply.proofs.Told.{told_done, told_same}
 use Rattle.tx_apply.proofs.envelope.enforce_watched.Goals as goal
 

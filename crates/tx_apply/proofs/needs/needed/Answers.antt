@@ -1,7 +1,7 @@
 use Rattle.std.proofs.Common.{sym, subst, ◌∙◌}
 use Rattle.tx_xdr.specs.Soroban.{footprint_format}
 use Rattle.tx_apply.proofs.Fitting.{body_at}
-use Rattle.tx_apply.proofs.Simulation.{declared_fits}
+use Rattle.tx_steps.proofs.Lemmas.{declared_fits}
 use Rattle.tx_apply.proofs.needs.needed.Goals as goal
 
 pub returns-in-Some-clause-fits : goal.returns-in-Some-clause-fits

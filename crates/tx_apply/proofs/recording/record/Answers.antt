@@ -1,7 +1,7 @@
 use Rattle.std.proofs.Common.{◌≡◌}
 use Rattle.call_spec.specs.WholeRuns.{meter_of}
 use Rattle.tx_apply.specs.Authorities.{authority_in}
-use Rattle.tx_apply.specs.Jobs.{work_in}
+use Rattle.tx_steps.specs.Jobs.{work_in}
 use Rattle.tx_apply.proofs.Running.{meter_is}
 use Rattle.tx_apply.proofs.Arguments.{passed_arguments, stopped_arguments, encodable_arguments}
 use Rattle.tx_apply.proofs.Needing.{whole_needs, no_needs}

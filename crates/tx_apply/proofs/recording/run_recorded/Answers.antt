@@ -8,7 +8,7 @@ use Rattle.contract_call.specs.Traced.{IsRecorded}
 use Rattle.call_spec.specs.World.{Authority}
 use Rattle.contract_call.specs.Placed.{IsPathFor}
 use Rattle.tx_apply.specs.Authorities.{authority_in}
-use Rattle.tx_apply.specs.Jobs.{work_in}
+use Rattle.tx_steps.specs.Jobs.{work_in}
 use Rattle.tx_apply.proofs.Running.{new_starts}
 use Rattle.tx_apply.proofs.Needing.{run_needs}
 use Rattle.tx_apply.proofs.recording.run_recorded.Goals as goal

@@ -4,8 +4,7 @@ use Rattle.host_spec.specs.Ends.{host_end}
 use Rattle.host_spec.specs.declared.error.ValueErr.{ValueErr}
 use Rattle.host_spec.specs.declared.error.HostErr.{HostErr}
 use Rattle.tx_apply.specs.Running.{Charges}
-use Rattle.tx_apply.proofs.Mapped.{by_error}
-use Rattle.tx_apply.proofs.Ending.{charge_refused}
+use Rattle.tx_apply.proofs.Ending.{by_error, charge_refused}
 use Rattle.tx_apply.proofs.run.charged.Goals as goal
 
 pub returns-in_err-charge_value : goal.returns-in_err-charge_value

@@ -4,9 +4,9 @@ use Rattle.value_types.specs.Views.{datum}
 use Rattle.call_spec.specs.WholeRuns.{creating}
 use Rattle.call_spec.specs.Creating.{Creation}
 use Rattle.contract_call.specs.Ended.{Ends, EndsRecorded}
-use Rattle.tx_apply.specs.Jobs.{work_in}
+use Rattle.tx_steps.specs.Jobs.{work_in}
 use Rattle.tx_apply.specs.Watching.{Told}
-use Rattle.tx_apply.specs.declared.job.Job.{Job}
+use Rattle.tx_steps.specs.declared.job.Job.{Job}
 use Rattle.tx_apply.proofs.run.perform.Goals as goal
 
 pub returns-in-Call-clause-ends : goal.returns-in-Call-clause-ends

@@ -1,4 +1,4 @@
-use Rattle.tx_apply.specs.Jobs.{work_in}
+use Rattle.tx_steps.specs.Jobs.{work_in}
 use Rattle.tx_apply.proofs.Ending.{charged_ends, failed_ends, charged_recorded, failed_recorded}
 use Rattle.tx_apply.proofs.Watching.{told_charged}
 use Rattle.tx_apply.proofs.run.run_told.Goals as goal

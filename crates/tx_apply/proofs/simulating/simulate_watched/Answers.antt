@@ -5,7 +5,7 @@ use Rattle.tx_xdr.specs.declared.transaction.Transaction.{Transaction}
 use Rattle.tx_xdr.proofs.Lemmas.{transaction_in_fits}
 use Rattle.apply_spec.specs.Simulated.{with_footprint, needs}
 use Rattle.tx_apply.specs.Done.{effect_of}
-use Rattle.tx_apply.specs.Needed.{needs_in}
+use Rattle.tx_steps.specs.Needed.{needs_in}
 use Rattle.tx_apply.proofs.Simulation.{simulated_is, enforced_elsewhere, smaller_trap}
 use Rattle.tx_apply.proofs.simulating.simulate_watched.Goals as goal
 

@@ -1,6 +1,6 @@
 use Rattle.std.proofs.Common.{sym, subst}
-use Rattle.tx_apply.specs.Done.{CanEnd}
-use Rattle.tx_apply.proofs.Effects.{malformed_can}
+use Rattle.tx_steps.specs.Effects.{CanEnd}
+use Rattle.tx_steps.proofs.Lemmas.{malformed_can}
 use Rattle.tx_apply.proofs.transaction.call_with.Goals as goal
 
 pub returns-in-None-clause-can : goal.returns-in-None-clause-can

@@ -6,10 +6,9 @@ use Rattle.tx_xdr.specs.declared.transaction.OperationBody.{OperationBody}
 use Rattle.tx_results.specs.declared.operation.OperationResult.TheVariants.{NotSupported}
 use Rattle.tx_results.specs.declared.results.TransactionOutcome.TheVariants.{Failed}
 use Rattle.call_spec.specs.World.{Authority}
-use Rattle.tx_apply.specs.Outcomes.{without_effect}
-use Rattle.tx_apply.proofs.Effects.{restore_can}
+use Rattle.tx_steps.specs.Outcomes.{without_effect}
+use Rattle.tx_steps.proofs.Lemmas.{restore_can, can_from}
 use Rattle.tx_apply.proofs.Fitting.{auth_fits, function_fits}
-use Rattle.tx_apply.proofs.Mapped.{can_from}
 use Rattle.tx_apply.proofs.transaction.perform.Goals as goal
 
 pub call_with-requires-clause-function : goal.call_with-requires-clause-function

@@ -1,7 +1,7 @@
 use Rattle.std.proofs.Common.{sym, subst, ◌∙◌}
-use Rattle.tx_apply.specs.Done.{CanEnd}
+use Rattle.tx_steps.specs.Effects.{CanEnd}
 use Rattle.stage_runs.proofs.Lemmas.{declared_spelled}
-use Rattle.tx_apply.proofs.Effects.{refused_can}
+use Rattle.tx_steps.proofs.Lemmas.{refused_can}
 use Rattle.tx_apply.proofs.Fitting.{body_at}
 use Rattle.tx_apply.proofs.transaction.run_transaction.Goals as goal
 

@@ -1,5 +1,0 @@
-use Rattle.tx_apply.proofs.ByKey.{unchanged_at}
-use Rattle.tx_apply.proofs.changes.extension.Goals as goal
-
-pub returns-in_default : goal.returns-in_default
-returns-in_default g c = unchanged_at (g.G.Ground.map c.args.ground.now) c.args.changed.now.entries c.args.key.now c.in_default.ensures.value

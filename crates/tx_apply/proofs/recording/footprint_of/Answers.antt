@@ -1,6 +1,0 @@
-use Rattle.tx_apply.proofs.Recorded.{footprint_fits}
-use Rattle.tx_apply.proofs.recording.footprint_of.Goals as goal
-
-pub returns-clause-fits : goal.returns-clause-fits
-returns-clause-fits c =
-    footprint_fits c.args.touches.now c.in_ok-read_only.read_only c.in_ok-read_write.read_write c.requires c.in_ok-read_only.ensures c.in_ok-read_write.ensures

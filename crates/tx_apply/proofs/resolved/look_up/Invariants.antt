@@ -1,6 +1,0 @@
-use Rattle.std.specs.List.{AllByRecursion}
-use Rattle.tx_apply.specs.Resolved.{IsRight}
-use Rattle.tx_apply.proofs.resolved.look_up.Given as goal
-
-abbrev pub invariant-loop-key : goal.invariant-loop-key
-invariant-loop-key g l = AllByRecursion (IsRight (g.G.Ground.map l.ground)) l.rows.items

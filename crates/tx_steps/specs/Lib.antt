@@ -1,0 +1,9 @@
+pub mod Outcomes
+pub mod Effects
+pub mod CallResults
+pub mod Spellings
+pub mod Jobs
+pub mod Needed
+pub mod Touched
+pub mod Changed
+pub mod Resolved
