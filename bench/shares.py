@@ -21,7 +21,7 @@ COUNT = 10_000
 # What the names of a part's functions begin with. The first part decides; the compiler puts the machine into the functions of
 # `contract_call` that run it.
 PARTS = [
-    ("reading the set and the ledger", ["soroban_top::spelled::", "soroban_top::judged::", "ledger_file::reading::"]),
+    ("reading the set and the ledger", ["command_io::decode::", "command_io::inputs::", "ledger_file::reading::"]),
     ("conflicts of the stages", ["stage_plan::"]),
     ("checks, limits and changes of transactions", ["tx_steps::", "tx_apply::", "ledger_apply::"]),
     ("reading and checking the module", ["module_loader::", "wasm_read::", "wasm_check::", "wasm_code::", "host_interface::"]),
@@ -32,11 +32,11 @@ PARTS = [
     ("finding the contract and its code", ["contract_call::", "call_host::", "call_parts::"]),
     ("host functions and their storage", ["host_acts::", "host_ledger::", "host_values::", "host_frame::", "object_store::"]),
     ("hashing", ["sha2::", "tx_xdr::hashing::", "ledger_types::keys::key_hash"]),
-    ("writing the report and the ledger", ["ledger_file::writing::", "tx_results::", "soroban_top::outputs::"]),
+    ("writing the report and the ledger", ["ledger_file::writing::", "tx_results::", "soroban_top::outputs::", "command_io::report::"]),
 ]
 # The part of functions that are below no function of a part.
 ELSE = [
-    ("reading the set and the ledger", ["value_xdr::xdr::Xdr::read", "soroban_top::drive::read_file"]),
+    ("reading the set and the ledger", ["value_xdr::xdr::Xdr::read", "command_io::files::read_file"]),
     ("writing the report and the ledger", ["value_xdr::xdr::Xdr::write", "xdr_core::out::"]),
 ]
 # What a line below the parts counts: functions with all that they call.

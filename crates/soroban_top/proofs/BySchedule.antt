@@ -15,13 +15,13 @@ use Rattle.stage_runs.specs.Conflicts.{IsFirstConflict}
 use Rattle.stage_runs.specs.Runs.{HasNoConflict}
 use Rattle.tx_xdr.specs.declared.set.TxSet.{TxSet}
 use Rattle.xdr_spec.proofs.Lemmas.{spells_decoded}
+use Rattle.command_io.specs.Steps.{◌>>=◌}
+use Rattle.command_io.specs.declared.status.Status.{Status}
+use Rattle.command_io.specs.declared.status.Status.TheVariants.{Conflict, Incomplete}
 use Rattle.soroban_top.specs.FirstConflict.{stages_in}
 use Rattle.soroban_top.specs.Laws.{AllStepsLaw, CanRun, IsScheduled}
 use Rattle.soroban_top.specs.Scheduled.{complete_for, may_run, scheduled_at, outputs_of, outputs_stopped, schedule_in, unless_incomplete}
-use Rattle.soroban_top.specs.Steps.{◌>>=◌}
 use Rattle.soroban_top.specs.declared.scheduled.ScheduledSteps.{ScheduledSteps}
-use Rattle.soroban_top.specs.declared.status.Status.{Status}
-use Rattle.soroban_top.specs.declared.status.Status.TheVariants.{Conflict, Incomplete}
 use Rattle.soroban_top.proofs.Made.{conflict_is, free_is}
 
 -- the order that is read

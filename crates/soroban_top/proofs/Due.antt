@@ -22,17 +22,17 @@ use Rattle.xdr_spec.specs.Refusal.{Refuses}
 use Rattle.xdr_spec.specs.declared.Why.{Why}
 use Rattle.xdr_spec.specs.declared.XdrErr.{XdrErr}
 use Rattle.xdr_spec.proofs.Lemmas.{decoded_refuses, spells_decoded}
+use Rattle.command_io.specs.Inputs.{as_verdicts, envelope_in, set_in, verdicts_in}
+use Rattle.command_io.specs.Product.{Made, file}
+use Rattle.command_io.specs.Steps.{◌>>=◌, status_of}
+use Rattle.command_io.specs.declared.status.Status.{Status}
+use Rattle.command_io.specs.declared.status.Status.TheVariants as status
+use Rattle.command_io.proofs.Lemmas.{refuses_decoded}
 use Rattle.soroban_top.specs.FirstConflict.{FoundConflict, first_conflict, free_of_conflict, stages_in, unless_found}
-use Rattle.soroban_top.specs.Judged.{as_verdicts, envelope_in, set_in, verdicts_in}
 use Rattle.soroban_top.specs.Laws.{CanRun, ConflictLaw, DoneLaw, IncompleteLaw, IsIncompleteAt, MalformedLaw, ScheduleLaw, SimulateDoneLaw, SimulateMalformedLaw, SimulateVerdictsLaw, VerdictsLaw}
 use Rattle.soroban_top.specs.Scheduled.{as_schedule, complete_for, with_steps, schedule_in, unless_incomplete}
 use Rattle.soroban_top.specs.Outcome.{applied_by, simulated, simulation_of}
-use Rattle.soroban_top.specs.Product.{Made, file}
-use Rattle.soroban_top.specs.Steps.{◌>>=◌, status_of}
 use Rattle.soroban_top.specs.declared.scheduled.ScheduledSteps.{ScheduledSteps}
-use Rattle.soroban_top.specs.declared.status.Status.{Status}
-use Rattle.soroban_top.specs.declared.status.Status.TheVariants as status
-use Rattle.soroban_top.proofs.Decoding.{refuses_decoded}
 use Rattle.soroban_top.proofs.FirstConflicts.{first_conflict_is, no_conflict_is}
 use Rattle.soroban_top.proofs.Later.{envelope_file, never_verdicts, of_scheduled, of_run, scheduled_or_not, run_or_not, set_file}
 use Rattle.soroban_top.proofs.BySchedule.{scheduled_found}

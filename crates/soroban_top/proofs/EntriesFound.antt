@@ -3,10 +3,10 @@ use Rattle.std.proofs.Common.{refl}
 use Rattle.tx_xdr.specs.Envelope.{envelope_format, envelope_lawful}
 use Rattle.tx_xdr.specs.declared.envelope.Envelope.{Envelope}
 use Rattle.xdr_spec.proofs.Lemmas.{spells_decoded}
+use Rattle.command_io.specs.Inputs.{envelope_in}
+use Rattle.command_io.specs.Product.{file}
 use Rattle.soroban_top.specs.EntriesRecorded.{entries_stored, recorded_for}
-use Rattle.soroban_top.specs.Judged.{envelope_in}
 use Rattle.soroban_top.specs.Laws.{RecordDoneLaw, RecordLaw, RecordMalformedLaw}
-use Rattle.soroban_top.specs.Product.{file}
 use Rattle.soroban_top.proofs.Statuses.{done_due, malformed_due}
 
 pub record_malformed : RecordMalformedLaw

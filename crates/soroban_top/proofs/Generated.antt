@@ -93,6 +93,6 @@ gen_law g m few = (
     spells_set = record { fits = generated_set_fits g.count g.seed few; bytes-is = refl };
     is_ledger = ledger_is_file;
     spells_verdicts = record { fits = (omega arith, omega arith, tt); bytes-is = refl };
-    says = ap (made_line g.count) (sym (stages_counted g.count g.seed));
+    lines = ap (made_line g.count) (sym (stages_counted g.count g.seed));
   },
 )

@@ -19,14 +19,13 @@ use Rattle.tx_xdr.specs.declared.set.TxSet.{TxSet}
 use Rattle.xdr_spec.specs.Decoded.{decoded}
 use Rattle.xdr_spec.specs.declared.Why.{Why}
 use Rattle.xdr_spec.specs.declared.XdrErr.{XdrErr}
+use Rattle.command_io.specs.Inputs.{as_bytes, as_spelled, as_verdicts, bytes_of, envelope_in, envelope_opened, opened, set_in, set_opened, verdicts_in, list_in}
+use Rattle.command_io.specs.Steps.{◌>>=◌, status_of}
+use Rattle.command_io.specs.declared.status.Status.{Status}
+use Rattle.command_io.specs.declared.status.Status.TheVariants as status
 use Rattle.soroban_top.specs.FirstConflict.{FoundConflict, first_conflict, free_of_conflict, stages_in, unless_found}
-use Rattle.soroban_top.specs.Judged.{as_bytes, as_spelled, as_verdicts, bytes_of, envelope_in, envelope_opened, opened, set_in, set_opened, verdicts_in}
 use Rattle.soroban_top.specs.Scheduled.{as_schedule, complete_for, may_run, scheduled_at, with_steps, schedule_in, unless_incomplete}
-use Rattle.soroban_top.specs.SetBuilt.{list_in}
-use Rattle.soroban_top.specs.Steps.{◌>>=◌, status_of}
 use Rattle.soroban_top.specs.declared.scheduled.ScheduledSteps.{ScheduledSteps}
-use Rattle.soroban_top.specs.declared.status.Status.{Status}
-use Rattle.soroban_top.specs.declared.status.Status.TheVariants as status
 
 -- what holds of each status that a command can end with after a set or an envelope was read
 pub record AfterSet (P : Status → Type 0) : Type 0 where

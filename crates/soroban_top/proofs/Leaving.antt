@@ -2,13 +2,12 @@
 use Rattle.std.proofs.Common.{◌≡◌, ℕ, List, [], ◌∷◌, Option, Some, None, IfSome, Result, Ok, Err, inl, inr}
 use Rattle.command_words.specs.declared.request.Request.{Request}
 use Rattle.edge_io.specs.Contents.{Contents, FileMap}
-use Rattle.soroban_top.specs.Counts.{HasCause, HasFaulted}
-use Rattle.soroban_top.specs.Product.{File, Job, Made}
-use Rattle.soroban_top.specs.Left.{IsNameOf, Leaves, StoresPrefix}
-use Rattle.soroban_top.specs.Outcome.{ReadsWords}
-use Rattle.soroban_top.specs.Steps.{UnlessFault}
-use Rattle.soroban_top.specs.declared.status.Status.{Status}
-use Rattle.soroban_top.specs.declared.status.Status.TheVariants.{Done, Fault, NoMemory, Usage}
+use Rattle.command_io.specs.Counts.{HasCause, HasFaulted}
+use Rattle.command_io.specs.Left.{IsNameOf, Leaves, StoresPrefix}
+use Rattle.command_io.specs.Product.{File, Job, Made}
+use Rattle.command_io.specs.Steps.{ReadsWords, UnlessFault}
+use Rattle.command_io.specs.declared.status.Status.{Status}
+use Rattle.command_io.specs.declared.status.Status.TheVariants.{Done, Fault, NoMemory, Usage}
 
 -- a fault is of one of the files
 name_of_fault : (files : List File) (name : List ℕ) (old new : ℕ → ℕ) → HasFaulted files name old new → IsNameOf files name

@@ -28,21 +28,19 @@ use Rattle.xdr_spec.specs.Format.{IsBytes}
 use Rattle.xdr_spec.specs.Refusal.{Refuses}
 use Rattle.xdr_spec.specs.declared.Why.{Why}
 use Rattle.xdr_spec.proofs.Lemmas.{spells_decoded}
+use Rattle.command_io.specs.Inputs.{as_ledger, envelope_in, ledger_at, ledger_in, set_at, set_in, verdicts_at, verdicts_in, any_ledger_in}
+use Rattle.command_io.specs.Product.{Made, file}
+use Rattle.command_io.specs.Steps.{◌>>=◌, status_of}
+use Rattle.command_io.specs.declared.status.Status.{Status}
+use Rattle.command_io.specs.declared.status.Status.TheVariants as status
 use Rattle.soroban_top.specs.EntriesRecorded.{entries_stored, recorded_for}
 use Rattle.soroban_top.specs.FirstConflict.{free_of_conflict, stages_in}
-use Rattle.soroban_top.specs.Judged.{as_ledger, envelope_in, ledger_at, ledger_in, set_at, set_in, verdicts_at, verdicts_in}
-use Rattle.soroban_top.specs.Laws.{RecordLedgerLaw, RecordNoLedgerLaw}
-use Rattle.soroban_top.specs.Laws.{AppliedLaw, CanRun, found, IsFree, IsScheduled, IsSpelledIn, LedgerDoneLaw, LedgerLaw, LedgerShownLaw, MigrateDoneLaw, MigrateLaw, MigrateRefusedLaw, NoLedgerLaw, SimulateEnforcedLaw, SimulateLaw, SimulateLedgerLaw, SimulateNoLedgerLaw, StoppedLaw, WholeLaw}
+use Rattle.soroban_top.specs.Laws.{RecordLedgerLaw, RecordNoLedgerLaw, AppliedLaw, CanRun, found, IsFree, IsScheduled, IsSpelledIn, LedgerDoneLaw, LedgerLaw, LedgerShownLaw, MigrateDoneLaw, MigrateLaw, MigrateRefusedLaw, NoLedgerLaw, SimulateEnforcedLaw, SimulateLaw, SimulateLedgerLaw, SimulateNoLedgerLaw, StoppedLaw, WholeLaw}
 use Rattle.soroban_top.specs.LogStored.{log_bytes}
 use Rattle.soroban_top.specs.Migrated.{migrated}
 use Rattle.soroban_top.specs.Scheduled.{complete_for, may_run, outputs_of, outputs_stopped, scheduled_at}
 use Rattle.soroban_top.specs.Outcome.{applied, applied_by, only_said, simulated, simulation_of}
-use Rattle.soroban_top.specs.Product.{Made, file}
-use Rattle.soroban_top.specs.Shown.{any_ledger_in}
-use Rattle.soroban_top.specs.Steps.{◌>>=◌, status_of}
 use Rattle.soroban_top.specs.declared.scheduled.ScheduledSteps.{ScheduledSteps}
-use Rattle.soroban_top.specs.declared.status.Status.{Status}
-use Rattle.soroban_top.specs.declared.status.Status.TheVariants as status
 use Rattle.soroban_top.proofs.FirstConflicts.{no_conflict_is}
 use Rattle.soroban_top.proofs.Later.{envelope_file, never_ledger, set_file, verdicts_file}
 use Rattle.soroban_top.proofs.BySchedule.{same_after, scheduled_found, whole_outputs}

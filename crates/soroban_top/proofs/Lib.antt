@@ -1,6 +1,4 @@
 mod BySchedule
-mod Causes
-mod Decoding
 mod Due
 mod EntriesFound
 mod FirstConflicts
@@ -11,14 +9,10 @@ mod Ledgers
 mod ListsApplied
 mod Logging
 mod Made
-mod Pieces
 mod Present
-mod PutTogether
 mod Replays
-mod Saying
 mod SetsBuilt
 mod Shows
 mod Simulations
 mod Statuses
-mod Storing
 mod Vets

@@ -20,17 +20,16 @@ use Rattle.tx_xdr.specs.Envelope.{envelope_format}
 use Rattle.tx_xdr.specs.declared.envelope.Envelope.{Envelope}
 use Rattle.xdr_spec.specs.Format.{list}
 use Rattle.xdr_spec.proofs.Lemmas.{spells_decoded}
-use Rattle.soroban_top.specs.Judged.{ledger_in, verdicts_in}
+use Rattle.command_io.specs.Inputs.{ledger_in, verdicts_in, list_in}
+use Rattle.command_io.specs.Product.{file}
+use Rattle.command_io.proofs.Lemmas.{envelopes_lawful}
 use Rattle.soroban_top.specs.ListApplied.{kept_line, outputs_of_list, with_kept}
 use Rattle.soroban_top.specs.ListLaws.{ListAppliedLaw, ListDoneLaw, ListLedgerLaw, ListMalformedLaw, ListNoLedgerLaw, ListVerdictsLaw}
 use Rattle.soroban_top.specs.Outcome.{applied}
-use Rattle.soroban_top.specs.Product.{file}
-use Rattle.soroban_top.specs.SetBuilt.{list_in}
 use Rattle.soroban_top.proofs.Due.{verdicts_due}
 use Rattle.soroban_top.proofs.Later.{list_file, never_ledger, never_verdicts, verdicts_file}
 use Rattle.soroban_top.proofs.Ledgers.{ledger_due, no_ledger}
 use Rattle.soroban_top.proofs.Made.{outputs_applied, outputs_made_of}
-use Rattle.soroban_top.proofs.SetsBuilt.{envelopes_lawful}
 use Rattle.soroban_top.proofs.Statuses.{done_due, malformed_due}
 
 pub list_ledger : ListLedgerLaw

@@ -17,19 +17,19 @@ use Rattle.ledger_spec.specs.LedgerMap.{LedgerMap, IsLedgerMap}
 use Rattle.ledger_types.specs.declared.header.Header.{Header}
 use Rattle.ledger_types.specs.declared.verdicts.Verdicts.{Verdicts}
 use Rattle.tx_xdr.specs.declared.set.TxSet.{TxSet}
+use Rattle.command_io.specs.Inputs.{ledger_at, set_at, verdicts_at}
+use Rattle.command_io.specs.Left.{Leaves}
+use Rattle.command_io.specs.Lines.{Finishes}
+use Rattle.command_io.specs.Product.{Made}
+use Rattle.command_io.specs.Steps.{Gives, status_of, viewed}
+use Rattle.command_io.specs.declared.status.Status.{Status}
 use Rattle.soroban_top.specs.Asked.{log_asked, log_files, reads_named}
 use Rattle.soroban_top.specs.Ends.{Ends, outside}
-use Rattle.soroban_top.specs.Judged.{ledger_at, set_at, verdicts_at}
-use Rattle.soroban_top.specs.Left.{Leaves}
-use Rattle.soroban_top.specs.Lines.{Finishes}
 use Rattle.soroban_top.specs.LogPlays.{LogPlays, LogPlaysIf, SetPlays}
 use Rattle.soroban_top.specs.LogStored.{log_after, log_bytes, log_target, logs_by, with_log}
 use Rattle.soroban_top.specs.Outcome.{applied_by, outcome_if, outcome_of, says_of}
-use Rattle.soroban_top.specs.Product.{Made}
 use Rattle.soroban_top.specs.Scheduled.{may_run, scheduled_at}
-use Rattle.soroban_top.specs.Steps.{Gives, status_of, viewed}
 use Rattle.soroban_top.specs.declared.scheduled.ScheduledSteps.{ScheduledSteps}
-use Rattle.soroban_top.specs.declared.status.Status.{Status}
 
 -- ---- a log, if one is kept
 
@@ -191,14 +191,14 @@ none_kept (Ok x) scheduled s logs P is = λ e.
 none_kept (Err e) scheduled s logs P is = tt
 
 -- how a command ended, from what it came to and how that was printed
-pub ends_known : {Z : Type 0} (asked : Option Request) (known new : Contents) (came_to : Result (Vec ℕ Z) Status) (result : Status)
-    (text after : Option (List ℕ)) → IfSome known (λ m. Gives (λ v. v.items) came_to (says_of (outcome_if asked m)))
-    → IfSome known (λ m. Leaves (status_of came_to) (reads_named asked) (outcome_if asked m) known new)
-    → Finishes (viewed (λ v. v.items) came_to) result text after
-    → IfOk came_to (λ x. IfSome known (λ m. LogPlaysIf asked m))
+pub ends_known : {Z : Type 0} (asked : Option Request) (known new : Contents) (outcome : Result (Vec ℕ Z) Status) (result : Status)
+    (text after : Option (List ℕ)) → IfSome known (λ m. Gives (λ v. v.items) outcome (says_of (outcome_if asked m)))
+    → IfSome known (λ m. Leaves (status_of outcome) (reads_named asked) (outcome_if asked m) known new)
+    → Finishes (viewed (λ v. v.items) outcome) result text after
+    → IfOk outcome (λ x. IfSome known (λ m. LogPlaysIf asked m))
     → IfSome known (λ m. Ends asked m result (outside known text) (outside new after))
-ends_known asked None new came_to result text after due files said plays = tt
+ends_known asked None new outcome result text after due files said plays = tt
 ends_known asked (Some m) new (Ok v) result text after due files said plays =
-    record { came_to = Ok v.items; is_due = due; files = files; text = said; plays = plays }
+    record { outcome = Ok v.items; is_due = due; files = files; text = said; plays = plays }
 ends_known asked (Some m) new (Err status) result text after due files said plays =
-    record { came_to = Err status; is_due = due; files = files; text = said; plays = tt }
+    record { outcome = Err status; is_due = due; files = files; text = said; plays = tt }

@@ -15,8 +15,8 @@ use Rattle.tx_results.specs.Report.{report_bytes}
 use Rattle.tx_results.specs.declared.results.TransactionResultPair.{TransactionResultPair}
 use Rattle.tx_xdr.specs.declared.set.TxSet.{TxSet}
 use Rattle.xdr_spec.specs.Format.{number32, number64}
+use Rattle.command_io.specs.declared.status.Status.TheVariants.{Conflict}
 use Rattle.soroban_top.specs.FirstConflict.{free_of_conflict, stages_in, unless_found}
-use Rattle.soroban_top.specs.declared.status.Status.TheVariants.{Conflict}
 use Rattle.soroban_top.proofs.FirstConflicts.{first_conflict_is, no_conflict_is}
 
 -- the header of the ledger that follows can be written

@@ -27,10 +27,9 @@ use Rattle.tx_xdr.specs.declared.set.TxSet.{TxSet}
 use Rattle.value_types.specs.Formats.{scval_format}
 use Rattle.xdr_spec.specs.Decoded.{decoded}
 use Rattle.xdr_spec.specs.declared.XdrErr.{XdrErr}
+use Rattle.command_io.specs.Inputs.{AreThere, as_bytes, as_ledger, as_spelled, as_verdicts, bytes_of, content_of, envelope_at, envelope_in, envelope_opened, ledger_at, ledger_in, opened, set_at, set_in, set_opened, verdicts_at, verdicts_in, any_ledger_at, log_at, log_in, list_at, list_in, any_ledger_in, value_in}
 use Rattle.soroban_top.specs.Asked.{reads_named, schedule_files}
 use Rattle.soroban_top.specs.FirstConflict.{FoundConflict, first_conflict, free_of_conflict, stages_in, unless_found}
-use Rattle.soroban_top.specs.Judged.{AreThere, as_bytes, as_ledger, as_spelled, as_verdicts, bytes_of, content_of, envelope_at, envelope_in, envelope_opened, ledger_at, ledger_in, opened, set_at, set_in, set_opened, verdicts_at, verdicts_in}
-use Rattle.soroban_top.specs.Migrated.{any_ledger_at}
 use Rattle.soroban_top.specs.Scheduled.{as_schedule, complete_for, may_run, scheduled_at, schedule_at, schedule_in, unless_incomplete}
 use Rattle.soroban_top.specs.Outcome.{due}
 use Rattle.change_log.specs.Log.{log_format}
@@ -39,15 +38,14 @@ use Rattle.change_log.specs.declared.error.ListIndex.{ListIndex}
 use Rattle.change_log.specs.declared.log.Log.{Log}
 use Rattle.ledger_spec.specs.LedgerMap.{LedgerMap}
 use Rattle.ledger_types.specs.declared.header.Header.{Header}
-use Rattle.soroban_top.specs.Product.{File, file}
-use Rattle.soroban_top.specs.Replayed.{log_at, log_in, played_ledger_at, played_to, replayed}
-use Rattle.soroban_top.specs.SetBuilt.{list_at, list_in}
-use Rattle.soroban_top.specs.Shown.{any_ledger_in, shown, shown_at, shown_opened, value_in}
-use Rattle.soroban_top.specs.Steps.{◌>>=◌, UnlessFault, status_of}
-use Rattle.soroban_top.specs.Vetted.{as_vetted, vetted, vetted_at}
+use Rattle.command_io.specs.Product.{File, file}
+use Rattle.command_io.specs.Shown.{shown, shown_at, shown_opened}
+use Rattle.command_io.specs.Steps.{◌>>=◌, UnlessFault, status_of}
+use Rattle.command_io.specs.Vetted.{as_vetted, vetted, vetted_at}
+use Rattle.command_io.specs.declared.status.Status.{Status}
+use Rattle.command_io.specs.declared.status.Status.TheVariants.{Fault, TooLong}
+use Rattle.soroban_top.specs.Replayed.{played_ledger_at, played_to, replayed}
 use Rattle.soroban_top.specs.declared.scheduled.ScheduledSteps.{ScheduledSteps}
-use Rattle.soroban_top.specs.declared.status.Status.{Status}
-use Rattle.soroban_top.specs.declared.status.Status.TheVariants.{Fault, TooLong}
 
 abbrev IsNoFault : Status → Type 0
 IsNoFault (Fault name) = ⊥

@@ -19,16 +19,14 @@ use Rattle.ledger_types.specs.declared.header.Header.{Header}
 use Rattle.xdr_spec.specs.Format.{number32, number64}
 use Rattle.xdr_spec.specs.declared.Why.{Why}
 use Rattle.xdr_spec.proofs.Lemmas.{spells_decoded}
+use Rattle.command_io.specs.Inputs.{content_of, ledger_in, log_in, any_ledger_in}
+use Rattle.command_io.specs.Product.{stored_and_said, File, file}
+use Rattle.command_io.specs.Steps.{status_of}
+use Rattle.command_io.specs.declared.status.Status.TheVariants as status
 use Rattle.soroban_top.specs.Laws.{PlayBackLaw, PlayDoneLaw, PlayLaw, PlayMalformedLaw, PlayThereLaw, PlayUnfitLaw}
 use Rattle.soroban_top.specs.LogPlays.{PlaysBetween}
-use Rattle.soroban_top.specs.Migrated.{stored_and_said}
-use Rattle.soroban_top.specs.Product.{File, file}
-use Rattle.soroban_top.specs.Judged.{content_of, ledger_in}
 use Rattle.soroban_top.specs.Outcome.{outcome_of}
-use Rattle.soroban_top.specs.Replayed.{log_in, played_ledger_at, played_line, played_to, replayed}
-use Rattle.soroban_top.specs.Shown.{any_ledger_in}
-use Rattle.soroban_top.specs.Steps.{status_of}
-use Rattle.soroban_top.specs.declared.status.Status.TheVariants as status
+use Rattle.soroban_top.specs.Replayed.{played_ledger_at, played_line, played_to, replayed}
 use Rattle.soroban_top.proofs.Statuses.{malformed_before, status_after}
 
 abbrev Played : Type 0

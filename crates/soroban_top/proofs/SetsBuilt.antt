@@ -1,16 +1,13 @@
 -- The status that is due of a list of envelopes, of what its file spells, and the set that is stored.
 use Rattle.std.proofs.Common.{refl}
-use Rattle.tx_xdr.specs.Envelope.{envelope_lawful}
-use Rattle.xdr_spec.specs.Laws.{IsFormat}
-use Rattle.xdr_spec.proofs.Lemmas.{list_lawful, spells_decoded}
+use Rattle.xdr_spec.proofs.Lemmas.{spells_decoded}
 use Rattle.set_build.specs.Built.{envelopes_format}
+use Rattle.command_io.specs.Inputs.{list_in}
+use Rattle.command_io.proofs.Lemmas.{envelopes_lawful}
+use Rattle.command_io.specs.Product.{file}
 use Rattle.soroban_top.specs.Laws.{BuildDoneLaw, BuildLaw, BuildMalformedLaw}
-use Rattle.soroban_top.specs.Product.{file}
-use Rattle.soroban_top.specs.SetBuilt.{list_in, set_built}
+use Rattle.soroban_top.specs.SetBuilt.{set_built}
 use Rattle.soroban_top.proofs.Statuses.{done_due, malformed_due}
-
-pub envelopes_lawful : IsFormat envelopes_format
-envelopes_lawful = list_lawful 4294967295 _ envelope_lawful
 
 pub build_malformed : BuildMalformedLaw
 unfolding list_in

@@ -8,11 +8,10 @@ use Rattle.value_types.specs.Formats.{scval_format}
 use Rattle.value_types.proofs.Lemmas.{scval_lawful}
 use Rattle.xdr_spec.specs.Decoded.{decoded}
 use Rattle.xdr_spec.specs.declared.XdrErr.{XdrErr}
-use Rattle.soroban_top.specs.Judged.{as_spelled, envelope_in, set_in}
+use Rattle.command_io.specs.Inputs.{as_spelled, envelope_in, set_in, value_in}
+use Rattle.command_io.specs.Steps.{◌>>=◌, status_of}
 use Rattle.soroban_top.specs.Laws.{EnvelopeDoneLaw, EnvelopeMalformedLaw, SetDoneLaw, SetMalformedLaw, ValueDoneLaw, ValueMalformedLaw}
 use Rattle.soroban_top.specs.Outcome.{only_said}
-use Rattle.soroban_top.specs.Shown.{value_in}
-use Rattle.soroban_top.specs.Steps.{◌>>=◌, status_of}
 use Rattle.soroban_top.proofs.Statuses.{done_due, malformed_due, spelled_status}
 
 -- what is made of the lines does not change the status

@@ -7,11 +7,11 @@ use Rattle.xdr_spec.specs.Refusal.{Refuses, Spells}
 use Rattle.xdr_spec.specs.declared.Why.{Why}
 use Rattle.xdr_spec.specs.declared.XdrErr.{XdrErr}
 use Rattle.xdr_spec.proofs.Lemmas.{decoded_refuses, decoded_spells, spells_decoded}
-use Rattle.soroban_top.specs.Judged.{as_spelled}
-use Rattle.soroban_top.specs.Steps.{◌>>=◌, status_of}
-use Rattle.soroban_top.specs.declared.status.Status.{Status}
-use Rattle.soroban_top.specs.declared.status.Status.TheVariants as status
-use Rattle.soroban_top.proofs.Decoding.{refuses_decoded}
+use Rattle.command_io.specs.Inputs.{as_spelled}
+use Rattle.command_io.specs.Steps.{◌>>=◌, status_of}
+use Rattle.command_io.specs.declared.status.Status.{Status}
+use Rattle.command_io.specs.declared.status.Status.TheVariants as status
+use Rattle.command_io.proofs.Lemmas.{refuses_decoded}
 
 -- the status where this was decoded
 abbrev pub spelled_status : {A B : Type 0} → Result A XdrErr → (A → B) → Status

@@ -1,8 +1,8 @@
 -- What vet comes to, of the module that the file spells.
 use Rattle.std.proofs.Common.{refl}
 use Rattle.module_vet.proofs.Lemmas.{exact}
+use Rattle.command_io.specs.Vetted.{vetted}
 use Rattle.soroban_top.specs.Laws.{VetLaw}
-use Rattle.soroban_top.specs.Vetted.{vetted}
 
 pub vet_as_verdict : VetLaw
 unfolding vetted

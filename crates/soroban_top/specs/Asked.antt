@@ -1,6 +1,6 @@
 -- The files that a command reads and stores, by the numbers of its options (own).
 use Rattle.std.specs.Prelude.{ℕ, List, [], ◌∷◌, ◌++◌, Option, Some, None}
-use Rattle.soroban_top.specs.Product.{File, file}
+use Rattle.command_io.specs.Product.{File, file}
 use Rattle.command_words.specs.declared.request.Request.{Request}
 use Rattle.command_words.specs.declared.request.ScheduleOptions.{ScheduleOptions}
 use Rattle.command_words.specs.declared.request.Request.TheVariants.{Apply, ApplyList, Build, Gen, Migrate, Play, Record, Show}

@@ -11,8 +11,7 @@ use Rattle.ledger_types.specs.declared.header.Header.{Header}
 use Rattle.tx_xdr.specs.Envelope.{transaction_in}
 use Rattle.tx_xdr.specs.declared.envelope.Envelope.{Envelope}
 use Rattle.xdr_spec.specs.Format.{Format, list}
-use Rattle.soroban_top.specs.Migrated.{stored_and_said}
-use Rattle.soroban_top.specs.Product.{File, Made}
+use Rattle.command_io.specs.Product.{stored_and_said, File, Made}
 
 -- entries in a row, after their number
 abbrev pub entries_format : Format (List AuthEntry)

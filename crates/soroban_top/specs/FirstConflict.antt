@@ -11,8 +11,8 @@ use Rattle.stage_runs.specs.Runs.{Cluster, Stage}
 use Rattle.stage_runs.specs.Conflicts.{meet_at}
 pub use Rattle.schedule_runs.specs.Plans.{stages_in}
 use Rattle.tx_xdr.specs.declared.set.TxSet.{TxSet}
-use Rattle.soroban_top.specs.declared.status.Status.{Status}
-use Rattle.soroban_top.specs.declared.status.Status.TheVariants.{Conflict}
+use Rattle.command_io.specs.declared.status.Status.{Status}
+use Rattle.command_io.specs.declared.status.Status.TheVariants.{Conflict}
 
 -- the index of the stage, those of the two clusters in it, and the XDR bytes of the key
 pub record FoundConflict : Type 0 where

@@ -3,7 +3,7 @@ use Rattle.std.specs.Prelude.{ℕ, List, [], ◌∷◌, ◌++◌, codes, decimal
 use Rattle.command_words.specs.declared.request.GenRequest.{GenRequest}
 use Rattle.set_generator.specs.GeneratedFiles.{generated_files}
 use Rattle.set_generator.specs.declared.files.Generated.{Generated}
-use Rattle.soroban_top.specs.Product.{File, Job, Made, file}
+use Rattle.command_io.specs.Product.{File, Job, Made, file}
 
 -- the line about a set with this many transactions and stages
 abbrev pub made_line : ℕ → ℕ → List ℕ
@@ -17,7 +17,7 @@ job file bytes = record { file = file; bytes = bytes }
 abbrev pub made_files : GenRequest → Generated → Made
 made_files g made = record {
   stores = job (file 0 g.set) made.set ∷ job (file 1 g.ledger) made.ledger ∷ job (file 2 g.verdicts) made.verdicts ∷ [];
-  says = made_line g.count made.stages;
+  lines = made_line g.count made.stages;
 }
 
 -- the files that are drawn from the seed

@@ -60,23 +60,23 @@ use Rattle.value_types.specs.Formats.{scval_format}
 use Rattle.xdr_spec.specs.Format.{Format, IsBytes}
 use Rattle.xdr_spec.specs.Refusal.{Spells, Refuses}
 use Rattle.xdr_spec.specs.declared.Why.{Why}
+use Rattle.command_io.specs.Inputs.{content_of, ledger_at, opened}
+use Rattle.command_io.specs.Product.{stored_and_said, Made, file}
+use Rattle.command_io.specs.Steps.{◌>>=◌}
+use Rattle.command_io.specs.Vetted.{as_vetted}
+use Rattle.command_io.specs.declared.status.Status.{Status}
+use Rattle.command_io.specs.declared.status.Status.TheVariants as status
 use Rattle.soroban_top.specs.EntriesRecorded.{entries_stored, terms_of}
 use Rattle.soroban_top.specs.FirstConflict.{stages_in}
 use Rattle.soroban_top.specs.Generating.{job, made_line}
-use Rattle.soroban_top.specs.Judged.{content_of, ledger_at, opened}
-use Rattle.soroban_top.specs.Migrated.{migrated, stored_and_said}
+use Rattle.soroban_top.specs.Migrated.{migrated}
 use Rattle.soroban_top.specs.Replayed.{played_ledger_at, played_line}
 use Rattle.soroban_top.specs.Scheduled.{with_steps}
 use Rattle.soroban_top.specs.SetBuilt.{set_built}
 use Rattle.soroban_top.specs.Outcome.{applied, due, only_said, outcome_of}
-use Rattle.soroban_top.specs.Product.{Made, file}
-use Rattle.soroban_top.specs.Steps.{◌>>=◌}
-use Rattle.soroban_top.specs.Vetted.{as_vetted}
 use Rattle.soroban_top.specs.LogPlays.{PlaysBetween}
 use Rattle.soroban_top.specs.LogStored.{with_log}
 use Rattle.soroban_top.specs.declared.scheduled.ScheduledSteps.{ScheduledSteps}
-use Rattle.soroban_top.specs.declared.status.Status.{Status}
-use Rattle.soroban_top.specs.declared.status.Status.TheVariants as status
 
 -- ---- apply and simulate: first the ledger, then the verdicts, then a set or an envelope, whose file may be base64 text
 
@@ -276,7 +276,10 @@ SimulateDoneLaw = (s : SimulateRequest) (m : FileMap) (bytes : List ℕ) → Has
 
 -- the file of a simulated envelope is stored, and then its three lines are printed
 abbrev pub found : SimulateRequest → Simulated → Made
-found s simulation = record { stores = job (file 3 s.out) (simulation_bytes simulation) ∷ []; says = simulation_lines simulation }
+found s simulation = record {
+  stores = job (file 3 s.out) (simulation_bytes simulation) ∷ [];
+  lines = simulation_lines simulation;
+}
 
 -- These are stored and printed for the envelope over the ledger.
 abbrev pub SimulateLaw : Type 0
@@ -390,7 +393,7 @@ pub record IsGenerated (g : GenRequest) (made : Made) : Type 0 where
   pub spells_set : Spells set_format (generated_set g.count g.seed) set
   pub is_ledger : IsFileOf true ledger generated_header generated_entries
   pub spells_verdicts : Spells verdicts_format (record { pairs = [] }) verdicts
-  pub says : made.says ≡ made_line g.count (length (stages_of (generated_set g.count g.seed)))
+  pub lines : made.lines ≡ made_line g.count (length (stages_of (generated_set g.count g.seed)))
 
 -- The generated files are stored, whatever files there are.
 abbrev pub GenLaw : Type 0

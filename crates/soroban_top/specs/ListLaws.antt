@@ -16,13 +16,13 @@ use Rattle.tx_xdr.specs.declared.envelope.Envelope.{Envelope}
 use Rattle.xdr_spec.specs.Format.{IsBytes}
 use Rattle.xdr_spec.specs.Refusal.{Refuses, Spells}
 use Rattle.xdr_spec.specs.declared.Why.{Why}
-use Rattle.soroban_top.specs.Judged.{content_of}
+use Rattle.command_io.specs.Inputs.{content_of}
+use Rattle.command_io.specs.Product.{file}
+use Rattle.command_io.specs.declared.status.Status.{Status}
+use Rattle.command_io.specs.declared.status.Status.TheVariants as status
 use Rattle.soroban_top.specs.Laws.{AreFilesOf, HasLedger, HasLedgerFile}
 use Rattle.soroban_top.specs.ListApplied.{list_outputs}
 use Rattle.soroban_top.specs.Outcome.{applied, due, outcome_of}
-use Rattle.soroban_top.specs.Product.{file}
-use Rattle.soroban_top.specs.declared.status.Status.{Status}
-use Rattle.soroban_top.specs.declared.status.Status.TheVariants as status
 
 -- the ledger's and the verdicts' file are accepted, and the list's file has these bytes
 pub record HasListInputs (a : ApplyListRequest) (m : FileMap) (list : List ℕ) : Type 0 where

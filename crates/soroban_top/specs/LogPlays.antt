@@ -13,8 +13,8 @@ use Rattle.ledger_spec.specs.LedgerMap.{LedgerMap, IsLedgerMap}
 use Rattle.ledger_types.specs.declared.header.Header.{Header}
 use Rattle.ledger_types.specs.declared.verdicts.Verdicts.{Verdicts}
 use Rattle.tx_xdr.specs.declared.set.TxSet.{TxSet}
+use Rattle.command_io.specs.Inputs.{ledger_at, set_at, verdicts_at}
 use Rattle.soroban_top.specs.Asked.{log_asked}
-use Rattle.soroban_top.specs.Judged.{ledger_at, set_at, verdicts_at}
 
 -- the ledger after a set
 abbrev pub ledger_after : Header × LedgerMap → Verdicts → TxSet → ℕ → Header × LedgerMap

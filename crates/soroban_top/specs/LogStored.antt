@@ -7,8 +7,8 @@ use Rattle.ledger_spec.specs.LedgerMap.{LedgerMap}
 use Rattle.ledger_types.specs.declared.header.Header.{Header}
 use Rattle.ledger_types.specs.declared.verdicts.Verdicts.{Verdicts}
 use Rattle.tx_xdr.specs.declared.set.TxSet.{TxSet}
+use Rattle.command_io.specs.Product.{File, Made, file}
 use Rattle.soroban_top.specs.Asked.{log_files}
-use Rattle.soroban_top.specs.Product.{File, Made, file}
 use Rattle.soroban_top.specs.declared.scheduled.ScheduledSteps.{ScheduledSteps}
 
 -- the bytes of the change log of a set over a ledger, with these verdicts, at a close time
@@ -30,7 +30,7 @@ abbrev pub with_log : Option (List ℕ) → List ℕ → Made → Made
 with_log None bytes made = made
 with_log (Some name) bytes made = record {
   stores = made.stores ++ record { file = file 6 name; bytes = bytes } ∷ [];
-  says = made.says;
+  lines = made.lines;
 }
 
 -- ---- as the code stores it

@@ -1,5 +1,5 @@
 -- The outcome of a command, if the content of its files is known (own).
-use Rattle.std.specs.Prelude.{◌≡◌, ℕ, false, List, [], ◌∷◌, Option, Some, None, Result, Ok, Err, ⊤}
+use Rattle.std.specs.Prelude.{ℕ, false, List, [], ◌∷◌, Option, Some, None, Result, Ok, Err}
 use Rattle.apply_spec.specs.Outputs.{Outputs}
 use Rattle.apply_spec.specs.Runs.{running_header}
 use Rattle.apply_spec.specs.SimulationFile.{SimulationOutputs, simulation_outputs}
@@ -13,29 +13,29 @@ use Rattle.ledger_types.specs.declared.header.Header.{Header}
 use Rattle.ledger_types.specs.declared.verdicts.Verdicts.{Verdicts}
 use Rattle.tx_xdr.specs.declared.envelope.Envelope.{Envelope}
 use Rattle.tx_xdr.specs.declared.set.TxSet.{TxSet}
+use Rattle.command_io.specs.Inputs.{ledger_at, verdicts_at, set_at, envelope_at, any_ledger_at, log_at, list_at}
+use Rattle.command_io.specs.Product.{Made, File, file}
+use Rattle.command_io.specs.Shown.{shown_at}
+use Rattle.command_io.specs.Steps.{◌>>=◌, status_of}
+use Rattle.command_io.specs.Vetted.{vetted_at}
+use Rattle.command_io.specs.declared.status.Status.{Status}
+use Rattle.command_io.specs.declared.status.Status.TheVariants.{Usage}
 use Rattle.soroban_top.specs.Asked.{log_asked}
 use Rattle.soroban_top.specs.EntriesRecorded.{entries_stored, recorded_for}
 use Rattle.soroban_top.specs.Generating.{generated}
-use Rattle.soroban_top.specs.Judged.{ledger_at, verdicts_at, set_at, envelope_at}
 use Rattle.soroban_top.specs.ListApplied.{outputs_of_list}
 use Rattle.soroban_top.specs.LogStored.{log_bytes, with_log}
-use Rattle.soroban_top.specs.Migrated.{any_ledger_at, migrated}
+use Rattle.soroban_top.specs.Migrated.{migrated}
 use Rattle.soroban_top.specs.Scheduled.{scheduled_at, may_run, outputs_by}
-use Rattle.soroban_top.specs.Product.{Made, File, file}
-use Rattle.soroban_top.specs.Replayed.{played_ledger_at, log_at, replayed}
-use Rattle.soroban_top.specs.SetBuilt.{list_at, set_built}
-use Rattle.soroban_top.specs.Shown.{shown_at}
-use Rattle.soroban_top.specs.Steps.{◌>>=◌, status_of}
-use Rattle.soroban_top.specs.Vetted.{vetted_at}
+use Rattle.soroban_top.specs.Replayed.{played_ledger_at, replayed}
+use Rattle.soroban_top.specs.SetBuilt.{set_built}
 use Rattle.soroban_top.specs.declared.scheduled.ScheduledSteps.{ScheduledSteps}
-use Rattle.soroban_top.specs.declared.status.Status.{Status}
-use Rattle.soroban_top.specs.declared.status.Status.TheVariants.{Usage, NoMemory}
 
 -- the report is stored, then the new ledger; then the lines are printed
 abbrev pub applied : File → File → Outputs → Made
 applied report ledger_out made = record {
   stores = record { file = report; bytes = made.report } ∷ record { file = ledger_out; bytes = made.ledger } ∷ [];
-  says = made.lines;
+  lines = made.lines;
 }
 
 -- What is stored and printed for a set that runs in this order, or in its own. The change log is stored last, if one is asked
@@ -47,11 +47,11 @@ applied_by a ledger verdicts scheduled set =
 
 -- the footprint and the result are stored; then the lines are printed
 abbrev pub simulated : File → SimulationOutputs → Made
-simulated out made = record { stores = record { file = out; bytes = made.file } ∷ []; says = made.lines }
+simulated out made = record { stores = record { file = out; bytes = made.file } ∷ []; lines = made.lines }
 
 -- nothing is stored, and these lines are printed
 abbrev pub only_said : List ℕ → Made
-only_said lines = record { stores = []; says = lines }
+only_said lines = record { stores = []; lines = lines }
 
 -- the outputs of an envelope over a ledger, with these verdicts, at a close time
 unfoldable pub simulation_of : Header × LedgerMap → Verdicts → Envelope → ℕ → SimulationOutputs
@@ -109,15 +109,8 @@ outcome_if (Some asked) m = outcome_of asked m
 abbrev pub says_of : Result Made Status → Result (List ℕ) Status
 says_of outcome = do
   made ← outcome
-  Ok made.says
+  Ok made.lines
 
 -- the status that is due
 abbrev pub due : Option Request → FileMap → Status
 due asked m = status_of (outcome_if asked m)
-
--- the request of the words was found, unless memory ran out
-abbrev pub ReadsWords : {X : Type 0} → Result X Status → Option X → Type 0
-ReadsWords (Ok x) asked = asked ≡ Some x
-ReadsWords (Err Usage) asked = asked ≡ None
-ReadsWords (Err NoMemory) asked = ⊤
-ReadsWords (Err _) asked = ⊥

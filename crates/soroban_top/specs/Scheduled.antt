@@ -13,12 +13,12 @@ use Rattle.schedule_runs.specs.declared.schedule.Schedule.{Schedule}
 use Rattle.tx_xdr.specs.declared.set.TxSet.{TxSet}
 use Rattle.xdr_spec.specs.Decoded.{decoded}
 use Rattle.xdr_spec.specs.declared.XdrErr.{XdrErr}
+use Rattle.command_io.specs.Inputs.{content_of}
+use Rattle.command_io.specs.Steps.{◌>>=◌}
+use Rattle.command_io.specs.declared.status.Status.{Status}
+use Rattle.command_io.specs.declared.status.Status.TheVariants as status
 use Rattle.soroban_top.specs.FirstConflict.{free_of_conflict, stages_in}
-use Rattle.soroban_top.specs.Judged.{content_of}
-use Rattle.soroban_top.specs.Steps.{◌>>=◌}
 use Rattle.soroban_top.specs.declared.scheduled.ScheduledSteps.{ScheduledSteps}
-use Rattle.soroban_top.specs.declared.status.Status.{Status}
-use Rattle.soroban_top.specs.declared.status.Status.TheVariants as status
 
 -- ---- the schedule's file
 

@@ -3,19 +3,20 @@
 ghost use Rattle.std.specs.Prelude.{◌≡◌, ◌≤◌, [], ◌∷◌, ◌++◌, IfOk, IfErr, IfSome, is_some};
 ghost use Rattle.std.specs.Option.{option_map};
 ghost use Rattle.command_words.specs.declared.request.Request.TheVariants.{Apply as Asked};
+ghost use Rattle.command_io.specs.Counts.{HasCause, NoLower, SameCounts};
+ghost use Rattle.command_io.specs.Product.{file};
+ghost use Rattle.command_io.specs.Steps.{Gives, GivesExactly, UnlessFault, status_of};
+ghost use Rattle.command_io.specs.Views.{made_of, targets_of};
 ghost use Rattle.soroban_top.specs.Asked.{log_files, reads_of, writes_of};
-ghost use Rattle.soroban_top.specs.Counts.{HasCause, NoLower, SameCounts};
 ghost use Rattle.soroban_top.specs.LogPlays.{LogPlays};
 ghost use Rattle.soroban_top.specs.LogStored.{log_after, log_target, with_log};
 ghost use Rattle.soroban_top.specs.Outcome.{applied, outcome_of};
-ghost use Rattle.soroban_top.specs.Product.{file};
-ghost use Rattle.soroban_top.specs.Steps.{Gives, GivesExactly, UnlessFault, status_of};
-ghost use Rattle.soroban_top.specs.Views.{made_of, outputs_in, targets_of};
+ghost use Rattle.soroban_top.specs.Views.{outputs_in};
 
-use crate::judged::{read_ledger, read_scheduled, read_set, read_verdicts};
+use crate::options::{LEDGER, LEDGER_OUT, LOG_OUT, REPORT, SET, VERDICTS};
 use crate::outputs::{Outputs, Run, make_outputs};
-use crate::product::{LEDGER, LEDGER_OUT, LOG_OUT, REPORT, SET, VERDICTS};
-use crate::{FileArg, OutputFile, Product, Status};
+use crate::scheduled::read_scheduled;
+use command_io::{FileArg, OutputFile, Product, Status, read_ledger, read_set, read_verdicts};
 use command_words::ApplyRequest;
 use edge_io::{Files, Gate, Word};
 use std::alloc::{AllocError, Global};
@@ -104,7 +105,7 @@ pub(crate) fn stores_of<'a>(
     })?;
     Ok(Product {
         stores,
-        says: outputs.lines,
+        lines: outputs.lines,
     })
 }
 

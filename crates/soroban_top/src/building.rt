@@ -1,20 +1,18 @@
 //! The command `build`: builds a transaction set from a list of envelopes.
 
-ghost use Rattle.std.specs.Prelude.{◌≡◌, ◌≤◌, [], ◌∷◌, length, IfOk, IfErr, IfSome};
+ghost use Rattle.std.specs.Prelude.{◌≡◌, ◌≤◌, IfOk, IfErr, IfSome};
 ghost use Rattle.command_words.specs.declared.request.Request.TheVariants.{Build as Asked};
 ghost use Rattle.set_build.specs.Built.{envelopes_format};
+ghost use Rattle.command_io.specs.Counts.{HasCause, NoLower, SameCounts};
+ghost use Rattle.command_io.specs.Product.{file};
+ghost use Rattle.command_io.specs.Steps.{Gives, GivesExactly, UnlessFault, status_of};
+ghost use Rattle.command_io.specs.Views.{made_of, targets_of};
 ghost use Rattle.soroban_top.specs.Asked.{reads_of, writes_of};
-ghost use Rattle.soroban_top.specs.Counts.{HasCause, NoLower, SameCounts};
 ghost use Rattle.soroban_top.specs.Outcome.{outcome_of};
-ghost use Rattle.soroban_top.specs.Product.{file};
-ghost use Rattle.soroban_top.specs.SetBuilt.{built_line, list_at, set_built};
-ghost use Rattle.soroban_top.specs.Steps.{Gives, GivesExactly, UnlessFault, status_of};
-ghost use Rattle.soroban_top.specs.Views.{file_of, made_of, targets_of};
+ghost use Rattle.soroban_top.specs.SetBuilt.{built_line, set_built};
 
-use crate::drive::read_file;
-use crate::product::{BUILT_SET, LISTED};
-use crate::spelled::list_in;
-use crate::{FileArg, OutputFile, Product, Status};
+use crate::options::{BUILT_SET, LISTED};
+use command_io::{FileArg, OutputFile, Product, Status, read_list};
 use command_words::BuildRequest;
 use edge_io::Files;
 use set_build::{Counts, counts_of};
@@ -53,27 +51,6 @@ pub fn build<'a, F: Files>(
     Ok(product)
 }
 
-/// Reads the list of envelopes in a file.
-pub(crate) fn read_list<F: Files>(
-    alloc: Global,
-    files: &mut F,
-    file: &FileArg<'_>,
-) -> Result<Items<Envelope, 4294967295>, Status>
-    ensures given { IfSome (F.contents files.old) (λ m. Gives (λ l. l) result (list_at m file.now.name.now)) }
-    ensures fits { IfOk result (λ l. envelopes_format.fits l) }
-    ensures same { F.contents files.new ≡ F.contents files.old }
-    ensures counts { NoLower (F.faults files.old) (F.faults files.new) }
-    ensures cause { IfErr result (HasCause (file_of file.now ∷ []) (F.faults files.old) (F.faults files.new)) }
-    ensures steady { F.steady files.old
-        → IfSome (F.contents files.old) (λ m. UnlessFault (status_of (list_at m file.now.name.now))
-        (F.steady files.new × SameCounts (F.faults files.old) (F.faults files.new))) }
-    ensures steady_exact { F.steady files.old → IfSome (F.contents files.old) (λ m.
-        GivesExactly (λ l. l) result (list_at m file.now.name.now)) }
-{
-    let bytes = read_file(alloc, files, file)?;
-    list_in(alloc, bytes.as_slice())
-}
-
 /// Builds the set, and makes its file and the line.
 #[tactic(auto, unfolding(crate::specs::SetBuilt::set_built))]
 fn product_of<'a>(
@@ -89,7 +66,7 @@ fn product_of<'a>(
 {
     let transactions = list.as_slice().len() as u64;
     let set = set_build::build(alloc, list, request.clusters as u32)?;
-    let says = built_line(alloc, transactions, counts_of(&set))?;
+    let lines = built_line(alloc, transactions, counts_of(&set))?;
     let bytes = encode(alloc, &set)?;
     let mut stores = Vec::new(alloc);
     let file = FileArg {
@@ -97,7 +74,7 @@ fn product_of<'a>(
         name: &request.set,
     };
     stores.push(OutputFile { file, bytes })?;
-    Ok(Product { stores, says })
+    Ok(Product { stores, lines })
 }
 
 /// Makes the line with the numbers of a set's transactions, stages and clusters.

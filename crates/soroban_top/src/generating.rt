@@ -2,13 +2,12 @@
 
 ghost use Rattle.std.specs.Prelude.{◌≡◌, ◌≤◌, IfErr, IfOk};
 ghost use Rattle.command_words.specs.declared.request.Request.TheVariants.{Gen as Asked};
-ghost use Rattle.set_generator.specs.GeneratedFiles.{generated_files};
+ghost use Rattle.command_io.specs.Views.{made_of, targets_of};
 ghost use Rattle.soroban_top.specs.Asked.{writes_of};
 ghost use Rattle.soroban_top.specs.Generating.{generated, made_files, made_line};
-ghost use Rattle.soroban_top.specs.Views.{made_of, targets_of};
 
-use crate::product::{MADE_LEDGER, MADE_SET, MADE_VERDICTS};
-use crate::{FileArg, OutputFile, Product, Status};
+use crate::options::{MADE_LEDGER, MADE_SET, MADE_VERDICTS};
+use command_io::{FileArg, OutputFile, Product, Status};
 use command_words::GenRequest;
 use set_generator::Generated;
 use std::alloc::{AllocError, Global};
@@ -36,7 +35,7 @@ fn product_of<'a>(
     ensures made { IfOk result (λ p. made_of p ≡ made_files request.now made) }
     ensures targets { IfOk result (λ p. targets_of p.stores.items ≡ writes_of (Asked request.now)) }
 {
-    let says = made_line(alloc, request.count, made.stages)?;
+    let lines = made_line(alloc, request.count, made.stages)?;
     let set = FileArg {
         option: MADE_SET,
         name: &request.set,
@@ -62,7 +61,7 @@ fn product_of<'a>(
         file: verdicts,
         bytes: made.verdicts.into_vec(),
     })?;
-    Ok(Product { stores, says })
+    Ok(Product { stores, lines })
 }
 
 fn made_line(alloc: Global, transactions: u64, stages: u32) -> Result<Vec<u8>, AllocError>

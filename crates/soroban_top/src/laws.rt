@@ -1,17 +1,17 @@
 //! The outcomes of the commands, in terms of the spellings of their files' bytes.
 
 ghost use Rattle.soroban_top.specs.ConflictLaws.{FirstConflictLaw, NoConflictLaw};
-ghost use Rattle.soroban_top.specs.ListLaws.{ListAppliedLaw, ListDoneLaw, ListLedgerLaw, ListMalformedLaw};
-ghost use Rattle.soroban_top.specs.ListLaws.{ListNoLedgerLaw, ListVerdictsLaw};
+ghost use Rattle.soroban_top.specs.ListLaws.{ListAppliedLaw, ListDoneLaw, ListLedgerLaw, ListMalformedLaw, ListNoLedgerLaw};
+ghost use Rattle.soroban_top.specs.ListLaws.{ListVerdictsLaw};
 ghost use Rattle.soroban_top.specs.Laws.{AllStepsLaw, AppliedLaw, ConflictLaw, DoneLaw, EnvelopeDoneLaw, EnvelopeMalformedLaw};
-ghost use Rattle.soroban_top.specs.Laws.{BuildDoneLaw, BuildLaw, BuildMalformedLaw};
-ghost use Rattle.soroban_top.specs.Laws.{GenLaw, IncompleteLaw, LedgerDoneLaw, LedgerLaw, LedgerShownLaw, MalformedLaw};
-ghost use Rattle.soroban_top.specs.Laws.{MigrateDoneLaw, MigrateLaw, MigrateRefusedLaw, NoLedgerLaw, ScheduleLaw, SetDoneLaw};
-ghost use Rattle.soroban_top.specs.Laws.{PlayBackLaw, PlayDoneLaw, PlayLaw, PlayMalformedLaw, PlayThereLaw, PlayUnfitLaw};
-ghost use Rattle.soroban_top.specs.Laws.{RecordDoneLaw, RecordLaw, RecordLedgerLaw, RecordMalformedLaw, RecordNoLedgerLaw};
-ghost use Rattle.soroban_top.specs.Laws.{SetMalformedLaw, SimulateDoneLaw, SimulateEnforcedLaw, SimulateLaw, SimulateLedgerLaw};
-ghost use Rattle.soroban_top.specs.Laws.{SimulateMalformedLaw, SimulateNoLedgerLaw, SimulateVerdictsLaw, StoppedLaw};
-ghost use Rattle.soroban_top.specs.Laws.{ValueDoneLaw, ValueMalformedLaw, VerdictsLaw, VetLaw, WholeLaw};
+ghost use Rattle.soroban_top.specs.Laws.{BuildDoneLaw, BuildLaw, BuildMalformedLaw, GenLaw, IncompleteLaw, LedgerDoneLaw};
+ghost use Rattle.soroban_top.specs.Laws.{LedgerLaw, LedgerShownLaw, MalformedLaw, MigrateDoneLaw, MigrateLaw, MigrateRefusedLaw};
+ghost use Rattle.soroban_top.specs.Laws.{NoLedgerLaw, ScheduleLaw, SetDoneLaw, PlayBackLaw, PlayDoneLaw, PlayLaw};
+ghost use Rattle.soroban_top.specs.Laws.{PlayMalformedLaw, PlayThereLaw, PlayUnfitLaw, RecordDoneLaw, RecordLaw, RecordLedgerLaw};
+ghost use Rattle.soroban_top.specs.Laws.{RecordMalformedLaw, RecordNoLedgerLaw, SetMalformedLaw, SimulateDoneLaw};
+ghost use Rattle.soroban_top.specs.Laws.{SimulateEnforcedLaw, SimulateLaw, SimulateLedgerLaw, SimulateMalformedLaw};
+ghost use Rattle.soroban_top.specs.Laws.{SimulateNoLedgerLaw, SimulateVerdictsLaw, StoppedLaw, ValueDoneLaw, ValueMalformedLaw};
+ghost use Rattle.soroban_top.specs.Laws.{VerdictsLaw, VetLaw, WholeLaw};
 
 /// `apply`: Ledger is due exactly if the bytes are not the file of a ledger, with reason Xdr if they are refused. If that file is
 /// accepted, Verdicts is due exactly if the verdicts' bytes are refused. If these are accepted, too, Malformed is due exactly if

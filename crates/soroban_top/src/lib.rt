@@ -1,33 +1,27 @@
-//! One command, from its words to its status.
+//! One command, from its words to its status. What all commands share, from their files to their printed lines, is `command_io`.
 #![tactic(auto)]
 
 ghost use Rattle.std.specs.Prelude.{◌≡◌, ◌≤◌, ◌⊎◌, None, IfOk, IfErr, IfSome};
 ghost use Rattle.command_words.specs.Words.{IsInRange, asked_of};
 ghost use Rattle.edge_io.specs.Text.{extended};
+ghost use Rattle.command_io.specs.Counts.{NoLower, SameCounts, FaultHasCause, HasCause, HasCauseFor, NoneRose};
+ghost use Rattle.command_io.specs.Inputs.{AreThere};
+ghost use Rattle.command_io.specs.Left.{Leaves, OnRefused};
+ghost use Rattle.command_io.specs.Lines.{line_of};
+ghost use Rattle.command_io.specs.Steps.{Gives, GivesExactly, UnlessFault, UnlessFree, status_of};
 ghost use Rattle.soroban_top.specs.Asked.{reads_of, reads_named, files_named};
-ghost use Rattle.soroban_top.specs.Counts.{NoLower, SameCounts, FaultHasCause, HasCause, HasCauseFor, NoneRose};
 ghost use Rattle.soroban_top.specs.Ends.{Ends, outside};
-ghost use Rattle.soroban_top.specs.Judged.{AreThere};
-ghost use Rattle.soroban_top.specs.Left.{Leaves, OnRefused};
-ghost use Rattle.soroban_top.specs.Lines.{line_of};
 ghost use Rattle.soroban_top.specs.LogPlays.{LogPlaysIf};
 ghost use Rattle.soroban_top.specs.Outcome.{due, outcome_if, outcome_of, says_of};
-ghost use Rattle.soroban_top.specs.Steps.{Gives, GivesExactly, UnlessFault, UnlessFree, status_of};
 
 mod apply;
 mod building;
-mod drive;
-mod ending;
 mod generating;
-mod judged;
-mod key_bytes;
 mod laws;
-mod lines;
 mod listing;
 mod migrate;
-mod opened;
+mod options;
 mod outputs;
-mod product;
 mod recording;
 mod replaying;
 mod request;
@@ -35,23 +29,18 @@ mod scheduled;
 mod show;
 mod simulate;
 mod simulation;
-mod spelled;
-mod status;
 mod vetting;
 
+pub use command_io::{KeyBytes, Status, finish};
+use command_io::{asked, store_all};
 use command_words::Request;
-use drive::store_all;
 use edge_io::{Files, Gate, Say, Word};
-pub use ending::finish;
-pub use key_bytes::KeyBytes;
 pub use laws::{
     apply_laws, apply_list_laws, build_laws, first_conflict_laws, gen_laws, migrate_laws,
     play_back_laws, play_laws, schedule_laws, show_laws, simulate_laws, vet_law,
 };
-use product::{FileArg, OutputFile, Product};
-use request::{asked, produce};
+use request::produce;
 use scheduled::ScheduledSteps;
-pub use status::Status;
 use std::alloc::Global;
 use std::thread::Threads;
 
@@ -104,8 +93,8 @@ pub fn soroban<R: Threads + Sync, F: Files, S: Say, G: Gate + Sync>(
     ensures counts { NoLower (F.faults files.old) (F.faults files.new) }
     ensures say_count { S.faults say.old ≤ S.faults say.new }
 {
-    let came_to = perform(rt, alloc, words, files, gate);
-    finish(alloc, came_to, say)
+    let outcome = perform(rt, alloc, words, files, gate);
+    finish(alloc, outcome, say)
 }
 
 /// Reads, computes and stores. Returns the lines to print, or the status whose line is to be printed.
@@ -159,5 +148,5 @@ fn run<R: Threads + Sync, F: Files, G: Gate + Sync>(
 {
     let product = produce(rt, alloc, request, files, gate)?;
     store_all(files, &product.stores)?;
-    Ok(product.says)
+    Ok(product.lines)
 }

@@ -5,20 +5,19 @@ ghost use Rattle.command_words.specs.declared.request.Request.TheVariants.{Apply
 ghost use Rattle.ledger_spec.specs.LedgerFile.{are_settings, has_next};
 ghost use Rattle.ledger_types.specs.Header.{header_format};
 ghost use Rattle.set_build.specs.Built.{envelopes_format};
+ghost use Rattle.command_io.specs.Counts.{HasCause, NoLower, SameCounts};
+ghost use Rattle.command_io.specs.Seen.{seen};
+ghost use Rattle.command_io.specs.Steps.{Gives, GivesExactly, UnlessFault, status_of};
+ghost use Rattle.command_io.specs.Views.{made_of, targets_of};
 ghost use Rattle.soroban_top.specs.Asked.{reads_of, writes_of};
-ghost use Rattle.soroban_top.specs.Counts.{HasCause, NoLower, SameCounts};
 ghost use Rattle.soroban_top.specs.ListApplied.{kept_line, outputs_of_list};
 ghost use Rattle.soroban_top.specs.Outcome.{outcome_of};
-ghost use Rattle.soroban_top.specs.Seen.{seen};
-ghost use Rattle.soroban_top.specs.Steps.{Gives, GivesExactly, UnlessFault, status_of};
-ghost use Rattle.soroban_top.specs.Views.{made_of, outputs_in, targets_of};
+ghost use Rattle.soroban_top.specs.Views.{outputs_in};
 
 use crate::apply::stores_of;
-use crate::building::read_list;
-use crate::judged::{read_ledger, read_verdicts};
+use crate::options::{LEDGER, LISTED, VERDICTS};
 use crate::outputs::{Outputs, written};
-use crate::product::{LEDGER, LISTED, VERDICTS};
-use crate::{FileArg, Product, Status};
+use command_io::{FileArg, Product, Status, read_ledger, read_list, read_verdicts};
 use command_words::ApplyListRequest;
 use edge_io::{Files, Gate};
 use ledger_file::Ledger;

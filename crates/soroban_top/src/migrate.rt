@@ -1,22 +1,20 @@
 //! The command `migrate`: writes a ledger's file in the newest version.
 
-ghost use Rattle.std.specs.Prelude.{◌≡◌, [], ◌∷◌, ◌++◌, IfOk, IfErr, IfSome};
+ghost use Rattle.std.specs.Prelude.{◌≡◌, IfOk, IfErr, IfSome};
 ghost use Rattle.std.specs.FinMap.{len};
 ghost use Rattle.command_words.specs.declared.request.Request.TheVariants.{Migrate as Asked};
 ghost use Rattle.ledger_types.specs.Header.{header_format};
+ghost use Rattle.command_io.specs.Counts.{HasCause, NoLower, SameCounts};
+ghost use Rattle.command_io.specs.Product.{file};
+ghost use Rattle.command_io.specs.Seen.{seen};
+ghost use Rattle.command_io.specs.Steps.{Gives, GivesExactly, UnlessFault, status_of};
+ghost use Rattle.command_io.specs.Views.{made_of, targets_of};
 ghost use Rattle.soroban_top.specs.Asked.{reads_of, writes_of};
-ghost use Rattle.soroban_top.specs.Counts.{HasCause, NoLower, SameCounts};
-ghost use Rattle.soroban_top.specs.Migrated.{any_ledger_at, migrated, migrated_line, stored_and_said};
+ghost use Rattle.soroban_top.specs.Migrated.{migrated, migrated_line};
 ghost use Rattle.soroban_top.specs.Outcome.{outcome_of};
-ghost use Rattle.soroban_top.specs.Product.{file};
-ghost use Rattle.soroban_top.specs.Seen.{seen};
-ghost use Rattle.soroban_top.specs.Steps.{Gives, GivesExactly, UnlessFault, status_of};
-ghost use Rattle.soroban_top.specs.Views.{file_of, made_of, targets_of};
 
-use crate::drive::read_file;
-use crate::product::{MIGRATED_LEDGER, MIGRATED_OUT};
-use crate::spelled::ledger_in;
-use crate::{FileArg, OutputFile, Product, Status};
+use crate::options::{MIGRATED_LEDGER, MIGRATED_OUT};
+use command_io::{FileArg, OutputFile, Product, Status, read_any_ledger};
 use command_words::MigrateRequest;
 use edge_io::Files;
 use ledger_file::{Ledger, write_ledger};
@@ -50,27 +48,6 @@ pub fn migrate<'a, F: Files>(
     Ok(product)
 }
 
-/// Reads the ledger in a file, also one that no ledger may follow.
-pub fn read_any_ledger<F: Files>(
-    alloc: Global,
-    files: &mut F,
-    file: &FileArg<'_>,
-) -> Result<Ledger, Status>
-    ensures given { IfSome (F.contents files.old) (λ m. Gives seen result (any_ledger_at m file.now.name.now)) }
-    ensures fits { IfOk result (λ l. header_format.fits l.header) }
-    ensures same { F.contents files.new ≡ F.contents files.old }
-    ensures counts { NoLower (F.faults files.old) (F.faults files.new) }
-    ensures cause { IfErr result (HasCause (file_of file.now ∷ []) (F.faults files.old) (F.faults files.new)) }
-    ensures steady { F.steady files.old
-        → IfSome (F.contents files.old) (λ m. UnlessFault (status_of (any_ledger_at m file.now.name.now))
-        (F.steady files.new × SameCounts (F.faults files.old) (F.faults files.new))) }
-    ensures steady_exact { F.steady files.old → IfSome (F.contents files.old) (λ m.
-        GivesExactly seen result (any_ledger_at m file.now.name.now)) }
-{
-    let bytes = read_file(alloc, files, file)?;
-    ledger_in(alloc, bytes.as_slice())
-}
-
 /// Writes the ledger's file and the line.
 #[tactic(auto, unfolding(crate::specs::Migrated::migrated))]
 fn product_of<'a>(
@@ -83,14 +60,14 @@ fn product_of<'a>(
     ensures targets { IfOk result (λ p. targets_of p.stores.items ≡ writes_of (Asked request.now)) }
 {
     let bytes = write_ledger(alloc, ledger)?.into_vec();
-    let says = migrated_line(alloc, ledger)?;
+    let lines = migrated_line(alloc, ledger)?;
     let mut stores = Vec::new(alloc);
     let file = FileArg {
         option: MIGRATED_OUT,
         name: &request.ledger_out,
     };
     stores.push(OutputFile { file, bytes })?;
-    Ok(Product { stores, says })
+    Ok(Product { stores, lines })
 }
 
 /// Makes the line with the number of a ledger's entries.

@@ -10,7 +10,7 @@ ghost use Rattle.spec_apply.specs.Logged.{logged_set};
 ghost use Rattle.spec_apply.specs.Refused.{IsConflictUnlessMemory};
 ghost use Rattle.stage_runs.specs.Runs.{clusters_in, HasNoConflict};
 ghost use Rattle.tx_xdr.specs.Stages.{stages_of};
-ghost use Rattle.apply_spec.specs.Outputs.{count_line, outputs_with, preimages_of, results_of};
+ghost use Rattle.apply_spec.specs.Outputs.{outputs_with, preimages_of, results_of};
 ghost use Rattle.invoke_types.specs.Success.{success_format};
 ghost use Rattle.ledger_spec.specs.LedgerFile.{are_settings, has_next, ledger_bytes};
 ghost use Rattle.ledger_spec.specs.LedgerMap.{key_bytes};
@@ -19,30 +19,26 @@ ghost use Rattle.ledger_types.specs.Key.{key_format};
 ghost use Rattle.tx_results.specs.Report.{report_bytes};
 ghost use Rattle.tx_results.specs.Results.{result_set_format};
 ghost use Rattle.tx_xdr.specs.Set.{set_format};
-ghost use Rattle.sha2.specs.Sha256.{sha256};
 ghost use Rattle.xdr_spec.specs.Format.{optional};
-ghost use Rattle.soroban_top.specs.Counts.{IsOfBytes};
+ghost use Rattle.command_io.specs.Counts.{IsOfBytes};
+ghost use Rattle.command_io.specs.Seen.{seen};
+ghost use Rattle.command_io.specs.Steps.{UnlessNoMemory};
 ghost use Rattle.soroban_top.specs.LogPlays.{SetPlays};
 ghost use Rattle.soroban_top.specs.LogStored.{logs_by, IsLogOf};
 ghost use Rattle.soroban_top.specs.FirstConflict.{free_of_conflict};
 ghost use Rattle.soroban_top.specs.Scheduled.{may_run, outputs_by, outputs_of, outputs_stopped};
-ghost use Rattle.soroban_top.specs.Seen.{seen};
-ghost use Rattle.soroban_top.specs.Steps.{UnlessNoMemory};
 ghost use Rattle.soroban_top.specs.Views.{outputs_in};
 
-use crate::lines::{count_line, push_hash};
-use crate::{KeyBytes, ScheduledSteps, Status};
-use change_log::{Log, write_log};
+use crate::ScheduledSteps;
+use change_log::Log;
+use command_io::{KeyBytes, Status, hashed, log_out, push_hash, report_out};
 use edge_io::Gate;
-use invoke_types::SuccessPreimage;
-use ledger_file::{Ledger, write_ledger};
+use ledger_file::Ledger;
 use ledger_types::{LedgerKey, Verdicts};
 use schedule_runs::{SchedErr, run_schedule};
-use sha2::{Digest, Sha256};
 use spec_apply::{Applied, ApplyErr, Logged, apply_logged, apply_set};
 use std::alloc::Global;
-use std::thread::{Threads, join};
-use tx_results::{ResultSet, write_report};
+use std::thread::Threads;
 use tx_xdr::TxSet;
 use value_xdr::encode;
 use xdr_core::NoMemory;
@@ -168,17 +164,6 @@ fn run_set<'a, R: Threads + Sync, G: Gate + Sync>(
     Ok(Ran { applied, log: None })
 }
 
-/// Writes the file of a change log, if one was kept, and drops the log.
-fn log_out(alloc: Global, log: Option<Log>) -> Result<Option<Vec<u8>>, NoMemory>
-    requires { IfSome log log_format.fits }
-    ensures { IfOk result (λ bytes. option_map (λ b. b.items) bytes ≡ option_map (λ l. log_format.spell l) log) }
-{
-    match log {
-        None => Ok(None),
-        Some(log) => Ok(Some(write_log(alloc, &log)?.into_vec())),
-    }
-}
-
 /// Runs a set in its own order, by workers.
 fn by_workers<R: Threads + Sync, G: Gate + Sync>(
     rt: &R,
@@ -279,74 +264,6 @@ fn key_bytes(alloc: Global, key: &LedgerKey) -> Result<KeyBytes, NoMemory>
 {
     let bytes = encode(alloc, key)?;
     Ok(KeyBytes::from_vec(bytes))
-}
-
-/// The SHA-256 of bytes.
-fn hash_of(bytes: &[u8]) -> [u8; 32]
-    ensures { result ≡ sha256 bytes.now }
-{
-    Sha256::digest(bytes)
-}
-
-/// Writes the ledger's file after a run, and hashes it. Then it drops the ledger, and the rest that nobody needs any more.
-fn ledger_out<X: Drop>(
-    alloc: Global,
-    ledger: Ledger,
-    _rest: X,
-) -> Result<(Vec<u8>, [u8; 32]), NoMemory>
-    requires { header_format.fits ledger.header }
-    ensures bytes { IfOk result (λ made. made.0.items ≡ ledger_bytes ledger.header ledger.entries) }
-    ensures hash { IfOk result (λ made. made.1 ≡ sha256 made.0.items) }
-{
-    let bytes = write_ledger(alloc, &ledger)?.into_vec();
-    let hash = hash_of(&bytes);
-    Ok((bytes, hash))
-}
-
-/// Hashes the report, and makes the ledger's file with its hash, and drops the rest. With several workers, one thread does the
-/// first, and another one all else.
-fn hashed<R: Threads + Sync, X: Drop>(
-    rt: &R,
-    alloc: Global,
-    workers: usize,
-    report: &[u8],
-    ledger: Ledger,
-    rest: X,
-) -> ([u8; 32], Result<(Vec<u8>, [u8; 32]), NoMemory>)
-    requires { header_format.fits ledger.header }
-    ensures report { result.0 ≡ sha256 report.now }
-    ensures bytes { IfOk result.1 (λ made. made.0.items ≡ ledger_bytes ledger.header ledger.entries) }
-    ensures hash { IfOk result.1 (λ made. made.1 ≡ sha256 made.0.items) }
-{
-    if workers == 1 {
-        let hash = hash_of(report);
-        return (hash, ledger_out(alloc, ledger, rest));
-    }
-    join(
-        rt,
-        move || -> [u8; 32]
-            ensures { result ≡ sha256 report.entry.now }
-        { hash_of(report) },
-        move || ledger_out(alloc, ledger, rest),
-    )
-}
-
-/// Writes the report after a run, and the line that counts its transactions.
-fn report_out(
-    alloc: Global,
-    seq: u32,
-    results: &ResultSet,
-    successes: &[Option<SuccessPreimage>],
-) -> Result<(Vec<u8>, Vec<u8>), NoMemory>
-    requires results { result_set_format.fits results.now }
-    requires successes { All (λ s. (optional success_format).fits s) successes.now }
-    requires each { length successes.now ≡ length results.now.pairs }
-    ensures report { IfOk result (λ made. made.0.items ≡ report_bytes results.now successes.now) }
-    ensures line { IfOk result (λ made. made.1.items ≡ count_line seq results.now.pairs) }
-{
-    let report = write_report(alloc, results, successes)?.into_vec();
-    let line = count_line(alloc, seq, results.pairs.as_slice())?;
-    Ok((report, line))
 }
 
 /// Writes the bytes to store and the lines to print after a run, and adds the change log's file, if there is one. What has run is

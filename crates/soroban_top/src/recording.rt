@@ -1,24 +1,23 @@
 //! The command `record`: finds the authorisation entries that a transaction needs.
 
-ghost use Rattle.std.specs.Prelude.{◌≡◌, ◌≤◌, ◌<◌, ◌^◌, [], ◌∷◌, length, IfOk, IfErr, IfSome, IsTrue};
+ghost use Rattle.std.specs.Prelude.{◌≡◌, ◌≤◌, ◌<◌, ◌^◌, length, IfOk, IfErr, IfSome, IsTrue};
 ghost use Rattle.auth_record.specs.Views.{recorded_in};
 ghost use Rattle.command_words.specs.declared.request.Request.TheVariants.{Record as Asked};
 ghost use Rattle.ledger_spec.specs.LedgerFile.{are_settings, has_next};
 ghost use Rattle.tx_xdr.specs.Envelope.{envelope_format};
+ghost use Rattle.command_io.specs.Counts.{HasCause, NoLower, SameCounts};
+ghost use Rattle.command_io.specs.Product.{file};
+ghost use Rattle.command_io.specs.Seen.{seen};
+ghost use Rattle.command_io.specs.Steps.{Gives, GivesExactly, UnlessFault, status_of};
+ghost use Rattle.command_io.specs.Views.{made_of, targets_of};
 ghost use Rattle.soroban_top.specs.Asked.{reads_of, writes_of};
-ghost use Rattle.soroban_top.specs.Counts.{HasCause, NoLower, SameCounts};
 ghost use Rattle.soroban_top.specs.EntriesRecorded.{entries_format, entries_stored, recorded_for, recorded_lines};
 ghost use Rattle.soroban_top.specs.Outcome.{outcome_of};
-ghost use Rattle.soroban_top.specs.Product.{file};
-ghost use Rattle.soroban_top.specs.Seen.{seen};
-ghost use Rattle.soroban_top.specs.Steps.{Gives, GivesExactly, UnlessFault, status_of};
-ghost use Rattle.soroban_top.specs.Views.{made_of, targets_of};
 
-use crate::judged::{read_envelope, read_ledger};
-use crate::product::{RECORDED_LEDGER, RECORDED_OUT, RECORDED_TX};
+use crate::options::{RECORDED_LEDGER, RECORDED_OUT, RECORDED_TX};
 use crate::simulation::running_header;
-use crate::{FileArg, OutputFile, Product, Status};
 use auth_record::{Recorded, record_auth};
+use command_io::{FileArg, OutputFile, Product, Status, read_envelope, read_ledger};
 use command_words::RecordRequest;
 use edge_io::Files;
 use ledger_file::Ledger;
@@ -105,7 +104,7 @@ fn product_of<'a>(
     ensures made { IfOk result (λ p. made_of p ≡ entries_stored (file 2 request.now.out) (recorded_in recorded.now)) }
     ensures targets { IfOk result (λ p. targets_of p.stores.items ≡ writes_of (Asked request.now)) }
 {
-    let says = lines_of(alloc, recorded)?;
+    let lines = lines_of(alloc, recorded)?;
     let bytes = encode(alloc, &recorded.entries)?;
     let mut stores = Vec::new(alloc);
     let file = FileArg {
@@ -113,7 +112,7 @@ fn product_of<'a>(
         name: &request.out,
     };
     stores.push(OutputFile { file, bytes })?;
-    Ok(Product { stores, says })
+    Ok(Product { stores, lines })
 }
 
 /// Makes the lines with the number of entries, and whether a demand was caught.

@@ -5,21 +5,18 @@ ghost use Rattle.change_log.specs.Log.{log_format};
 ghost use Rattle.command_words.specs.declared.request.Request.TheVariants.{Play as Asked};
 ghost use Rattle.ledger_spec.specs.LedgerFile.{has_next};
 ghost use Rattle.ledger_types.specs.Header.{header_format};
+ghost use Rattle.command_io.specs.Counts.{HasCause, IsOfBytes, NoLower, SameCounts};
+ghost use Rattle.command_io.specs.Product.{file};
+ghost use Rattle.command_io.specs.Seen.{seen};
+ghost use Rattle.command_io.specs.Steps.{Gives, GivesExactly, UnlessFault, status_of};
+ghost use Rattle.command_io.specs.Views.{made_of, targets_of};
 ghost use Rattle.soroban_top.specs.Asked.{reads_of, writes_of};
-ghost use Rattle.soroban_top.specs.Counts.{HasCause, IsOfBytes, NoLower, SameCounts};
 ghost use Rattle.soroban_top.specs.Outcome.{outcome_of};
-ghost use Rattle.soroban_top.specs.Product.{file};
-ghost use Rattle.soroban_top.specs.Replayed.{log_at, log_in, played_ledger_at, played_line, played_to, replayed};
-ghost use Rattle.soroban_top.specs.Seen.{seen};
-ghost use Rattle.soroban_top.specs.Steps.{Gives, GivesExactly, UnlessFault, status_of};
-ghost use Rattle.soroban_top.specs.Views.{file_of, made_of, targets_of};
+ghost use Rattle.soroban_top.specs.Replayed.{played_ledger_at, played_line, played_to, replayed};
 
-use crate::drive::read_file;
-use crate::judged::read_ledger;
-use crate::migrate::read_any_ledger;
-use crate::product::{PLAYED_LEDGER, PLAYED_LOG, PLAYED_OUT};
-use crate::{FileArg, OutputFile, Product, Status};
+use crate::options::{PLAYED_LEDGER, PLAYED_LOG, PLAYED_OUT};
 use change_log::Log;
+use command_io::{FileArg, OutputFile, Product, Status, read_any_ledger, read_ledger, read_log};
 use command_words::PlayRequest;
 use edge_io::Files;
 use ledger_file::{Ledger, write_ledger};
@@ -83,34 +80,6 @@ fn read_played<F: Files>(
     }
 }
 
-/// Reads the log in a file.
-fn read_log<F: Files>(alloc: Global, files: &mut F, file: &FileArg<'_>) -> Result<Log, Status>
-    ensures given { IfSome (F.contents files.old) (λ m. Gives (λ l. l) result (log_at m file.now.name.now)) }
-    ensures fits { IfOk result (λ l. log_format.fits l) }
-    ensures same { F.contents files.new ≡ F.contents files.old }
-    ensures counts { NoLower (F.faults files.old) (F.faults files.new) }
-    ensures cause { IfErr result (HasCause (file_of file.now ∷ []) (F.faults files.old) (F.faults files.new)) }
-    ensures steady { F.steady files.old
-        → IfSome (F.contents files.old) (λ m. UnlessFault (status_of (log_at m file.now.name.now))
-        (F.steady files.new × SameCounts (F.faults files.old) (F.faults files.new))) }
-    ensures steady_exact { F.steady files.old → IfSome (F.contents files.old) (λ m.
-        GivesExactly (λ l. l) result (log_at m file.now.name.now)) }
-{
-    let bytes = read_file(alloc, files, file)?;
-    log_in(alloc, bytes.as_slice())
-}
-
-/// Reads a log; the error is the status of its refusal.
-#[tactic(auto, unfolding(crate::specs::Replayed::log_in))]
-fn log_in(alloc: Global, bytes: &[u8]) -> Result<Log, Status>
-    ensures given { Gives (λ l. l) result (log_in bytes.now) }
-    ensures fits { IfOk result (λ l. log_format.fits l) }
-    ensures cause { IfErr result IsOfBytes }
-{
-    let log = change_log::read_log(alloc, bytes)?;
-    Ok(log)
-}
-
 /// Plays the log, and makes the ledger's file and the line.
 #[tactic(auto, unfolding(crate::specs::Replayed::replayed))]
 fn product_of<'a>(
@@ -145,14 +114,14 @@ fn stored<'a>(
     ensures targets { IfOk result (λ p. targets_of p.stores.items ≡ writes_of (Asked request.now)) }
 {
     let bytes = write_ledger(alloc, ledger)?.into_vec();
-    let says = played_line(alloc, log)?;
+    let lines = played_line(alloc, log)?;
     let mut stores = Vec::new(alloc);
     let file = FileArg {
         option: PLAYED_OUT,
         name: &request.ledger_out,
     };
     stores.push(OutputFile { file, bytes })?;
-    Ok(Product { stores, says })
+    Ok(Product { stores, lines })
 }
 
 /// Makes the line with the number of a log's stages.

@@ -1,13 +1,13 @@
 //! From a request to its product.
 
 ghost use Rattle.std.specs.Prelude.{◌≡◌, IfOk, IfErr, IfSome, Some};
-ghost use Rattle.command_words.specs.Words.{IsInRange, asked_of};
+ghost use Rattle.command_words.specs.Words.{IsInRange};
+ghost use Rattle.command_io.specs.Counts.{HasCause, NoLower, SameCounts};
+ghost use Rattle.command_io.specs.Steps.{Gives, GivesExactly, UnlessFault, status_of};
+ghost use Rattle.command_io.specs.Views.{made_of, targets_of};
 ghost use Rattle.soroban_top.specs.Asked.{reads_of, writes_of};
-ghost use Rattle.soroban_top.specs.Counts.{HasCause, NoLower, SameCounts};
 ghost use Rattle.soroban_top.specs.LogPlays.{LogPlaysIf};
-ghost use Rattle.soroban_top.specs.Outcome.{ReadsWords, outcome_of};
-ghost use Rattle.soroban_top.specs.Steps.{Gives, GivesExactly, UnlessFault, status_of};
-ghost use Rattle.soroban_top.specs.Views.{made_of, targets_of};
+ghost use Rattle.soroban_top.specs.Outcome.{outcome_of};
 
 use crate::apply::apply;
 use crate::building::build;
@@ -19,23 +19,11 @@ use crate::replaying::play;
 use crate::show::show;
 use crate::simulate::simulate;
 use crate::vetting::vet;
-use crate::{Product, Status};
-use command_words::{Request, WordsErr, request_of};
-use edge_io::{Files, Gate, Word};
+use command_io::{Product, Status};
+use command_words::Request;
+use edge_io::{Files, Gate};
 use std::alloc::Global;
 use std::thread::Threads;
-
-/// The request of the words.
-pub fn asked(alloc: Global, words: &[Word]) -> Result<Request, Status>
-    ensures request { ReadsWords result (asked_of words.now) }
-    ensures range { IfOk result IsInRange }
-{
-    match request_of(alloc, words) {
-        Ok(request) => Ok(request),
-        Err(WordsErr::Usage) => Err(Status::Usage),
-        Err(WordsErr::NoMemory) => Err(Status::NoMemory),
-    }
-}
 
 /// Reads the files of a command, and makes its stores and lines.
 pub fn produce<'a, R: Threads + Sync, F: Files, G: Gate + Sync>(

@@ -1,18 +1,18 @@
 //! The command `simulate`: finds the footprint that a transaction needs, and its result with that footprint.
 
-ghost use Rattle.std.specs.Prelude.{◌≡◌, [], ◌∷◌, IfOk, IfErr, IfSome};
+ghost use Rattle.std.specs.Prelude.{◌≡◌, IfOk, IfErr, IfSome};
 ghost use Rattle.command_words.specs.declared.request.Request.TheVariants.{Simulate as Asked};
+ghost use Rattle.command_io.specs.Counts.{HasCause, NoLower, SameCounts};
+ghost use Rattle.command_io.specs.Product.{file};
+ghost use Rattle.command_io.specs.Steps.{Gives, GivesExactly, UnlessFault, status_of};
+ghost use Rattle.command_io.specs.Views.{made_of, targets_of};
 ghost use Rattle.soroban_top.specs.Asked.{reads_of, writes_of};
-ghost use Rattle.soroban_top.specs.Counts.{HasCause, NoLower, SameCounts};
 ghost use Rattle.soroban_top.specs.Outcome.{simulated, outcome_of};
-ghost use Rattle.soroban_top.specs.Product.{file};
-ghost use Rattle.soroban_top.specs.Steps.{Gives, GivesExactly, UnlessFault, status_of};
-ghost use Rattle.soroban_top.specs.Views.{made_of, simulation_in, targets_of};
+ghost use Rattle.soroban_top.specs.Views.{simulation_in};
 
-use crate::judged::{read_envelope, read_ledger, read_verdicts};
-use crate::product::{LEDGER, OUT, TX, VERDICTS};
+use crate::options::{LEDGER, OUT, TX, VERDICTS};
 use crate::simulation::{Simulation, make_simulation};
-use crate::{FileArg, OutputFile, Product, Status};
+use command_io::{FileArg, OutputFile, Product, Status, read_envelope, read_ledger, read_verdicts};
 use command_words::SimulateRequest;
 use edge_io::Files;
 use std::alloc::{AllocError, Global};
@@ -62,6 +62,6 @@ fn product_of<'a>(
     })?;
     Ok(Product {
         stores,
-        says: simulation.lines,
+        lines: simulation.lines,
     })
 }

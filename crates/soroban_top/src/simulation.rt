@@ -9,8 +9,8 @@ ghost use Rattle.apply_spec.specs.Runs.{running_header as running_header_in};
 ghost use Rattle.apply_spec.specs.SimulationFile.{data_of, simulation_bytes, footprint_line, simulation_lines};
 ghost use Rattle.auth_record.specs.Done.{IsWithin};
 ghost use Rattle.auth_record.specs.Simulating.{simulated_in};
+ghost use Rattle.command_io.specs.Seen.{seen};
 ghost use Rattle.soroban_top.specs.Outcome.{simulation_of};
-ghost use Rattle.soroban_top.specs.Seen.{seen};
 ghost use Rattle.soroban_top.specs.Views.{simulation_in};
 
 use auth_record::{Simulated, simulate};

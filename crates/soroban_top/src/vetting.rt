@@ -1,20 +1,18 @@
 //! The command `vet`: validates a WebAssembly module.
 
-ghost use Rattle.std.specs.Prelude.{◌≡◌, [], ◌∷◌, IfOk, IfErr, IfSome};
+ghost use Rattle.std.specs.Prelude.{◌≡◌, IfOk, IfErr, IfSome};
 ghost use Rattle.command_words.specs.declared.request.Request.TheVariants.{Vet as Asked};
+ghost use Rattle.command_io.specs.Counts.{HasCause, NoLower, SameCounts};
+ghost use Rattle.command_io.specs.Steps.{Gives, GivesExactly, UnlessFault, status_of};
+ghost use Rattle.command_io.specs.Vetted.{vetted};
+ghost use Rattle.command_io.specs.Views.{made_of, targets_of};
 ghost use Rattle.soroban_top.specs.Asked.{reads_of, writes_of};
-ghost use Rattle.soroban_top.specs.Counts.{HasCause, IsOfBytes, NoLower, SameCounts};
 ghost use Rattle.soroban_top.specs.Outcome.{outcome_of};
-ghost use Rattle.soroban_top.specs.Steps.{Gives, GivesExactly, UnlessFault, status_of};
-ghost use Rattle.soroban_top.specs.Vetted.{flaw_status, vetted};
-ghost use Rattle.soroban_top.specs.Views.{made_of, targets_of};
 
-use crate::drive::read_file;
-use crate::product::ONLY_FILE;
-use crate::{FileArg, Product, Status};
+use crate::options::ONLY_FILE;
+use command_io::{FileArg, Product, Status, read_file, vetted};
 use command_words::VetRequest;
 use edge_io::Files;
-use module_vet::{Flaw, VetErr, valid_line};
 use std::alloc::Global;
 
 /// Reads and checks the module, and makes its line.
@@ -39,35 +37,9 @@ pub fn vet<'a, F: Files>(
         name: &request.module_file,
     };
     let bytes = read_file(alloc, files, &module_file)?;
-    let says = vetted(alloc, bytes.as_slice())?;
+    let lines = vetted(alloc, bytes.as_slice())?;
     Ok(Product {
         stores: Vec::new(alloc),
-        says,
+        lines,
     })
-}
-
-#[tactic(auto, unfolding(crate::specs::Vetted::vetted))]
-fn vetted(alloc: Global, bytes: &[u8]) -> Result<Vec<u8>, Status>
-    ensures given { Gives (λ v. v.items) result (vetted bytes.now) }
-    ensures cause { IfErr result IsOfBytes }
-{
-    match module_vet::vet(alloc, bytes) {
-        Ok(sizes) => {
-            let line = valid_line(alloc, &sizes)?;
-            Ok(line)
-        }
-        Err(VetErr::Flawed(flaw)) => Err(flaw_status(flaw)),
-        Err(VetErr::NoMemory) => Err(Status::NoMemory),
-    }
-}
-
-fn flaw_status(flaw: Flaw) -> Status
-    ensures status { result ≡ flaw_status flaw }
-    ensures cause { IsOfBytes result }
-{
-    match flaw {
-        Flaw::NotAModule => Status::NotAModule,
-        Flaw::Ill { func } => Status::Ill { func },
-        Flaw::Unlinked { import } => Status::Unlinked { import },
-    }
 }

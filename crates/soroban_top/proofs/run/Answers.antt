@@ -1,6 +1,6 @@
 use Rattle.std.proofs.lemmas.Result.{err_from_is_err_and}
+use Rattle.command_io.specs.Steps.{status_of}
 use Rattle.soroban_top.specs.Outcome.{outcome_of}
-use Rattle.soroban_top.specs.Steps.{status_of}
 use Rattle.soroban_top.specs.Asked.{reads_of}
 use Rattle.soroban_top.proofs.Leaving.{stopped_reading, second_where_known}
 use Rattle.soroban_top.proofs.run.Goals as goal

@@ -1,13 +1,13 @@
 use Rattle.std.proofs.Common.{◌∷◌, ℕ, List, Option, ap, ap₂, ◌∙◌}
 use Rattle.apply_spec.specs.Outputs.{Outputs}
 use Rattle.std.proofs.lemmas.Result.{err_from_is_err_and}
+use Rattle.command_io.specs.Product.{File, file}
+use Rattle.command_io.specs.Seen.{seen}
+use Rattle.command_io.specs.Views.{made_of}
+use Rattle.command_io.proofs.Lemmas.{cause_of_last}
 use Rattle.soroban_top.specs.Asked.{schedule_files}
 use Rattle.soroban_top.specs.LogStored.{log_after, log_bytes}
 use Rattle.soroban_top.specs.Outcome.{applied}
-use Rattle.soroban_top.specs.Product.{File, file}
-use Rattle.soroban_top.specs.Seen.{seen}
-use Rattle.soroban_top.specs.Views.{made_of}
-use Rattle.soroban_top.proofs.Causes.{cause_of_last}
 use Rattle.soroban_top.proofs.Logging.{has_read, log_file, log_plays, outcome_is, stored_is}
 use Rattle.soroban_top.proofs.apply.apply.Goals as goal
 

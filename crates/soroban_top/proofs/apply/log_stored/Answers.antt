@@ -1,8 +1,8 @@
 use Rattle.std.proofs.Common.{◌++◌, sym, ap, ◌∙◌}
 use Rattle.std.specs.Prelude.{is_some}
 use Rattle.std.proofs.lemmas.List.{append-nil}
+use Rattle.command_io.specs.Views.{targets_of}
 use Rattle.soroban_top.specs.LogStored.{log_target}
-use Rattle.soroban_top.specs.Views.{targets_of}
 use Rattle.soroban_top.proofs.apply.log_stored.Goals as goal
 
 pub returns-in-None-clause-targets : goal.returns-in-None-clause-targets

@@ -1,5 +1,5 @@
-use Rattle.std.proofs.Common.{length, refl, ap, arith}
-use Rattle.soroban_top.specs.Seen.{seen}
+use Rattle.std.proofs.Common.{length, ap, arith}
+use Rattle.command_io.specs.Seen.{seen}
 use Rattle.soroban_top.specs.Views.{outputs_in}
 use Rattle.soroban_top.proofs.ListsApplied.{each_fits, few_enough, list_made}
 use Rattle.soroban_top.proofs.Made.{new_header_fits}

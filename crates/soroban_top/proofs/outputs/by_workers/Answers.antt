@@ -4,7 +4,7 @@ use Rattle.apply_spec.specs.Runs.{new_header, run_set}
 use Rattle.soroban_top.specs.Scheduled.{outputs_of}
 use Rattle.change_log.specs.Log.{log_format}
 use Rattle.change_log.specs.declared.log.Log.{Log}
-use Rattle.soroban_top.specs.Seen.{seen}
+use Rattle.command_io.specs.Seen.{seen}
 use Rattle.soroban_top.proofs.Logging.{spelled_if}
 use Rattle.soroban_top.proofs.Made.{conflict_is, free_is, new_header_fits, outputs_applied}
 use Rattle.soroban_top.proofs.outputs.by_workers.Goals as goal

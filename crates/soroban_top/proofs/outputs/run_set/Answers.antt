@@ -1,4 +1,4 @@
-use Rattle.soroban_top.specs.Seen.{seen}
+use Rattle.command_io.specs.Seen.{seen}
 use Rattle.soroban_top.proofs.Logging.{kept_if, none_if, not_both, set_plays}
 use Rattle.soroban_top.proofs.outputs.run_set.Goals as goal
 

@@ -1,5 +1,5 @@
 use Rattle.std.proofs.Common.{refl}
-use Rattle.soroban_top.specs.Seen.{seen}
+use Rattle.command_io.specs.Seen.{seen}
 use Rattle.soroban_top.proofs.Simulations.{found_as}
 use Rattle.soroban_top.proofs.simulation.run.Goals as goal
 

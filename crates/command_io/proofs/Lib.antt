@@ -1,0 +1,7 @@
+mod Causes
+mod Decoding
+pub mod Lemmas
+mod Pieces
+mod PutTogether
+mod Saying
+mod Storing

@@ -1,0 +1,11 @@
+pub mod Product
+pub mod Steps
+pub mod Counts
+pub mod Inputs
+pub mod Pieces
+pub mod Left
+pub mod Lines
+pub mod Seen
+pub mod Shown
+pub mod Vetted
+pub mod Views
