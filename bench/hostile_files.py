@@ -59,6 +59,17 @@ def wide_key(number):
     return data_key(contract(0), wide_value(number))
 
 
+def alike_key(number):
+    """A key of 1,000 items that differs from others in the last 320. All have the fingerprint that `build` compares first.
+
+    The fingerprint is a polynomial of the bytes at 257, modulo 2^64. For each of ten binary digits there are 32 items 0 or 1 by the
+    sequence of Thue and Morse, or the other way round. The difference is a multiple of the product of 257^(8 * 2^i) - 1 for i below 5,
+    and so of 2^64.
+    """
+    items = [u32_value((it.bit_count() + (number >> digit)) % 2) for digit in range(9, -1, -1) for it in range(32)]
+    return data_key(contract(0), words(16, 1, 1_000) + words(1) * 680 + b"".join(items))
+
+
 def at_wide_key(number):
     """The record of a key of 1,000 items, which differs from others in the last one."""
     return data_record(wide_key(number), u32_value(0))
@@ -129,6 +140,8 @@ BUILT = [
     ("`build`, n envelopes, each third opens a stage", MEDIUM, building(opening)),
     ("`build`, n envelopes whose keys differ in the last of 1,000 items", SMALL, building(
         lambda n: [envelope(number, [], [wide_key(number)]) for number in range(n)])),
+    ("`build`, n envelopes, such keys that have one fingerprint", SMALL, building(
+        lambda n: [envelope(number, [], [alike_key(number)]) for number in range(n)])),
     ("`build`, an envelope of n keys", MEDIUM, building(lambda n: [envelope(0, [], [key(number) for number in range(n)])])),
 ]  # fmt: skip
 

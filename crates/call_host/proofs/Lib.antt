@@ -1,9 +1,7 @@
-mod Answering
 mod Arguments
 mod Beginning
 mod Counting
 mod Counts
-mod Dividing
 mod Framing
 mod Joining
 pub mod Lemmas
@@ -12,4 +10,3 @@ mod Showing
 mod Splitting
 mod Stepping
 mod Undoing
-mod Valuing

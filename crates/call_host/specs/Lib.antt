@@ -1,6 +1,5 @@
 pub mod Creations
 pub mod Framed
-pub mod Parts
 pub mod Placed
 pub mod Running
 pub mod Taken

@@ -1,4 +1,5 @@
-//! The host of one transaction's run, and what it does without opening a frame for a contract's code.
+//! The host of one transaction's run: its frames and their places, the points that it goes back to when a call fails, what a call
+//! finds, and the arguments that contracts pass. No function here runs a contract's code.
 //!
 //! `Host` holds the ledger's state with the running frame (`HostLedger` of host_ledger), the contracts with an open frame, what
 //! meets demands of authorisation, and the running frame's place. The crate above has the cycle of calls, which strings these
@@ -11,9 +12,7 @@
 //!    other end is caught.
 //! 3. `find_target` makes the tests of a call and finds the contract's instance and module.
 //! 4. `call_words` and its like take the arguments of a host function from its words, after the charges of the call.
-//! 5. `part_of` says which part of the program answers a host function. `value_answer`, `ledger_answer` and `upload_row` answer
-//!    those that open no frame, and `shown` shows an answer.
-//! 6. `tell_called` and its like tell the observer of the run. They change nothing that contracts see.
+//! 5. `tell_called` and its like tell the observer of the run. They change nothing that contracts see.
 //!
 //! The clauses compare a function with an act of call_spec, from every world that the host's state shows: end, value, entries,
 //! events, used authorisations, sums, and the touched keys if the storage records. What the state does not hold is the same in
@@ -35,9 +34,7 @@
 mod errors;
 mod frames;
 mod host;
-mod parts;
 mod place;
-mod rows;
 mod running;
 mod targets;
 mod telling;
@@ -45,9 +42,7 @@ mod undo;
 mod words;
 
 pub use host::{Host, Waiting};
-pub use parts::{Part, part_of};
 pub use place::{Place, below, clone_args, clone_bytes, new_place};
-pub use rows::{ledger_answer, shown, upload_row, value_answer};
 pub use running::{begin, end, new_frame};
 pub use targets::{ContractCall, Target, find_target, may_name};
 pub use telling::{tell_called, tell_demanded, tell_returned};

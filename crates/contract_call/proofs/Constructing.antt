@@ -33,7 +33,8 @@ use Rattle.call_host.specs.Worlds.{world_around, IsEnvOf, DoesAround}
 use Rattle.contract_call.specs.Made.{identifying, granting, authorising, sized, code_of, instantiating, building, constructing, builds_with, unless_given, if_void}
 use Rattle.contract_call.specs.declared.creating.SizedCode.{SizedCode}
 use Rattle.call_host.specs.declared.host.Host.{Host}
-use Rattle.call_host.proofs.Lemmas.{around, joined, retraced, same_after, steps_on, steps_stop}
+use Rattle.call_host.proofs.Lemmas.{around, joined, same_after, steps_on, steps_stop}
+use Rattle.contract_call.proofs.Answering.{traced}
 
 module_first : {A : Type 0} (m : Option Module) (next : Module → Act A) (w : World) → with_module m next w ≡ then_do (with_module m (λ x. gives x) w) next
 module_first None next w = refl
@@ -114,7 +115,7 @@ paid_is r header env c before after is h = subst (λ (x : Header). Charges r (λ
 charges_step : {A B : Type 0} (r : Result A HostErr) (view : A → B) (act : Act B) (s : Stored) (before after : Meter) → Charges r view act before after → Steps r view (λ _. act) s s before after
 charges_step r view act s before after h env serves w i j =
     quietly r view (act w) s w (λ t. record w { entries = s.map; trace = t; meter = after })
-    (retraced r view (act w) (λ t. record w { entries = s.map; trace = t; meter = after }) (record w { meter = after }) (ap (λ m. record w { entries = m; meter = after }) (sym i)) refl refl (h w j))
+    (traced r view (act w) (λ t. record w { entries = s.map; trace = t; meter = after }) (record w { meter = after }) (ap (λ m. record w { entries = m; meter = after }) (sym i)) refl refl (h w j))
 
 access_step : {A B : Type 0} (r : Result A HostErr) (view : A → B) (act : Env → Act B) (old new : Stored) (m : Meter) → Accesses r view act old new → Steps r view act old new m m
 access_step r view act old new m h env serves w i j = subst (λ (z : Meter). Says r view (act env w) (leaving old new w.trace (λ t. record w { entries = new.map; trace = t; meter = z }))) j (h env serves w i)
@@ -168,7 +169,7 @@ charges_around r view act old new e h =
     (λ env is rest trace.
     let w = world_around rest old trace in
     quietly r view (act env w) old.ledger.storage w (world_around rest (around old paid))
-    (retraced r view (act env w) (world_around rest (around old paid)) (record w { meter = new.budget }) refl refl refl (h env is.ledger.header w refl)))
+    (traced r view (act env w) (world_around rest (around old paid)) (record w { meter = new.budget }) refl refl refl (h env is.ledger.header w refl)))
 
 -- ---- the constructor's end
 

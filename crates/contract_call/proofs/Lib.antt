@@ -1,12 +1,15 @@
+mod Answering
 mod Arity
 mod Between
 mod Calling
 mod Constructing
 mod Construction
 mod Demanding
+mod Dividing
 mod Ending
 mod Looping
 mod Opening
 mod Possible
 mod Rowing
+mod Valuing
 mod Working

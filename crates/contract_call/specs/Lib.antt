@@ -1,6 +1,7 @@
 pub mod Demanded
 pub mod Ended
 pub mod Made
+pub mod Parts
 pub mod Possible
 pub use Rattle.auth_parts.specs.Entering
 pub use Rattle.call_host.specs.Creations

@@ -43,14 +43,15 @@ use crate::demands::{
     ask_entry, authorised, call_with, checked, contract_address, granted, own_call,
 };
 use crate::errors::{DENIED, TOO_MANY_FRAMES};
+use crate::parts::{Part, part_of};
+use crate::rows::{ledger_answer, shown, upload_row, value_answer};
 use auth_parts::Asked;
 use auth_spec::Demand;
 use auth_trees::Authority;
 use call_host::{
-    AuthArgs, CallArgs, ContractCall, Host, NewContract, Part, Place, Target, auth_for_args_words,
+    AuthArgs, CallArgs, ContractCall, Host, NewContract, Place, Target, auth_for_args_words,
     auth_words, begin, call_words, caught, construct_words, create_words, end, find_target,
-    ledger_answer, may_name, new_frame, new_place, part_of, shown, tell_called, tell_demanded,
-    tell_returned, upload_row, value_answer,
+    may_name, new_frame, new_place, tell_called, tell_demanded, tell_returned,
 };
 use call_parts::{clone_copy, start_instance};
 use contract_storage::Watch;

@@ -17,6 +17,8 @@ mod creating;
 mod demands;
 mod errors;
 mod laws;
+mod parts;
+mod rows;
 mod works;
 
 pub use auth_parts::enter_all;

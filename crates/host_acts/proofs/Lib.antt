@@ -1,12 +1,12 @@
-mod Codes
+mod CodeReads
 mod Composing
+mod DataKeys
 mod Emitting
 mod EventLists
-mod Keys
-pub mod Lemmas
 mod Linking
 mod Living
 mod Making
 mod Putting
 mod Spelling
 mod Tracing
+pub mod Lemmas

@@ -106,7 +106,7 @@ pub(crate) fn extend<G: Ground, W: Watch>(
 }
 
 /// The value of a live entry, after the charge for the entry.
-#[tactic(auto, using(crate::proofs::Keys::value_bounded), unfolding(call_spec::specs::Accesses::entry_size))]
+#[tactic(auto, using(crate::proofs::DataKeys::value_bounded), unfolding(call_spec::specs::Accesses::entry_size))]
 fn opened(budget: &mut Budget, found: &LedgerEntry) -> Result<Answer, HostErr>
     requires { entry_format.fits found.now }
     ensures does { (key : LedgerKeyData) (w : World) → w.meter ≡ budget.old

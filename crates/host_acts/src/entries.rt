@@ -33,7 +33,7 @@ use ledger_types::{ContractDataEntry, Durability, LedgerEntry, LedgerEntryData};
 use value_types::{Hash, ScAddress, ScVal};
 
 /// The entry of a contract's data.
-#[tactic(auto, using(crate::proofs::Keys::same_scval, crate::proofs::Keys::data_entry_fits))]
+#[tactic(auto, using(crate::proofs::DataKeys::same_scval, crate::proofs::DataKeys::data_entry_fits))]
 fn data_entry(
     n: u32,
     contract: Hash,

@@ -27,7 +27,7 @@ use value_types::{Blob, Hash, Items, ScVal, ScVals};
 use value_xdr::Xdr;
 
 /// Makes an event of a contract.
-#[tactic(auto, using(crate::proofs::Emitting::all_same, crate::proofs::Emitting::event_fits, crate::proofs::Keys::same_scval))]
+#[tactic(auto, using(crate::proofs::Emitting::all_same, crate::proofs::Emitting::event_fits, crate::proofs::DataKeys::same_scval))]
 pub fn event_of(
     alloc: Global,
     contract: Hash,

@@ -87,7 +87,7 @@ pub fn address_of(contract: Hash) -> Answer
 }
 
 /// The id of the contract that an address deploys with a salt, as an answer.
-#[tactic(auto, using(crate::proofs::Keys::preimage_fits))]
+#[tactic(auto, using(crate::proofs::DataKeys::preimage_fits))]
 fn id_answer(
     alloc: Global,
     network: &Hash,

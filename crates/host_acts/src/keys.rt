@@ -30,7 +30,7 @@ pub(crate) fn hold_contract(contract: Hash)
 }
 
 /// The key of a contract's data.
-#[tactic(auto, using(crate::proofs::Keys::same_scval, crate::proofs::Keys::data_key_fits))]
+#[tactic(auto, using(crate::proofs::DataKeys::same_scval, crate::proofs::DataKeys::data_key_fits))]
 pub fn data_key(contract: Hash, key: &ScVal, durability: Durability) -> Result<LedgerKey, ValueErr>
     requires { IsHosted (datum key.now) }
     ensures key { IfOk result (λ k. k ≡ data_key_at contract (datum key.now) durability) }
@@ -47,7 +47,7 @@ pub fn data_key(contract: Hash, key: &ScVal, durability: Durability) -> Result<L
 }
 
 /// The key of a contract's instance.
-#[tactic(auto, using(crate::proofs::Keys::instance_key_fits))]
+#[tactic(auto, using(crate::proofs::DataKeys::instance_key_fits))]
 pub fn instance_key(contract: Hash) -> LedgerKey
     ensures key { result ≡ instance_key_of contract }
     ensures fits { key_format.fits result }
@@ -61,7 +61,7 @@ pub fn instance_key(contract: Hash) -> LedgerKey
 }
 
 /// The key of a code.
-#[tactic(auto, using(crate::proofs::Keys::code_key_fits))]
+#[tactic(auto, using(crate::proofs::DataKeys::code_key_fits))]
 pub fn code_key(code: Hash) -> LedgerKey
     ensures key { result ≡ code_key_of code }
     ensures fits { key_format.fits result }

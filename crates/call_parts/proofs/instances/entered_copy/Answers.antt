@@ -1,4 +1,4 @@
-use Rattle.std.proofs.Common.{List, Option, Result, Ok, subst}
+use Rattle.std.proofs.Common.{List, Option, Result, Ok, sym, subst}
 use Rattle.host_spec.specs.MapRows.{Member}
 use Rattle.host_spec.specs.Hosted.{entry}
 use Rattle.host_spec.specs.declared.error.HostErr.{HostErr}
@@ -9,5 +9,6 @@ use Rattle.call_parts.proofs.instances.entered_copy.Goals as goal
 
 pub returns-in-Ok-clause-does : goal.returns-in-Ok-clause-does
 returns-in-Ok-clause-does c key =
-    copy_entered c.args.code c.in-Ok.storage c.args.entries.now (entry (map (members_of c.args.entries.now))) key
-    (subst (λ (ms : List Member). let q : Result (Option (List Member)) HostErr = Ok c.in-Ok.storage in IsEntered q ms (entry (map (members_of ms)))) c.in_ok-copy.ensures.ok c.in-Ok.ensures.does)
+    copy_entered c.args.code c.new.result c.args.entries.now (entry (map (members_of c.args.entries.now))) key
+    (subst (λ (s : Option (List Member)). let q : Result (Option (List Member)) HostErr = Ok s in IsEntered q c.args.entries.now (entry (map (members_of c.args.entries.now)))) (sym c.new.ensures)
+    (subst (λ (ms : List Member). let q : Result (Option (List Member)) HostErr = Ok c.in-Ok.storage in IsEntered q ms (entry (map (members_of ms)))) c.in_ok-copy.ensures.ok c.in-Ok.ensures.does))

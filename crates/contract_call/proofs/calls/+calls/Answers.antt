@@ -29,11 +29,12 @@ use Rattle.call_host.specs.Framed.{argument_words}
 use Rattle.call_host.proofs.Lemmas.{all_run, called_opened, not_begun, not_run, stays_opened, words_of}
 use Rattle.contract_call.proofs.Opening.{started_does, closes, framed_does, frame_stays, stays_equal}
 use Rattle.std.specs.Prelude.{List, [], ◌∷◌, ◌++◌}
+use Rattle.host_spec.specs.MapRows.{Member}
 use Rattle.host_ledger.specs.declared.state.InstanceCopy.{InstanceCopy}
 use Rattle.host_interface.specs.declared.kinds.ArgKind.TheVariants as kinds
 use Rattle.call_spec.specs.Rules.{answered}
 use Rattle.call_spec.specs.Calling.{call}
-use Rattle.std.proofs.Common.{None, Some, arith}
+use Rattle.std.proofs.Common.{None, Option, Some, arith}
 use Rattle.std.specs.Option.{option_map}
 use Rattle.value_types.specs.Datum.{address}
 use Rattle.value_types.specs.declared.address.ScAddress.TheVariants.{Contract}
@@ -46,7 +47,7 @@ use Rattle.call_spec.specs.Demands.{demanded, require_auth, require_auth_for_arg
 use Rattle.call_spec.specs.HostFunctions.{host_function}
 use Rattle.host_ledger.specs.Worlds.{address_of}
 use Rattle.call_host.specs.Creations.{creation_of}
-use Rattle.call_host.specs.Parts.{IsPart}
+use Rattle.contract_call.specs.Parts.{IsPart}
 use Rattle.call_host.specs.Taken.{creates_here}
 use Rattle.auth_parts.specs.Asked.{asks_then}
 use Rattle.auth_parts.specs.Views.{asked}
@@ -409,7 +410,8 @@ construct-returns-in-Ok-clause-does g t c =
     let copy : InstanceCopy = record { code = c.args.contract.code; storage = None } in
     let args = c.given_args-args.result.items in
     constructs_does c.args.room c.if-room-eq0.false c.args.creator c.args.id (creation_of c.args.contract) copy c.new_frame-frame.result c.in-Ok.place args c.args.path.items c.args.module.now c.enter-returned.result c.constructed.result
-    c.args.host.now c.enter-returned.new.host c.given_args-args.ensures.args (sym c.if-not-has_constructor.ensures) c.new_frame-frame.ensures.contract c.new_frame-frame.ensures.caller c.new_frame-frame.ensures.copy refl
+    c.args.host.now c.enter-returned.new.host c.given_args-args.ensures.args (sym c.if-not-has_constructor.ensures) c.new_frame-frame.ensures.contract c.new_frame-frame.ensures.caller
+    (c.new_frame-frame.ensures.copy ∙ ap (λ (s : Option (List Member)). let kept : InstanceCopy = record { code = c.args.contract.code; storage = s } in kept) c.null.ensures) refl
     (subst (λ (vs : List ScVal). IsNewPlace c.in-Ok.place CONSTRUCTOR vs (c.args.path.items ++ 1 ∷ [])) c.as_slice.ensures.value c.in-Ok.ensures.ok) c.enter-returned.ensures.stays c.constructed.ensures.does c.enter-returned.ensures.does
 
 pub build-returns-in-Ok-clause-does : goal.build-returns-in-Ok-clause-does

@@ -2,7 +2,7 @@ use Rattle.std.proofs.Common.{ℕ, List, refl}
 use Rattle.std.specs.Borrow.{Bor}
 use Rattle.contract_storage.specs.Acts.{get_act, lent}
 use Rattle.host_acts.proofs.Linking.{reads_read}
-use Rattle.host_acts.proofs.Codes.{code_found, code_refused}
+use Rattle.host_acts.proofs.CodeReads.{code_found, code_refused}
 use Rattle.host_acts.proofs.codes.code_at.Goals as goal
 
 pub returns-in-Ok : goal.returns-in-Ok

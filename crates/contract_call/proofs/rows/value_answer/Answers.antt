@@ -1,5 +1,5 @@
-use Rattle.call_host.proofs.Valuing.{does_over}
-use Rattle.call_host.proofs.rows.value_answer.Goals as goal
+use Rattle.contract_call.proofs.Valuing.{does_over}
+use Rattle.contract_call.proofs.rows.value_answer.Goals as goal
 
 pub returns-clause-does : goal.returns-clause-does
 returns-clause-does g c =

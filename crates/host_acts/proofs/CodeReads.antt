@@ -1,5 +1,6 @@
 -- Reads of a code.
 use Rattle.std.proofs.Common.{◌≡◌, ℕ, List, Bool, true, false, Result, Ok, Err, refl, sym, ap, subst, ◌∙◌}
+use Rattle.std.specs.Prelude.{if◌then◌else◌}
 use Rattle.value_types.specs.declared.hash.Hash.{Hash}
 use Rattle.ledger_types.specs.Key.{key_format}
 use Rattle.ledger_types.specs.declared.key.LedgerKey.{LedgerKey}

@@ -3,8 +3,8 @@ use Rattle.host_spec.specs.declared.error.HostErr.{HostErr}
 use Rattle.host_frame.specs.Answered.{answer_of}
 use Rattle.host_frame.specs.declared.answer.Answer.{Answer}
 use Rattle.call_host.specs.Worlds.{DoesIn}
-use Rattle.call_host.proofs.Answering.{shown_on}
-use Rattle.call_host.proofs.rows.shown.Goals as goal
+use Rattle.contract_call.proofs.Answering.{shown_on}
+use Rattle.contract_call.proofs.rows.shown.Goals as goal
 
 pub returns-in-Ok-clause-does : goal.returns-in-Ok-clause-does
 returns-in-Ok-clause-does g c start act stays one =

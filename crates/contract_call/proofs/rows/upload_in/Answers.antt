@@ -1,6 +1,6 @@
 use Rattle.host_ledger.specs.Worlds.{copied}
 use Rattle.host_ledger.proofs.Lemmas.{row}
-use Rattle.call_host.proofs.rows.upload_in.Goals as goal
+use Rattle.contract_call.proofs.rows.upload_in.Goals as goal
 
 pub returns-clause-does : goal.returns-clause-does
 returns-clause-does g c =

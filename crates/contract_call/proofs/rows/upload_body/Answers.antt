@@ -1,5 +1,5 @@
-use Rattle.call_host.proofs.Answering.{upload_runs}
-use Rattle.call_host.proofs.rows.upload_body.Goals as goal
+use Rattle.contract_call.proofs.Answering.{upload_runs}
+use Rattle.contract_call.proofs.rows.upload_body.Goals as goal
 
 pub returns-clause-does : goal.returns-clause-does
 returns-clause-does g c =

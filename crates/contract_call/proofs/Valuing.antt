@@ -26,8 +26,8 @@ use Rattle.call_host.specs.Worlds.{beside, with_memory}
 use Rattle.call_host.specs.Running.{DoesOver}
 use Rattle.call_host.specs.declared.host.Host.{Host}
 use Rattle.host_ledger.proofs.Lemmas.{afterwards, tells_equal}
-use Rattle.call_host.proofs.Answering.{retraced}
-use Rattle.call_host.proofs.Lending.{around}
+use Rattle.contract_call.proofs.Answering.{traced}
+use Rattle.call_host.proofs.Lemmas.{around}
 
 -- the result, with the ends of a host function
 abbrev pub ended : {A : Type 0} → Result A ValueErr → Result A HostErr
@@ -63,7 +63,7 @@ values_in i words r before after old new kept e h env opener rest trace m =
     let u = values.state (shown_of new.objects new.frame.shown) after new.budget in
     let calls = subst (λ (x : List ℕ). Calls r (value_function i) words (values.state (shown_of old.objects old.frame.shown) x old.budget) u) (sym m) h in
     afterwards (ended r) (λ n. n) (host_function env opener i words w) old.storage new.storage trace w (world_at (with_memory after rest) new) (tells_equal old.storage new.storage trace (ap (λ l. l.storage) kept))
-    (retraced (ended r) (λ n. n) (host_function env opener i words w) (world_at (with_memory after rest) new) (with_state u w) (ap (λ l. world_at (with_memory after rest) l trace) kept) refl refl (value_says i words r env opener w u e calls))
+    (traced (ended r) (λ n. n) (host_function env opener i words w) (world_at (with_memory after rest) new) (with_state u w) (ap (λ l. world_at (with_memory after rest) l trace) kept) refl refl (value_says i words r env opener w u e calls))
 
 pub values_stop : {G V : Type 0} (error : ValueErr) (e : HostErr) (i : HostImport) (words before after : List ℕ) (old new : HostLedger G V)
     → new ≡ record old { objects = new.objects; budget = new.budget; frame = record old.frame { shown = new.frame.shown } } → is_some (value_rule i) ≡ true

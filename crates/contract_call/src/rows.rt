@@ -30,9 +30,9 @@ ghost use Rattle.call_parts.specs.Steps.{Steps};
 ghost use Rattle.call_host.specs.Worlds.{with_memory, DoesIn, MayRun};
 ghost use Rattle.call_host.specs.Running.{DoesOver, StaysIn};
 
-use crate::host::Host;
 use auth_trees::Authority;
 use budget_meter::Budget;
+use call_host::Host;
 use call_parts::upload;
 use contract_storage::{Storage, Watch};
 use entry_lookup::Ground;
@@ -80,8 +80,8 @@ fn value_in<G: Ground, W: Watch>(
     }
 }
 
-/// Calls a host function over values for the running frame, with its linear memory. Returns the word that it answers.
-pub fn value_answer<G: Ground, A: Authority, W: Watch>(
+/// Calls a function over values.
+pub(crate) fn value_answer<G: Ground, A: Authority, W: Watch>(
     host: &mut Host<'_, G, A, W>,
     import: HostImport,
     words: &[u64],
@@ -99,8 +99,8 @@ pub fn value_answer<G: Ground, A: Authority, W: Watch>(
     value_in(&mut host.ledger, import, words, memory)
 }
 
-/// Calls a host function over the ledger and the running frame. Returns the word that it answers.
-pub fn ledger_answer<G: Ground, A: Authority, W: Watch>(
+/// Calls a function over the ledger and the running frame.
+pub(crate) fn ledger_answer<G: Ground, A: Authority, W: Watch>(
     host: &mut Host<'_, G, A, W>,
     import: HostImport,
     words: &[u64],
@@ -144,8 +144,8 @@ fn show<G: Ground, W: Watch>(
     Ok(word)
 }
 
-/// Shows what a host function returns in the running frame. Returns its word. An error stays as it is.
-pub fn shown<G: Ground, A: Authority, W: Watch>(
+/// Shows what a host function returns.
+pub(crate) fn shown<G: Ground, A: Authority, W: Watch>(
     host: &mut Host<'_, G, A, W>,
     made: Result<Answer, HostErr>,
 ) -> Result<u64, HostErr>
@@ -233,8 +233,8 @@ fn upload_in<G: Ground, W: Watch>(
     upload_body(&mut ledger.storage, &mut ledger.budget, &values, n, a)
 }
 
-/// Does `upload_wasm` for the running frame. The answer is the hash of the code.
-pub fn upload_row<G: Ground, A: Authority, W: Watch>(
+/// `upload_wasm`: the hash of a code.
+pub(crate) fn upload_row<G: Ground, A: Authority, W: Watch>(
     host: &mut Host<'_, G, A, W>,
     words: &[u64],
 ) -> Result<Answer, HostErr>

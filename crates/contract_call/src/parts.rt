@@ -1,13 +1,13 @@
 //! Which part of the program answers a call of a host function.
 
-ghost use Rattle.call_host.specs.Parts.{IsPart};
+ghost use Rattle.contract_call.specs.Parts.{IsPart};
 
 use host_interface::HostImport;
 use host_values::words_taken;
 
 /// Which part of the program answers a call of a host function.
 #[derive(Clone, Copy, Debug, PartialEq, Eq)]
-pub enum Part {
+pub(crate) enum Part {
     /// Over values alone.
     Values,
     /// Over the ledger and the running frame.
@@ -24,7 +24,7 @@ pub enum Part {
 
 /// The part that answers a call of a host function.
 #[tactic(auto, using(crate::proofs::Dividing::others_are_over_ledger))]
-pub fn part_of(import: HostImport) -> Part
+pub(crate) fn part_of(import: HostImport) -> Part
     ensures { IsPart result «import» }
 {
     if words_taken(import).is_some() {

@@ -4,8 +4,8 @@ use Rattle.host_interface.specs.declared.import.HostImport.{HostImport}
 use Rattle.host_interface.specs.declared.import.HostImport.TheVariants as imports
 use Rattle.host_spec.specs.ValueFunctions.{value_rule}
 use Rattle.host_ledger.specs.Called.{is_over_ledger}
-use Rattle.call_host.specs.declared.parts.Part.{Part}
-use Rattle.call_host.specs.declared.parts.Part.TheVariants as parts
+use Rattle.contract_call.specs.declared.parts.Part.{Part}
+use Rattle.contract_call.specs.declared.parts.Part.TheVariants as parts
 
 -- the function is one of this part
 abbrev pub IsPart : Part → HostImport → Type 0

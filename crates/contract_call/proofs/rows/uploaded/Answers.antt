@@ -1,5 +1,5 @@
-use Rattle.call_host.proofs.Answering.{upload_failed, upload_good}
-use Rattle.call_host.proofs.rows.uploaded.Goals as goal
+use Rattle.contract_call.proofs.Answering.{upload_failed, upload_good}
+use Rattle.contract_call.proofs.rows.uploaded.Goals as goal
 
 pub returns-in-Err-clause-does : goal.returns-in-Err-clause-does
 returns-in-Err-clause-does g c = upload_failed c.in-Err.error c.args.code.now c.args.storage.now c.upload.new.storage c.args.budget.now c.upload.new.budget c.in-Err.ensures.does

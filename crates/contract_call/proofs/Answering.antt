@@ -36,10 +36,7 @@ use Rattle.host_ledger.specs.declared.state.HostLedger.{HostLedger}
 use Rattle.call_host.specs.Worlds.{beside, world_in, leaving_by, DoesIn, MayRun}
 use Rattle.call_host.specs.Running.{StaysIn}
 use Rattle.call_host.specs.declared.host.Host.{Host}
-use Rattle.call_host.proofs.Joining.{keep_rest, stop, go_on, fails_as, as_fails}
-use Rattle.call_host.proofs.Showing.{telling}
-use Rattle.call_host.proofs.Stepping.{steps_stop, steps_view}
-use Rattle.call_host.proofs.Lending.{around}
+use Rattle.call_host.proofs.Lemmas.{around, as_fails, fails_as, go_on, keep_rest, steps_stop, steps_view, stop, telling}
 
 -- what the host holds are few bytes
 pub few_bytes : (x : List ℕ) → IsHosted (bytes x) → length x < 2 ^ 32
@@ -100,15 +97,15 @@ shown_stop e start mid act one env is rest trace =
     (stop (λ w t. world_in w mid t) keep_rest (telling start mid trace) mid.ledger.budget mid.marks.noted (λ _ _. (refl, refl)) e rest out shows (fails_as e answer_of out (leaving_by start mid trace (world_in rest mid)) (one env is rest trace)))
 
 -- an act that leaves one world, with the accesses so far
-pub retraced : {A B : Type 0} (r : Result A HostErr) (view : A → B) (out : Out B) (left : List Access → World) (w : World) → left w.trace ≡ w → (left []).meter ≡ w.meter → (left []).noted ≡ w.noted
+pub traced : {A B : Type 0} (r : Result A HostErr) (view : A → B) (out : Out B) (left : List Access → World) (w : World) → left w.trace ≡ w → (left []).meter ≡ w.meter → (left []).noted ≡ w.noted
     → Says r view out (quiet w (λ trace. w)) → Says r view out (quiet w left)
-retraced (Ok a) view out left w e m n p = (p.0, subst (λ o. o ≡ Good (view a) (left (trace_of o))) (sym p.1) (ap (Good (view a)) (sym e)))
-retraced (Err (ends.Failed d)) view out left w e m n p = (p.0, subst (λ o. o ≡ Bad (Failed d) (left (trace_of o))) (sym p.1) (ap (Bad (Failed d)) (sym e)))
-retraced (Err ends.Spent) view out left w e m n p = (p.0, p.1, p.2 ∙ sym m, p.3 ∙ sym n)
-retraced (Err (ends.Archived key)) view out left w e m n p = (p.0, p.1, p.2 ∙ sym m, p.3 ∙ sym n)
-retraced {B = B} (Err (ends.Undeclared key)) view out left w e m n p =
+traced (Ok a) view out left w e m n p = (p.0, subst (λ o. o ≡ Good (view a) (left (trace_of o))) (sym p.1) (ap (Good (view a)) (sym e)))
+traced (Err (ends.Failed d)) view out left w e m n p = (p.0, subst (λ o. o ≡ Bad (Failed d) (left (trace_of o))) (sym p.1) (ap (Bad (Failed d)) (sym e)))
+traced (Err ends.Spent) view out left w e m n p = (p.0, p.1, p.2 ∙ sym m, p.3 ∙ sym n)
+traced (Err (ends.Archived key)) view out left w e m n p = (p.0, p.1, p.2 ∙ sym m, p.3 ∙ sym n)
+traced {B = B} (Err (ends.Undeclared key)) view out left w e m n p =
     (p.0, subst (λ (z : Meter). out ≡ Undeclared (record { kind = stopped_kind out; key = key; used = z.used }) (world_of out)) (sym m) p.1, p.2 ∙ sym m)
-retraced (Err ends.NoMemory) view out left w e m n p = tt
+traced (Err ends.NoMemory) view out left w e m n p = tt
 
 -- ---- uploads
 

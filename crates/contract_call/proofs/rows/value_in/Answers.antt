@@ -1,7 +1,7 @@
 use Rattle.std.proofs.Common.{ℕ, Result, Ok, refl}
 use Rattle.host_spec.specs.declared.error.ValueErr.{ValueErr}
-use Rattle.call_host.proofs.Valuing.{values_in, values_stop}
-use Rattle.call_host.proofs.rows.value_in.Goals as goal
+use Rattle.contract_call.proofs.Valuing.{values_in, values_stop}
+use Rattle.contract_call.proofs.rows.value_in.Goals as goal
 
 pub returns-in-Ok-clause-does : goal.returns-in-Ok-clause-does
 returns-in-Ok-clause-does g c =
