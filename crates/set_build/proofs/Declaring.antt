@@ -1,20 +1,25 @@
 -- What is known of the keys of a stage, after a transaction joins a cluster.
-use Rattle.std.specs.FinMap.{get, empty, get-empty}
-use Rattle.std.specs.Ordering.{nat_cmp}
-use Rattle.std.specs.Cmp.Lexicographic.{slice_cmp}
+use Rattle.std.specs.BTreeMap.{BTreeMap, UpdatesBy, get_by, is_at}
+use Rattle.std.specs.Cmp.{IsTotalOrder, eq_by_cmp_equiv, nat_cmp_total, on_total, then_total}
+use Rattle.std.specs.Cmp.Lexicographic.{slice_cmp, nat_list_cmp_total, nat_list_eq_equiv}
+use Rattle.std.specs.List.{list_any}
+use Rattle.std.specs.Map.{KeepsOthers, IsKeyTest, AreApart, lookup}
+use Rattle.std.specs.Ordering.{nat_cmp, is_eq, eq_by_cmp, ordering_then}
 use Rattle.std.specs.Prelude.{◌==◌}
 use Rattle.std.specs.Str.{bytes_eq}
-use Rattle.std.proofs.Common.{◌≡◌, ◌⊎◌, inl, inr, ℕ, Bool, true, false, ◌||◌, List, [], ◌∷◌, ◌++◌, Option, Some, None, cond, refl, sym, ap, subst, ◌∙◌}
+use Rattle.std.specs.declared.cmp.Ordering.{Ordering}
+use Rattle.std.specs.declared.cmp.Ordering.TheVariants.{Less, Equal, Greater}
+use Rattle.std.proofs.Common.{◌≡◌, ◌⊎◌, inl, inr, ℕ, ◌<◌, Bool, true, false, ◌||◌, List, [], ◌∷◌, ◌++◌, Vec, length, map, take, get_or, Option, Some, None, cond, refl, sym, ap, subst, ◌∙◌}
 use Rattle.std.proofs.lemmas.Bool.{cases_eq}
 use Rattle.std.proofs.lemmas.Bool.Decides.{Decides-eqb}
+use Rattle.std.proofs.lemmas.List.{take_more, map-append, length_push}
+use Rattle.std.proofs.lemmas.Map.Text.{is_eq-slice_cmp}
 use Rattle.std.proofs.lemmas.Slice.Eq.{bytes_eq-Decides}
 use Rattle.stage_runs.specs.Maps.{Bytes, LedgerKey, key_bytes, has_bytes}
 use Rattle.stage_runs.specs.Transactions.{Envelope, declared_by, writes, declares}
 use Rattle.stage_runs.specs.Runs.{Cluster, Stage, writes_in, declares_in}
 use Rattle.stage_runs.proofs.Lemmas.{cases, left_true, never, right_true, write_declared}
-use Rattle.stage_plan.specs.KeyMaps.{ByKey}
-use Rattle.stage_plan.proofs.Lemmas.{found_put}
-use Rattle.set_build.specs.Known.{declared_too, noted, noted_all, noted_by, cluster_at, IsDeclarer, IsKnown, AreKnown}
+use Rattle.set_build.specs.Known.{Who, who, bytes_cmp, bytes_in, fingerprint, IsMarked, declared_too, noted, noted_by, named_by, cluster_at, IsDeclarer, IsKnown, AreKnown}
 use Rattle.set_build.specs.declared.declarer.Declarer.{Declarer}
 use Rattle.set_build.proofs.Tests.{or_none, or_self, or_assoc}
 use Rattle.set_build.proofs.Meets.{declares_more, writes_more, write_declares}
@@ -36,42 +41,121 @@ again n w v (Some d) =
       | false ↦ λ is. ap (λ (b : Bool). pick b v (record d { shared = true })) is
     ] refl
 
--- ---- what the map has after a transaction
+-- ---- who declares the keys after a transaction
 
-abbrev after_all : ℕ → Bool → Bool → Option Declarer → Option Declarer
+abbrev pub after_all : ℕ → Bool → Bool → Option Declarer → Option Declarer
 after_all n w here o = cond here (Some (declared_too n w o)) o
 
-found_noted : (n : ℕ) (w : Bool) (keys : ByKey Declarer) (k : LedgerKey) (q : Bytes) → get (noted n w keys k) q ≡ after_all n w (bytes_eq q (key_bytes k)) (get keys q)
-found_noted n w keys k q =
-    found_put keys (key_bytes k) (declared_too n w (get keys (key_bytes k))) q
-    ∙ at (bytes_eq q (key_bytes k)) (λ e. sym (ap (get keys) ((bytes_eq-Decides q (key_bytes k)).0 e)))
-  where
-    at : (b : Bool) → (b ≡ true → get keys (key_bytes k) ≡ get keys q) → cond b (Some (declared_too n w (get keys (key_bytes k)))) (get keys q) ≡ after_all n w b (get keys q)
-    at true f = ap (λ (o : Option Declarer). Some (declared_too n w o)) (f refl)
-    at false f = refl
+-- a key that is declared in two parts of a list
+pub after_both : (n : ℕ) (w a b : Bool) (o : Option Declarer) → after_all n w b (after_all n w a o) ≡ after_all n w (a || b) o
+after_both n w true true o = ap (λ (d : Declarer). Some d) (again n w w o ∙ ap (λ (b : Bool). declared_too n b o) (or_self w))
+after_both n w true false o = refl
+after_both n w false b o = refl
 
-found_all : (n : ℕ) (w : Bool) (more : List LedgerKey) (keys : ByKey Declarer) (q : Bytes) → get (noted_all n w keys more) q ≡ after_all n w (has_bytes more q) (get keys q)
-found_all n w [] keys q = refl
-found_all n w (k ∷ more) keys q =
-    found_all n w more (noted n w keys k) q ∙ ap (after_all n w (has_bytes more q)) (found_noted n w keys k q)
-    ∙ at (bytes_eq q (key_bytes k)) (has_bytes more q) (get keys q)
-  where
-    at : (a b : Bool) (o : Option Declarer) → after_all n w b (after_all n w a o) ≡ after_all n w (a || b) o
-    at true true o = ap (λ (d : Declarer). Some d) (again n w w o ∙ ap (λ (b : Bool). declared_too n b o) (or_self w))
-    at true false o = refl
-    at false b o = refl
+any_end : (test : Bytes → Bool) (done : List Bytes) (k : Bytes) → list_any test (done ++ k ∷ []) ≡ (list_any test done || list_any test (k ∷ []))
+any_end test [] k = refl
+any_end test (d ∷ done) k =
+    ap (λ (b : Bool). test d || b) (any_end test done k) ∙ sym (or_assoc (test d) (list_any test done) (list_any test (k ∷ [])))
 
-found_by : (n : ℕ) (keys : ByKey Declarer) (tx : Envelope) (q : Bytes) → get (noted_by n keys tx) q ≡ after_all n (writes tx q) (declares tx q) (get keys q)
+-- one more key
+pub noted_more : (n : ℕ) (w : Bool) (done : List Bytes) (k : Bytes) (first old new : Who) → ((q : Bytes) → old q ≡ noted n w done first q)
+    → ((q : Bytes) → new q ≡ noted n w (k ∷ []) old q) → (q : Bytes) → new q ≡ noted n w (done ++ k ∷ []) first q
+noted_more n w done k first old new before after q =
+    after q ∙ ap (after_all n w (list_any (bytes_eq q) (k ∷ []))) (before q)
+    ∙ after_both n w (list_any (bytes_eq q) done) (list_any (bytes_eq q) (k ∷ [])) (first q)
+    ∙ sym (ap (λ (b : Bool). after_all n w b (first q)) (any_end (bytes_eq q) done k))
+
+-- one more key of a list
+pub bytes_more : {Z : Type 0} (all yielded : List (ℕ × Vec ℕ Z)) (x : ℕ × Vec ℕ Z) → length yielded < length all → x ≡ get_or all (length yielded) x
+    → bytes_in (take (length (yielded ++ x ∷ [])) all) ≡ bytes_in (take (length yielded) all) ++ x.1.items ∷ []
+bytes_more all yielded x lt is =
+    ap bytes_in (ap (λ (n : ℕ). take n all) (length_push yielded x) ∙ take_more all (length yielded) x lt ∙ ap (λ y. take (length yielded) all ++ y ∷ []) (sym is))
+    ∙ map-append (λ k. k.1.items) (take (length yielded) all) (x ∷ [])
+
+-- the bytes of a key are among those of the keys
+in_bytes : (more : List LedgerKey) (q : Bytes) → list_any (bytes_eq q) (map key_bytes more) ≡ has_bytes more q
+in_bytes [] q = refl
+in_bytes (k ∷ more) q = ap (λ (b : Bool). bytes_eq q (key_bytes k) || b) (in_bytes more q)
+
+found_by : (n : ℕ) (keys : Who) (tx : Envelope) (q : Bytes) → noted_by n (named_by tx) keys q ≡ after_all n (writes tx q) (declares tx q) (keys q)
 found_by n keys tx q =
-    found_all n false (declared_by tx).read_only (noted_all n true keys (declared_by tx).read_write) q
-    ∙ ap (after_all n false (has_bytes (declared_by tx).read_only q)) (found_all n true (declared_by tx).read_write keys q)
-    ∙ at (writes tx q) (has_bytes (declared_by tx).read_only q) (get keys q)
+    ap (λ (b : Bool). after_all n false b (noted n true (map key_bytes (declared_by tx).read_write) keys q)) (in_bytes (declared_by tx).read_only q)
+    ∙ ap (λ (b : Bool). after_all n false (has_bytes (declared_by tx).read_only q) (after_all n true b (keys q))) (in_bytes (declared_by tx).read_write q)
+    ∙ at (writes tx q) (has_bytes (declared_by tx).read_only q) (keys q)
   where
     at : (w r : Bool) (o : Option Declarer) → after_all n false r (after_all n true w o) ≡ after_all n w (r || w) o
     at true true o = ap (λ (d : Declarer). Some d) (again n true false o)
     at true false o = refl
     at false true o = refl
     at false false o = refl
+
+-- ---- the code's map
+
+symmetric : (xs ys : Bytes) → bytes_eq xs ys ≡ bytes_eq ys xs
+symmetric xs ys = nat_list_eq_equiv.symm xs ys
+
+-- a stored key that compares as equal to bytes has these bytes
+found_bytes : {Z : Type 0} (q : Bytes) (k : ℕ × Vec ℕ Z) → is_eq (bytes_cmp q k) ≡ true → bytes_eq q k.1.items ≡ true
+found_bytes q k e = sym (is_eq-slice_cmp q k.1.items) ∙ of (nat_cmp (fingerprint q) k.0) (slice_cmp nat_cmp q k.1.items) e
+  where
+    of : (o p : Ordering) → is_eq (ordering_then o p) ≡ true → is_eq p ≡ true
+    of Less p h = absurd cc
+    of Equal p h = h
+    of Greater p h = absurd cc
+
+-- no stored key is found by other bytes
+apart : {Z : Type 0} (bs cs : Bytes) (k : ℕ × Vec ℕ Z) → bytes_eq bs cs ≡ false → is_eq (bytes_cmp bs k) ≡ true → is_eq (bytes_cmp cs k) ≡ false
+apart bs cs k n y = cases (is_eq (bytes_cmp cs k)) (λ z. never (both z) n) (λ z. z)
+  where
+    both : is_eq (bytes_cmp cs k) ≡ true → bytes_eq bs cs ≡ true
+    both z = ap (bytes_eq bs) ((bytes_eq-Decides cs k.1.items).0 (found_bytes cs k z)) ∙ found_bytes bs k y
+
+other_entries : {K X : Type 0} (eq : K → K → Bool) (test : K → Bool) (old new : List (K × X)) → KeepsOthers eq test old new → (other : K → Bool) → IsKeyTest eq other → AreApart test other → lookup other new ≡ lookup other old
+unfolding KeepsOthers
+other_entries eq test old new h = h
+
+-- the order of the keys of the map
+abbrev pub map_cmp : {Z : Type 0} → ℕ × Vec ℕ Z → ℕ × Vec ℕ Z → Ordering
+map_cmp x y = ordering_then (nat_cmp x.0 y.0) (slice_cmp nat_cmp x.1.items y.1.items)
+
+abbrev pair_cmp : ℕ × Bytes → ℕ × Bytes → Ordering
+pair_cmp x y = ordering_then (nat_cmp x.0 y.0) (slice_cmp nat_cmp x.1 y.1)
+
+pair_total : IsTotalOrder pair_cmp
+pair_total = then_total (on_total (λ p. p.0) nat_cmp_total) (on_total (λ p. p.1) nat_list_cmp_total)
+
+-- bytes find all keys that compare as equal, or none of them
+finds_equal : {Z : Type 0} (q : Bytes) → IsKeyTest (eq_by_cmp (map_cmp {Z = Z})) (λ k. is_eq (bytes_cmp q k))
+finds_equal q x y e = (eq_by_cmp_equiv pair_total).congr (fingerprint q, q) (x.0, x.1.items) (y.0, y.1.items) e
+
+-- a map that has another value at a key
+changed : {Z : Type 0} (bytes : Bytes) (old new : BTreeMap (ℕ × Vec ℕ Z) Declarer) (d : Declarer)
+    → UpdatesBy map_cmp (bytes_cmp bytes) old new (Some d) → (q : Bytes) → who new q ≡ cond (bytes_eq q bytes) (Some d) (who old q)
+changed bytes old new d h q =
+    elim (bytes_eq q bytes) as (λ b. bytes_eq q bytes ≡ b → who new q ≡ cond b (Some d) (who old q)) [
+      | true ↦ λ is. ap (who new) ((bytes_eq-Decides q bytes).0 is) ∙ h.1
+      | false ↦ λ is. other_entries _ _ _ _ h.3 _ (finds_equal q) (λ k. apart bytes q k (symmetric bytes q ∙ is))
+    ] refl
+
+module _ {Z : Type 0} (key : ℕ × Vec ℕ Z) (marked : IsMarked key) (old : BTreeMap (ℕ × Vec ℕ Z) Declarer) where
+  abbrev by : ℕ → ℕ × Vec ℕ Z → Ordering
+  by number x = ordering_then (nat_cmp number x.0) (slice_cmp nat_cmp key.1.items x.1.items)
+
+  -- who declares a key that has its fingerprint in front
+  pub found_at : get_by (map_cmp key) old ≡ who old key.1.items
+  found_at = ap (λ (number : ℕ). get_by (by number) old) marked
+
+  pub noted_at : (new : BTreeMap (ℕ × Vec ℕ Z) Declarer) (n : ℕ) (w : Bool) (found : Option Declarer) (now : Declarer) → UpdatesBy map_cmp (map_cmp key) old new (Some now)
+      → found ≡ get_by (map_cmp key) old → now ≡ declared_too n w found → (q : Bytes) → who new q ≡ noted n w (key.1.items ∷ []) (who old) q
+  noted_at new n w found now h f e q =
+      changed key.1.items old new now (subst (λ (number : ℕ). UpdatesBy map_cmp (by number) old new (Some now)) marked h) q
+      ∙ at (bytes_eq q key.1.items) (λ is. ap (who old) (sym ((bytes_eq-Decides q key.1.items).0 is)))
+      ∙ sym (ap (λ (b : Bool). after_all n w b (who old q)) (or_none (bytes_eq q key.1.items)))
+    where
+      at : (b : Bool) → (b ≡ true → who old key.1.items ≡ who old q) → cond b (Some now) (who old q) ≡ after_all n w b (who old q)
+      at true same =
+          ap (λ (d : Declarer). Some d) (e ∙ ap (declared_too n w) (f ∙ found_at)) ∙ ap (λ (o : Option Declarer). Some (declared_too n w o)) (same refl)
+      at false same = refl
 
 -- ---- a stage in which a transaction joins a cluster
 
@@ -185,8 +269,12 @@ module _ (stage next : Stage) (i : ℕ) (tx : Envelope) (grows : Grows stage i t
         | false ↦ λ is. still o is h
       ] refl
 
-pub known_by : (stage next : Stage) (i : ℕ) (tx : Envelope) (keys : ByKey Declarer) → Grows stage i tx next → AreKnown stage keys → AreKnown next (noted_by i keys tx)
-known_by stage next i tx keys grows h = λ q. subst (IsKnown next q) (sym (found_by i keys tx q)) (known_at stage next i tx grows q (get keys q) (h q))
+pub known_by : (stage next : Stage) (i : ℕ) (tx : Envelope) (keys : Who) → Grows stage i tx next → AreKnown stage keys → AreKnown next (noted_by i (named_by tx) keys)
+known_by stage next i tx keys grows h = λ q. subst (IsKnown next q) (sym (found_by i keys tx q)) (known_at stage next i tx grows q (keys q) (h q))
 
-pub none_known : AreKnown [] empty
-none_known = λ q. subst (IsKnown [] q) (sym (get-empty (slice_cmp nat_cmp) q)) (λ j. refl)
+-- what is known of keys is known of any that are declared alike
+pub known_as : (stage : Stage) (keys others : Who) → ((q : Bytes) → others q ≡ keys q) → AreKnown stage keys → AreKnown stage others
+known_as stage keys others same h = λ q. subst (IsKnown stage q) (sym (same q)) (h q)
+
+pub none_known : {Z : Type 0} (keys : BTreeMap (ℕ × Vec ℕ Z) Declarer) → keys.entries ≡ [] → AreKnown [] (who keys)
+none_known keys none = λ q. subst (IsKnown [] q) (sym (ap (lookup (is_at (bytes_cmp q))) none)) (λ j. refl)

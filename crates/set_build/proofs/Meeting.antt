@@ -1,17 +1,15 @@
 -- Which clusters a transaction meets, by who declares its keys.
-use Rattle.std.specs.FinMap.{get}
 use Rattle.std.specs.List.{list_any}
 use Rattle.std.specs.Prelude.{◌==◌}
-use Rattle.std.proofs.Common.{◌≡◌, ◌⊎◌, inl, inr, ℕ, Bool, true, false, ◌||◌, List, [], ◌∷◌, Option, Some, None, cond, refl, sym, ap, ◌∙◌}
+use Rattle.std.proofs.Common.{◌≡◌, ◌⊎◌, inl, inr, ℕ, Bool, true, false, ◌||◌, List, [], ◌∷◌, map, Option, Some, None, cond, refl, sym, ap, ◌∙◌}
 use Rattle.std.proofs.lemmas.Bool.{cases_eq}
 use Rattle.std.proofs.lemmas.Bool.Decides.{Decides-eqb}
 use Rattle.stage_runs.specs.Maps.{Bytes, LedgerKey, key_bytes}
 use Rattle.stage_runs.specs.Transactions.{Envelope, declared_by}
 use Rattle.stage_runs.specs.Runs.{Stage, writes_in, declares_in}
 use Rattle.stage_runs.proofs.Lemmas.{cases, left_true, never, one_true, right_true, write_declared}
-use Rattle.stage_plan.specs.KeyMaps.{ByKey}
 use Rattle.set_build.specs.Built.{meets}
-use Rattle.set_build.specs.Known.{cluster_at, IsKnown, AreKnown, met_on, met_with, met_all, met_by, IsMet}
+use Rattle.set_build.specs.Known.{Who, named_by, cluster_at, IsKnown, AreKnown, met_on, met_with, met_all, met_by, IsMet}
 use Rattle.set_build.specs.declared.declarer.Declarer.{Declarer}
 use Rattle.set_build.specs.declared.met.Met.{Met}
 use Rattle.set_build.specs.declared.met.Met.TheVariants as met
@@ -93,19 +91,19 @@ met_both f g met.Many n h k = (h.0, h.1, h.2, left_true (f h.0) (g h.0) h.3, lef
 abbrev on_keys : (LedgerKey → ℕ → Bool) → List LedgerKey → ℕ → Bool
 on_keys test more j = list_any (λ key. test key j) more
 
-met_more : (test : LedgerKey → ℕ → Bool) (keys : ByKey Declarer) (w : Bool) → ((key : LedgerKey) → IsMet (test key) (met_on w (get keys (key_bytes key))))
-    → (f : ℕ → Bool) (m : Met) (more : List LedgerKey) → IsMet f m → IsMet (λ j. f j || on_keys test more j) (met_all keys w m more)
+met_more : (test : LedgerKey → ℕ → Bool) (keys : Who) (w : Bool) → ((key : LedgerKey) → IsMet (test key) (met_on w (keys (key_bytes key))))
+    → (f : ℕ → Bool) (m : Met) (more : List LedgerKey) → IsMet f m → IsMet (λ j. f j || on_keys test more j) (met_all keys w m (map key_bytes more))
 met_more test keys w each f m [] h = is_same f (λ j. f j || false) (λ j. sym (or_none (f j))) m h
 met_more test keys w each f m (k ∷ more) h =
-    let one : Met = met_on w (get keys (key_bytes k)) in
+    let one : Met = met_on w (keys (key_bytes k)) in
     is_same (λ j. (f j || test k j) || on_keys test more j) (λ j. f j || (test k j || on_keys test more j)) (λ j. or_assoc (f j) (test k j) (on_keys test more j))
-    (met_all keys w (met_with m one) more)
+    (met_all keys w (met_with m one) (map key_bytes more))
     (met_more test keys w each (λ j. f j || test k j) (met_with m one) more (met_both f (test k) m one h (each k)))
 
-pub met_is : (stage : Stage) (keys : ByKey Declarer) (tx : Envelope) → Apart stage → AreKnown stage keys → IsMet (λ j. meets (cluster_at stage j) tx) (met_by keys tx)
+pub met_is : (stage : Stage) (keys : Who) (tx : Envelope) → Apart stage → AreKnown stage keys → IsMet (λ j. meets (cluster_at stage j) tx) (met_by keys (named_by tx))
 met_is stage keys tx apart known =
-    let written = met_more (λ key j. declares_in (cluster_at stage j) (key_bytes key)) keys true (λ key. met_writing stage apart (key_bytes key) (get keys (key_bytes key)) (known (key_bytes key)))
+    let written = met_more (λ key j. declares_in (cluster_at stage j) (key_bytes key)) keys true (λ key. met_writing stage apart (key_bytes key) (keys (key_bytes key)) (known (key_bytes key)))
     (λ j. false) met.None (declared_by tx).read_write (λ j. refl) in
-    met_more (λ key j. writes_in (cluster_at stage j) (key_bytes key)) keys false (λ key. met_reading stage apart (key_bytes key) (get keys (key_bytes key)) (known (key_bytes key)))
-    (λ j. list_any (λ key. declares_in (cluster_at stage j) (key_bytes key)) (declared_by tx).read_write) (met_all keys true met.None (declared_by tx).read_write)
+    met_more (λ key j. writes_in (cluster_at stage j) (key_bytes key)) keys false (λ key. met_reading stage apart (key_bytes key) (keys (key_bytes key)) (known (key_bytes key)))
+    (λ j. list_any (λ key. declares_in (cluster_at stage j) (key_bytes key)) (declared_by tx).read_write) (met_all keys true met.None (map key_bytes (declared_by tx).read_write))
     (declared_by tx).read_only written

@@ -3,18 +3,17 @@ use Rattle.std.specs.Prelude.{slice_get}
 use Rattle.std.proofs.Common.{◌≡◌, ℕ, zero, suc, ◌+◌, ◌<◌, ◌≤◌, List, [], ◌∷◌, ◌++◌, length, map, get_or, set, take, Some, refl, sym, ap, ap₂, subst, ◌∙◌, arith}
 use Rattle.std.proofs.lemmas.List.{length-map, length-take-le, length_push, map-append, map-set}
 use Rattle.std.proofs.lemmas.Option.{slice_get_read, slice_get-get_or}
+use Rattle.stage_runs.specs.Maps.{Bytes}
 use Rattle.stage_runs.specs.Transactions.{Envelope}
 use Rattle.stage_runs.specs.Runs.{Stage}
-use Rattle.stage_plan.specs.KeyMaps.{ByKey}
 use Rattle.stage_plan.proofs.Lemmas.{fold_more, split_last}
 use Rattle.set_build.specs.Built.{Building, put, placed, start, building, place_in}
-use Rattle.set_build.specs.Known.{cluster_at, AreKnown, IsLast, IsRanked, IsThere, ArePlanned, begun, keys_after, counts_after, last_after, noted_by, met_by, place_by}
-use Rattle.set_build.specs.declared.declarer.Declarer.{Declarer}
+use Rattle.set_build.specs.Known.{Who, who, Named, named_by, cluster_at, AreKnown, IsLast, IsRanked, IsThere, ArePlanned, begun, keys_after, counts_after, last_after, noted_by, met_by, place_by}
 use Rattle.set_build.specs.declared.last_stage.LastStage.{LastStage}
 use Rattle.set_build.specs.declared.place.Place.{Place}
 use Rattle.set_build.specs.declared.place.Place.TheVariants.{NewStage, NewCluster, InCluster}
 use Rattle.set_build.proofs.Tests.{get_left, get_end}
-use Rattle.set_build.proofs.Declaring.{known_by}
+use Rattle.set_build.proofs.Declaring.{known_as, known_by}
 use Rattle.set_build.proofs.Meeting.{met_is}
 use Rattle.set_build.proofs.Places.{IsRight, place_right, same_place}
 use Rattle.set_build.proofs.Growing.{IsGood, grows_end, grows_in}
@@ -30,13 +29,13 @@ size_at [] i = refl
 size_at (c ∷ stage) zero = refl
 size_at (c ∷ stage) (suc i) = size_at stage i
 
-keys_opened : (stage : Stage) (tx : Envelope) (keys : ByKey Declarer) → AreKnown stage keys → AreKnown (stage ++ (tx ∷ []) ∷ []) (noted_by (length (sizes_of stage)) keys tx)
+keys_opened : (stage : Stage) (tx : Envelope) (keys : Who) → AreKnown stage keys → AreKnown (stage ++ (tx ∷ []) ∷ []) (noted_by (length (sizes_of stage)) (named_by tx) keys)
 keys_opened stage tx keys h =
-    subst (λ (n : ℕ). AreKnown (stage ++ (tx ∷ []) ∷ []) (noted_by n keys tx)) (sym (length-map stage length))
+    subst (λ (n : ℕ). AreKnown (stage ++ (tx ∷ []) ∷ []) (noted_by n (named_by tx) keys)) (sym (length-map stage length))
     (known_by stage (stage ++ (tx ∷ []) ∷ []) (length stage) tx keys (grows_end stage tx) h)
 
-keys_known : (stage : Stage) (place : Place) (tx : Envelope) (max : ℕ) (keys : ByKey Declarer) → IsRight max stage tx place → AreKnown (begun stage place) keys
-    → AreKnown (last_after stage place tx) (keys_after keys (sizes_of (begun stage place)) place tx)
+keys_known : (stage : Stage) (place : Place) (tx : Envelope) (max : ℕ) (keys : Who) → IsRight max stage tx place → AreKnown (begun stage place) keys
+    → AreKnown (last_after stage place tx) (keys_after keys (sizes_of (begun stage place)) place (named_by tx))
 keys_known stage NewStage tx max keys right h = keys_opened [] tx keys h
 keys_known stage NewCluster tx max keys right h = keys_opened stage tx keys h
 keys_known stage (InCluster i) tx max keys right h = known_by stage (last_after stage (InCluster i) tx) i tx keys (grows_in stage i tx right.0) h
@@ -48,21 +47,27 @@ counts_known stage (InCluster i) tx =
     ap (set (sizes_of stage) i) (ap (λ (n : ℕ). n + 1) (size_at stage i) ∙ sym (length_push (cluster_at stage i) tx))
     ∙ sym (map-set length stage i (get_or stage i [] ++ tx ∷ []))
 
+-- who declares the keys after a transaction goes to its place, in the code's maps
+abbrev pub Follows : LastStage → Place → Named → LastStage → Type 0
+Follows old place more new = (q : Bytes) → who new.keys q ≡ keys_after (who old.keys) old.sizes.counts.items place more q
+
 pub last_next : (stage : Stage) (place : Place) (tx : Envelope) (max : ℕ) (old new : LastStage) → IsRight max stage tx place → IsLast (begun stage place) old
-    → new.keys ≡ keys_after old.keys old.sizes.counts.items place tx → new.sizes.counts.items ≡ counts_after old.sizes.counts.items place → IsRanked new.sizes
+    → Follows old place (named_by tx) new → new.sizes.counts.items ≡ counts_after old.sizes.counts.items place → IsRanked new.sizes
     → IsLast (last_after stage place tx) new
 last_next stage place tx max old new right h keys counts ranked = record {
   keys =
-      subst (AreKnown (last_after stage place tx)) (sym (keys ∙ ap (λ (ns : List ℕ). keys_after old.keys ns place tx) h.counts))
-      (keys_known stage place tx max old.keys right h.keys);
+      known_as (last_after stage place tx) (keys_after (who old.keys) (sizes_of (begun stage place)) place (named_by tx)) (who new.keys)
+      (λ q. keys q ∙ ap (λ (ns : List ℕ). keys_after (who old.keys) ns place (named_by tx) q) h.counts)
+      (keys_known stage place tx max (who old.keys) right h.keys);
   counts = counts ∙ ap (λ (ns : List ℕ). counts_after ns place) h.counts ∙ counts_known stage place tx;
   ranked = ranked;
 }
 
 pub place_is : (max n : ℕ) (stage : Stage) (tx : Envelope) (last : LastStage) → IsGood max n stage → IsLast stage last
-    → place_by max last.sizes.counts.items (met_by last.keys tx) ≡ place_in max stage tx
+    → place_by max last.sizes.counts.items (met_by (who last.keys) (named_by tx)) ≡ place_in max stage tx
 place_is max n stage tx last good h =
-    ap (λ (ns : List ℕ). place_by max ns (met_by last.keys tx)) h.counts ∙ same_place max stage tx (met_by last.keys tx) (met_is stage last.keys tx good.apart h.keys)
+    ap (λ (ns : List ℕ). place_by max ns (met_by (who last.keys) (named_by tx))) h.counts
+    ∙ same_place max stage tx (met_by (who last.keys) (named_by tx)) (met_is stage (who last.keys) tx good.apart h.keys)
 
 pub place_there : (max n : ℕ) (stage : Stage) (tx : Envelope) (place : Place) (counts : List ℕ) → IsGood max n stage → n < 18446744073709551615 → counts ≡ sizes_of (begun stage place)
     → IsRight max stage tx place
@@ -114,24 +119,30 @@ module _ (max : ℕ) (some : 0 < max) (envelopes : List Envelope) where
   last_of_put b NewCluster tx = refl
   last_of_put b (InCluster i) tx = refl
 
-  pub plan_place : (n : ℕ) (tx : Envelope) (last : LastStage) (place : Place) → n ≤ length envelopes → IsLast (so_far n).last last
-      → place ≡ place_by max last.sizes.counts.items (met_by last.keys tx) → place ≡ place_in max (so_far n).last tx
-  plan_place n tx last place le h is = is ∙ place_is max n (so_far n).last tx last (good_so_far n le) h
+  -- the place that the code finds by the bytes of a transaction's keys
+  abbrev pub IsPlaced : LastStage → Named → Place → Type 0
+  IsPlaced last more place = place ≡ place_by max last.sizes.counts.items (met_by (who last.keys) more)
 
-  pub plan_there : (n : ℕ) (tx : Envelope) (old last : LastStage) (place : Place) → n < length envelopes → length envelopes < 18446744073709551615 → IsLast (so_far n).last old
-      → place ≡ place_by max old.sizes.counts.items (met_by old.keys tx) → IsLast (begun (so_far n).last place) last → IsThere last.sizes.counts.items place
-  plan_there n tx old last place lt room h is begins =
+  pub plan_place : (n : ℕ) (tx : Envelope) (more : Named) (last : LastStage) (place : Place) → n ≤ length envelopes → more ≡ named_by tx → IsLast (so_far n).last last
+      → IsPlaced last more place → place ≡ place_in max (so_far n).last tx
+  plan_place n tx more last place le names h is =
+      is ∙ ap (λ (m : Named). place_by max last.sizes.counts.items (met_by (who last.keys) m)) names ∙ place_is max n (so_far n).last tx last (good_so_far n le) h
+
+  pub plan_there : (n : ℕ) (tx : Envelope) (more : Named) (old last : LastStage) (place : Place) → n < length envelopes → length envelopes < 18446744073709551615 → more ≡ named_by tx
+      → IsLast (so_far n).last old → IsPlaced old more place → IsLast (begun (so_far n).last place) last → IsThere last.sizes.counts.items place
+  plan_there n tx more old last place lt room names h is begins =
       place_there max n (so_far n).last tx place last.sizes.counts.items (good_so_far n (omega arith)) (omega arith) begins.counts
-      (subst (IsRight max (so_far n).last tx) (sym (plan_place n tx old place (omega arith) h is)) (place_right max (so_far n).last tx some))
+      (subst (IsRight max (so_far n).last tx) (sym (plan_place n tx more old place (omega arith) names h is)) (place_right max (so_far n).last tx some))
 
-  pub plan_last : (n : ℕ) (tx : Envelope) (old last new : LastStage) (place : Place) → n < length envelopes → tx ≡ get_or envelopes n tx → IsLast (so_far n).last old
-      → place ≡ place_by max old.sizes.counts.items (met_by old.keys tx) → IsLast (begun (so_far n).last place) last → new.keys ≡ keys_after last.keys last.sizes.counts.items place tx
+  pub plan_last : (n : ℕ) (tx : Envelope) (more : Named) (old last new : LastStage) (place : Place) → n < length envelopes → tx ≡ get_or envelopes n tx → more ≡ named_by tx
+      → IsLast (so_far n).last old → IsPlaced old more place → IsLast (begun (so_far n).last place) last → Follows last place more new
       → new.sizes.counts.items ≡ counts_after last.sizes.counts.items place → IsRanked new.sizes → IsLast (so_far (n + 1)).last new
-  plan_last n tx old last new place lt at h is begins keys counts ranked =
-      let same : place ≡ place_in max (so_far n).last tx = plan_place n tx old place (omega arith) h is in
+  plan_last n tx more old last new place lt at names h is begins keys counts ranked =
+      let same : place ≡ place_in max (so_far n).last tx = plan_place n tx more old place (omega arith) names h is in
       subst (λ (s : Stage). IsLast s new)
       (sym (ap (λ (b : Building). b.last) (one_step max envelopes n tx lt at) ∙ last_of_put (so_far n) (place_in max (so_far n).last tx) tx ∙ ap (λ (p : Place). last_after (so_far n).last p tx) (sym same)))
-      (last_next (so_far n).last place tx max last new (subst (IsRight max (so_far n).last tx) (sym same) (place_right max (so_far n).last tx some)) begins keys counts ranked)
+      (last_next (so_far n).last place tx max last new (subst (IsRight max (so_far n).last tx) (sym same) (place_right max (so_far n).last tx some)) begins
+      (subst (λ (m : Named). Follows last place m new) names keys) counts ranked)
 
   pub planned_none : ArePlanned max envelopes 0 []
   planned_none = record { count = refl; each = λ k tx lt at. absurd (omega arith) }

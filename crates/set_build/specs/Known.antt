@@ -1,17 +1,20 @@
 -- What is known of the last stage while transactions are placed (own).
-use Rattle.std.specs.Prelude.{◌≡◌, ◌==◌, ◌||◌, ◌<◌, ◌+◌, ◌↔◌, ℕ, Bool, true, false, List, [], ◌∷◌, ◌++◌, Option, Some, None}
+use Rattle.std.specs.Prelude.{◌≡◌, ◌==◌, ◌||◌, ◌<◌, ◌+◌, ◌*◌, ◌%◌, ◌^◌, ◌↔◌, ℕ, Vec, All, Bool, true, false}
+use Rattle.std.specs.Prelude.{List, [], ◌∷◌, ◌++◌, Option, Some, None}
 use Rattle.std.specs.Prelude.{map, length, get_or, set, take, nat_lt, slice_get, if◌then◌else◌}
-use Rattle.std.specs.List.{fold}
-use Rattle.std.specs.FinMap.{get, insert}
-use Rattle.std.specs.Ordering.{nat_cmp, ordering_then}
+use Rattle.std.specs.List.{fold, list_any}
+use Rattle.std.specs.BTreeMap.{BTreeMap, get_by}
 use Rattle.std.specs.BTreeSet.{contains}
+use Rattle.std.specs.Cmp.Lexicographic.{slice_cmp}
+use Rattle.std.specs.Ordering.{nat_cmp, ordering_then}
+use Rattle.std.specs.Str.{bytes_eq}
 use Rattle.std.specs.declared.cmp.Ordering.{Ordering}
-use Rattle.stage_runs.specs.Maps.{Bytes, LedgerKey, key_bytes}
+use Rattle.stage_runs.specs.Maps.{Bytes, key_bytes}
 use Rattle.stage_runs.specs.Transactions.{Envelope, declared_by}
 use Rattle.stage_runs.specs.Runs.{Cluster, Stage, writes_in, declares_in}
-use Rattle.stage_plan.specs.KeyMaps.{ByKey}
 use Rattle.set_build.specs.Built.{first_least, place_in, building, Building, put}
 use Rattle.set_build.specs.declared.declarer.Declarer.{Declarer}
+use Rattle.set_build.specs.declared.envelope_keys.EnvelopeKeys.{EnvelopeKeys}
 use Rattle.set_build.specs.declared.met.Met.{Met}
 use Rattle.set_build.specs.declared.met.Met.TheVariants as met
 use Rattle.set_build.specs.declared.place.Place.{Place}
@@ -19,7 +22,55 @@ use Rattle.set_build.specs.declared.place.Place.TheVariants.{NewStage, NewCluste
 use Rattle.set_build.specs.declared.sizes.Sizes.{Sizes}
 use Rattle.set_build.specs.declared.last_stage.LastStage.{LastStage}
 
+-- ---- the keys that a transaction declares
+
+-- a polynomial of the bytes; different bytes can have equal fingerprints
+abbrev pub fingerprint : Bytes → ℕ
+fingerprint bytes = fold (λ number byte. (number * 257 % 2 ^ 64 + byte) % 2 ^ 64) 0 bytes
+
+-- The number in front of the bytes is their fingerprint.
+abbrev pub IsMarked : {Z : Type 0} → ℕ × Vec ℕ Z → Type 0
+IsMarked key = key.0 ≡ fingerprint key.1.items
+
+abbrev pub AreMarked : EnvelopeKeys → Type 0
+AreMarked keys = All IsMarked keys.read_write.items × All IsMarked keys.read_only.items
+
+-- the bytes without their fingerprints
+abbrev pub bytes_in : {Z : Type 0} → List (ℕ × Vec ℕ Z) → List Bytes
+bytes_in keys = map (λ k. k.1.items) keys
+
+-- the XDR bytes of keys that are declared read-write and read-only
+pub record Named : Type 0 where
+  pub read_write : List Bytes
+  pub read_only : List Bytes
+
+abbrev pub named : EnvelopeKeys → Named
+named keys = record { read_write = bytes_in keys.read_write.items; read_only = bytes_in keys.read_only.items }
+
+-- those of the keys that a transaction declares
+abbrev pub named_by : Envelope → Named
+named_by tx = record {
+  read_write = map key_bytes (declared_by tx).read_write;
+  read_only = map key_bytes (declared_by tx).read_only;
+}
+
+-- The keys are those that the transaction declares.
+pub record AreOf (tx : Envelope) (keys : EnvelopeKeys) : Type 0 where
+  pub marked : AreMarked keys
+  pub bytes : named keys ≡ named_by tx
+
 -- ---- who declares a key
+
+-- who declares the key with these XDR bytes
+abbrev pub Who : Type 0
+Who = Bytes → Option Declarer
+
+-- the order of the code's map: by the fingerprints, and by the bytes if these are equal
+abbrev pub bytes_cmp : {Z : Type 0} → Bytes → ℕ × Vec ℕ Z → Ordering
+bytes_cmp q key = ordering_then (nat_cmp (fingerprint q) key.0) (slice_cmp nat_cmp q key.1.items)
+
+abbrev pub who : {Z : Type 0} → BTreeMap (ℕ × Vec ℕ Z) Declarer → Who
+who keys q = get_by (bytes_cmp q) keys
 
 -- what is known of a key after the cluster at this index declares it
 abbrev pub declared_too : ℕ → Bool → Option Declarer → Declarer
@@ -27,16 +78,14 @@ declared_too number writes None = record { cluster = number; writes = writes; sh
 declared_too number writes (Some d) =
     if d.cluster == number then record d { writes = d.writes || writes } else record d { shared = true }
 
-abbrev pub noted : ℕ → Bool → ByKey Declarer → LedgerKey → ByKey Declarer
-noted number writes keys key = insert keys (key_bytes key) (declared_too number writes (get keys (key_bytes key)))
+-- who declares the key with the bytes q after the cluster at this index declares these keys
+abbrev pub noted : ℕ → Bool → List Bytes → Who → Who
+noted number writes more keys q =
+    if list_any (bytes_eq q) more then Some (declared_too number writes (keys q)) else keys q
 
-abbrev pub noted_all : ℕ → Bool → ByKey Declarer → List LedgerKey → ByKey Declarer
-noted_all number writes keys more = fold (noted number writes) keys more
-
--- the keys after a transaction joins the cluster at this index
-abbrev pub noted_by : ℕ → ByKey Declarer → Envelope → ByKey Declarer
-noted_by number keys tx =
-    noted_all number false (noted_all number true keys (declared_by tx).read_write) (declared_by tx).read_only
+-- the same after a transaction joins the cluster at this index
+abbrev pub noted_by : ℕ → Named → Who → Who
+noted_by number more keys q = noted number false more.read_only (noted number true more.read_write keys) q
 
 -- the cluster at an index, which is empty past the stage's end
 abbrev pub cluster_at : Stage → ℕ → Cluster
@@ -53,8 +102,8 @@ abbrev pub IsKnown : Stage → Bytes → Option Declarer → Type 0
 IsKnown stage q None = (j : ℕ) → declares_in (cluster_at stage j) q ≡ false
 IsKnown stage q (Some d) = IsDeclarer stage q d
 
-abbrev pub AreKnown : Stage → ByKey Declarer → Type 0
-AreKnown stage keys = (q : Bytes) → IsKnown stage q (get keys q)
+abbrev pub AreKnown : Stage → Who → Type 0
+AreKnown stage keys = (q : Bytes) → IsKnown stage q (keys q)
 
 -- ---- which clusters a transaction meets
 
@@ -72,11 +121,11 @@ met_with (met.One i) met.None = met.One i
 met_with (met.One i) met.Many = met.Many
 met_with (met.One i) (met.One j) = if i == j then met.One i else met.Many
 
-abbrev pub met_all : ByKey Declarer → Bool → Met → List LedgerKey → Met
-met_all keys writes m more = fold (λ n key. met_with n (met_on writes (get keys (key_bytes key)))) m more
+abbrev pub met_all : Who → Bool → Met → List Bytes → Met
+met_all keys writes m more = fold (λ n key. met_with n (met_on writes (keys key))) m more
 
-abbrev pub met_by : ByKey Declarer → Envelope → Met
-met_by keys tx = met_all keys false (met_all keys true met.None (declared_by tx).read_write) (declared_by tx).read_only
+abbrev pub met_by : Who → Named → Met
+met_by keys more = met_all keys false (met_all keys true met.None more.read_write) more.read_only
 
 -- the place by the numbers of transactions of the clusters, and by which clusters are met
 abbrev pub place_by : ℕ → List ℕ → Met → Place
@@ -112,14 +161,14 @@ IsThere counts _ = Unit {0}
 
 -- ---- the last stage
 
--- who declares the keys after a transaction goes to its place
-abbrev pub keys_after : ByKey Declarer → List ℕ → Place → Envelope → ByKey Declarer
-keys_after keys counts NewStage tx = noted_by (length counts) keys tx
-keys_after keys counts NewCluster tx = noted_by (length counts) keys tx
-keys_after keys counts (InCluster i) tx = noted_by i keys tx
+-- who declares the keys after a transaction of these keys goes to its place
+abbrev pub keys_after : Who → List ℕ → Place → Named → Who
+keys_after keys counts NewStage more q = noted_by (length counts) more keys q
+keys_after keys counts NewCluster more q = noted_by (length counts) more keys q
+keys_after keys counts (InCluster i) more q = noted_by i more keys q
 
 pub record IsLast (stage : Stage) (last : LastStage) : Type 0 where
-  pub keys : AreKnown stage last.keys
+  pub keys : AreKnown stage (who last.keys)
   pub counts : last.sizes.counts.items ≡ map length stage
   pub ranked : IsRanked last.sizes
 

@@ -1,16 +1,13 @@
 //! Who declares the keys of a stage.
 
-ghost use Rattle.std.specs.Prelude.{◌≡◌, All, OnOk};
-ghost use Rattle.std.specs.FinMap.{get as get_in};
-ghost use Rattle.ledger_types.specs.Key.{key_format};
-ghost use Rattle.ledger_spec.specs.LedgerMap.{key_bytes};
-ghost use Rattle.stage_plan.specs.Spelled.{DeclaresSpelled};
-ghost use Rattle.set_build.specs.Known.{declared_too, noted, noted_all, noted_by, met_on, met_all, met_by};
+ghost use Rattle.std.specs.Prelude.{◌≡◌, ◌∷◌, [], All, OnOk};
+ghost use Rattle.stage_runs.specs.Maps.{Bytes};
+ghost use Rattle.set_build.specs.Known.{declared_too, who, named, noted, noted_by, bytes_in, IsMarked, AreMarked};
+ghost use Rattle.set_build.specs.Known.{met_on, met_all, met_by};
 
+use crate::envelope_keys::{EnvelopeKeys, KeyBytes};
 use crate::met::Met;
-use ledger_types::LedgerKey;
-use stage_plan::{KeyMap, read_only_of, read_write_of};
-use tx_xdr::Envelope;
+use std::collections::BTreeMap;
 use xdr_core::NoMemory;
 
 /// Who declares a key in a stage without a conflict. A key that is declared read-write is declared by one cluster alone.
@@ -24,8 +21,8 @@ pub(crate) struct Declarer {
     shared: bool,
 }
 
-/// Who declares each key of a stage.
-pub(crate) type Declarers<'a> = KeyMap<'a, Declarer>;
+/// Who declares each key of a stage, by the key's XDR bytes.
+pub(crate) type Declarers = BTreeMap<KeyBytes, Declarer>;
 
 // ---- what the keys tell
 
@@ -52,24 +49,24 @@ fn met_on(found: Option<Declarer>, writes: bool) -> Met
 }
 
 /// Adds the clusters that a transaction meets on these keys.
-fn met_all<'a>(declarers: &Declarers<'a>, keys: &'a [LedgerKey], writes: bool, met: Met) -> Met
-    requires { All key_format.fits keys.now }
-    ensures { result ≡ met_all declarers.now writes met keys.now }
+fn met_all(declarers: &Declarers, keys: &[KeyBytes], writes: bool, met: Met) -> Met
+    requires { All IsMarked keys.now }
+    ensures { result ≡ met_all (who declarers.now) writes met (bytes_in keys.now) }
 {
     let mut all = met;
     for key in keys {
-        all = all.with(met_on(declarers.get(key), writes));
+        all = all.with(met_on(declarers.get(key).copied(), writes));
     }
     all
 }
 
-/// Returns the clusters that a transaction meets, by O(k log n) comparisons of keys, where it declares k keys.
-pub(crate) fn met_by<'a>(declarers: &Declarers<'a>, envelope: &'a Envelope) -> Met
-    requires { DeclaresSpelled envelope.now }
-    ensures { result ≡ met_by declarers.now envelope.now }
+/// Returns the clusters that a transaction meets, by O(k log n) comparisons, where it declares k keys.
+pub(crate) fn met_by(declarers: &Declarers, keys: &EnvelopeKeys) -> Met
+    requires { AreMarked keys.now }
+    ensures { result ≡ met_by (who declarers.now) (named keys.now) }
 {
-    let written = met_all(declarers, read_write_of(envelope), true, Met::None);
-    met_all(declarers, read_only_of(envelope), false, written)
+    let written = met_all(declarers, &keys.read_write, true, Met::None);
+    met_all(declarers, &keys.read_only, false, written)
 }
 
 // ---- a transaction that joins a cluster
@@ -101,28 +98,31 @@ fn declared_too(found: Option<Declarer>, number: usize, writes: bool) -> Declare
 }
 
 /// Notes that a cluster declares a key.
-fn note<'a>(
-    declarers: &mut Declarers<'a>,
-    key: &'a LedgerKey,
+fn note(
+    declarers: &mut Declarers,
+    key: KeyBytes,
     number: usize,
     writes: bool,
 ) -> Result<(), NoMemory>
-    requires { key_format.fits key.now }
-    ensures { OnOk result (declarers.new ≡ noted number writes declarers.old key.now) }
+    requires { IsMarked key }
+    ensures { OnOk result
+        ((q : Bytes) → who declarers.new q ≡ noted number writes (key.1.items ∷ []) (who declarers.old) q) }
 {
-    let found = declarers.get(key);
-    declarers.insert(key, declared_too(found, number, writes))
+    let found = declarers.get(&key).copied();
+    declarers.insert(key, declared_too(found, number, writes))?;
+    Ok(())
 }
 
 /// Notes that a cluster declares these keys.
-fn note_all<'a>(
-    declarers: &mut Declarers<'a>,
-    keys: &'a [LedgerKey],
+fn note_all(
+    declarers: &mut Declarers,
+    keys: Vec<KeyBytes>,
     number: usize,
     writes: bool,
 ) -> Result<(), NoMemory>
-    requires { All key_format.fits keys.now }
-    ensures { OnOk result (declarers.new ≡ noted_all number writes declarers.old keys.now) }
+    requires { All IsMarked keys.items }
+    ensures { OnOk result
+        ((q : Bytes) → who declarers.new q ≡ noted number writes (bytes_in keys.items) (who declarers.old) q) }
 {
     for key in keys {
         note(declarers, key, number, writes)?;
@@ -131,14 +131,18 @@ fn note_all<'a>(
 }
 
 /// Notes the keys of a transaction that joins the cluster with this index.
-pub(crate) fn note_by<'a>(
-    declarers: &mut Declarers<'a>,
-    envelope: &'a Envelope,
+pub(crate) fn note_by(
+    declarers: &mut Declarers,
+    keys: EnvelopeKeys,
     number: usize,
 ) -> Result<(), NoMemory>
-    requires { DeclaresSpelled envelope.now }
-    ensures { OnOk result (declarers.new ≡ noted_by number declarers.old envelope.now) }
+    requires { AreMarked keys }
+    ensures { OnOk result ((q : Bytes) → who declarers.new q ≡ noted_by number (named keys) (who declarers.old) q) }
 {
-    note_all(declarers, read_write_of(envelope), number, true)?;
-    note_all(declarers, read_only_of(envelope), number, false)
+    let EnvelopeKeys {
+        read_write,
+        read_only,
+    } = keys;
+    note_all(declarers, read_write, number, true)?;
+    note_all(declarers, read_only, number, false)
 }

@@ -1,28 +1,29 @@
 //! What is known of the last stage while envelopes are placed.
 
 ghost use Rattle.std.specs.Prelude.{◌≡◌, ◌<◌, [], OnOk};
-ghost use Rattle.stage_plan.specs.Spelled.{DeclaresSpelled};
-ghost use Rattle.set_build.specs.Known.{IsLast, IsRanked, IsThere, met_by as met_by_in, place_by, keys_after, counts_after};
+ghost use Rattle.stage_runs.specs.Maps.{Bytes};
+ghost use Rattle.set_build.specs.Known.{IsLast, IsRanked, IsThere, AreMarked, who, named};
+ghost use Rattle.set_build.specs.Known.{met_by as met_by_in, place_by, keys_after, counts_after};
 ghost use Rattle.set_build.specs.declared.place.Place.TheVariants.{NewCluster};
 
 use crate::declarer::{Declarers, met_by, note_by};
+use crate::envelope_keys::EnvelopeKeys;
 use crate::met::Met;
 use crate::place::Place;
 use crate::sizes::Sizes;
 use std::alloc::Global;
-use tx_xdr::Envelope;
 use xdr_core::NoMemory;
 
 /// Who declares the keys of the last stage, and how many envelopes its clusters have.
 #[derive(Drop)]
-pub(crate) struct LastStage<'a> {
-    keys: Declarers<'a>,
+pub(crate) struct LastStage {
+    keys: Declarers,
     sizes: Sizes,
 }
 
-impl<'a> LastStage<'a> {
+impl LastStage {
     /// Returns a stage without clusters.
-    pub(crate) fn new(alloc: Global) -> LastStage<'a>
+    pub(crate) fn new(alloc: Global) -> LastStage
         ensures { IsLast [] result }
     {
         LastStage {
@@ -31,14 +32,15 @@ impl<'a> LastStage<'a> {
         }
     }
 
-    /// Returns where an envelope goes.
-    pub(crate) fn place(&self, envelope: &'a Envelope, max_clusters: usize) -> Place
-        requires spelled { DeclaresSpelled envelope.now }
+    /// Returns where an envelope goes that declares these keys.
+    pub(crate) fn place(&self, keys: &EnvelopeKeys, max_clusters: usize) -> Place
+        requires marked { AreMarked keys.now }
         requires ranked { IsRanked self.now.sizes }
         requires some { 0 < max_clusters }
-        ensures { result ≡ place_by max_clusters self.now.sizes.counts.items (met_by_in self.now.keys envelope.now) }
+        ensures { result ≡ place_by max_clusters self.now.sizes.counts.items
+            (met_by_in (who self.now.keys) (named keys.now)) }
     {
-        match met_by(&self.keys, envelope) {
+        match met_by(&self.keys, keys) {
             Met::None => {
                 if self.sizes.len() < max_clusters {
                     Place::NewCluster
@@ -51,32 +53,33 @@ impl<'a> LastStage<'a> {
         }
     }
 
-    /// Notes an envelope that opens a cluster.
-    fn open(&mut self, envelope: &'a Envelope) -> Result<(), NoMemory>
-        requires spelled { DeclaresSpelled envelope.now }
+    /// Notes an envelope of these keys that opens a cluster.
+    fn open(&mut self, keys: EnvelopeKeys) -> Result<(), NoMemory>
+        requires marked { AreMarked keys }
         requires ranked { IsRanked self.old.sizes }
-        ensures keys { OnOk result
-            (self.new.keys ≡ keys_after self.old.keys self.old.sizes.counts.items NewCluster envelope.now) }
+        ensures keys { OnOk result ((q : Bytes) → who self.new.keys q
+            ≡ keys_after (who self.old.keys) self.old.sizes.counts.items NewCluster (named keys) q) }
         ensures counts { OnOk result (self.new.sizes.counts.items ≡ counts_after self.old.sizes.counts.items NewCluster) }
         ensures ranked { OnOk result (IsRanked self.new.sizes) }
     {
-        note_by(&mut self.keys, envelope, self.sizes.len())?;
+        note_by(&mut self.keys, keys, self.sizes.len())?;
         self.sizes.push()
     }
 
-    /// Notes an envelope that goes to a place. A new stage has no clusters yet.
-    pub(crate) fn put(&mut self, place: Place, envelope: &'a Envelope) -> Result<(), NoMemory>
-        requires spelled { DeclaresSpelled envelope.now }
+    /// Notes an envelope of these keys that goes to a place. A new stage has no clusters yet.
+    pub(crate) fn put(&mut self, place: Place, keys: EnvelopeKeys) -> Result<(), NoMemory>
+        requires marked { AreMarked keys }
         requires ranked { IsRanked self.old.sizes }
         requires there { IsThere self.old.sizes.counts.items place }
-        ensures keys { OnOk result (self.new.keys ≡ keys_after self.old.keys self.old.sizes.counts.items place envelope.now) }
+        ensures keys { OnOk result ((q : Bytes) → who self.new.keys q
+            ≡ keys_after (who self.old.keys) self.old.sizes.counts.items place (named keys) q) }
         ensures counts { OnOk result (self.new.sizes.counts.items ≡ counts_after self.old.sizes.counts.items place) }
         ensures ranked { OnOk result (IsRanked self.new.sizes) }
     {
         match place {
-            Place::NewStage | Place::NewCluster => self.open(envelope),
+            Place::NewStage | Place::NewCluster => self.open(keys),
             Place::InCluster(number) => {
-                note_by(&mut self.keys, envelope, number)?;
+                note_by(&mut self.keys, keys, number)?;
                 self.sizes.grow(number)
             }
         }

@@ -3,6 +3,7 @@
 
 mod counting;
 mod declarer;
+mod envelope_keys;
 mod last_stage;
 mod met;
 mod moving;

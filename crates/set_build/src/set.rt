@@ -43,7 +43,8 @@ fn set_of(alloc: Global, stages: Vec<Stage>) -> Result<TxSet, NoMemory>
 /// there is a new cluster, or joins the cluster with the fewest envelopes if there are `max_clusters`, from 1 to 1,024. An
 /// envelope that conflicts with one cluster joins it, and one that conflicts with more opens a new stage.
 ///
-/// It takes O(k log k) comparisons of keys, where the envelopes declare k keys. It never compares an envelope with each cluster.
+/// It writes the XDR bytes of each key once, and takes O(k log k) comparisons of such bytes, where the envelopes declare k keys.
+/// It never compares an envelope with each cluster.
 pub fn build(
     alloc: Global,
     envelopes: Items<Envelope, 4294967295>,
