@@ -5,3 +5,4 @@ mod Holding
 mod Ran
 mod Reached
 mod Seen
+mod Steady

@@ -1,5 +1,5 @@
 -- A run at a place of a set.
-use Rattle.std.proofs.Common.{◌≡◌, ℕ, List, Option, Some, None, IsSome, map, option_map, refl, sym, ap, subst, ◌∙◌}
+use Rattle.std.proofs.Common.{◌≡◌, ℕ, List, Option, Some, None, IsSome, false, map, option_map, refl, sym, ap, subst, ◌∙◌}
 use Rattle.ledger_types.specs.declared.header.Header.{Header}
 use Rattle.ledger_types.specs.declared.verdicts.Verdicts.{Verdicts}
 use Rattle.tx_xdr.specs.declared.set.TxSet.{TxSet}
@@ -15,8 +15,9 @@ use Rattle.set_place.specs.Reaching.{met_of}
 use Rattle.set_place.specs.declared.place.Place.{Place}
 use Rattle.set_place.specs.declared.set.Reached.{Reached}
 use Rattle.set_place.proofs.Lemmas.{applied_at}
-use Rattle.why_top.specs.Explained.{EndsIn}
-use Rattle.why_top.specs.Placed.{EndsAsReported}
+use Rattle.why_top.specs.Explained.{EndsIn, Explains}
+use Rattle.why_top.specs.Placed.{EndsAsReported, ExplainsMet}
+use Rattle.why_words.specs.declared.request.Form.{Form}
 
 -- the last line of the enforced run of the transaction that was reached
 pub ends_reached : (header : Header) (verdicts : Verdicts) (entries : LedgerMap) (set : TxSet) (close_time : ℕ) (place : Place) (reached : Reached) (text : List ℕ)
@@ -27,6 +28,17 @@ ends_reached header verdicts entries set close_time place reached text met same 
   pair = (enforced (running_header header close_time) verdicts reached.ledger.entries reached.envelope.now).result;
   at = applied_at header verdicts entries set close_time place (met_of reached) (sym met);
   last = subst (λ (h : Header). EndsIn (result_line (enforced (running_header h close_time) verdicts reached.ledger.entries reached.envelope.now).result.result.outcome) text) same ends;
+}
+
+-- the lines of its run
+pub explains_reached : (form : Form) (header : Header) (verdicts : Verdicts) (entries : LedgerMap) (set : TxSet) (close_time : ℕ) (place : Place) (reached : Reached) (text : List ℕ)
+    → Some (met_of reached) ≡ met_in header verdicts entries set close_time place → reached.ledger.header ≡ header
+    → Explains (record form { recorded = false }) text (running_header reached.ledger.header close_time) verdicts reached.ledger.entries reached.envelope.now
+    → ExplainsMet form header verdicts entries set close_time place text
+explains_reached form header verdicts entries set close_time place reached text met same explains = record {
+  met = met_of reached;
+  at = sym met;
+  explains = subst (λ (h : Header). Explains (record form { recorded = false }) text (running_header h close_time) verdicts reached.ledger.entries reached.envelope.now) same explains;
 }
 
 -- ---- the transaction there, by what is met

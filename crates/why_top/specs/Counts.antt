@@ -30,6 +30,9 @@ files_of request =
 abbrev pub NoLower : (ℕ → ℕ) → (ℕ → ℕ) → Type 0
 NoLower old new = (option : ℕ) → old option ≤ new option
 
+abbrev pub SameCounts : (ℕ → ℕ) → (ℕ → ℕ) → Type 0
+SameCounts old new = (option : ℕ) → new option ≡ old option
+
 -- the count of a file of this name rose
 abbrev pub HasFaulted : List File → List ℕ → (ℕ → ℕ) → (ℕ → ℕ) → Type 0
 HasFaulted [] name old new = ⊥

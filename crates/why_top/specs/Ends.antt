@@ -16,7 +16,7 @@ use Rattle.why_words.specs.declared.words.NoRequest.TheVariants as no_request
 
 -- ---- what is due
 
--- a fact of the request of the words, if they ask for one
+-- the words ask for a request, and this holds of it
 pub record OfRequest (P : Request → Type 0) (words : List (List ℕ)) : Type 0 where
   pub request : Request
   pub asked : asked_of words ≡ Some request
@@ -26,7 +26,7 @@ pub record OfRequest (P : Request → Type 0) (words : List (List ℕ)) : Type 0
 abbrev pub AreLines : List (List ℕ) → Contents → List ℕ → Type 0
 AreLines words contents lines = OfRequest (λ request. IfSome contents (λ m. ExplainsFiles request m lines)) words
 
--- The words ask for a run that is refused so. A fault has the name of a file whose count of failed calls rose.
+-- The words ask for a run that is refused with this error. A fault has the name of a file whose count of failed calls rose.
 abbrev pub IsRefusedRun : List (List ℕ) → Contents → (ℕ → ℕ) → (ℕ → ℕ) → WhyErr → Type 0
 IsRefusedRun words contents old new e =
     OfRequest (λ request. IfSome contents (λ m. IsRefused request m e) × HasCause (files_of request) old new e) words

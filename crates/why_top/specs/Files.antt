@@ -21,7 +21,7 @@ use Rattle.apply_spec.specs.Runs.{running_header}
 use Rattle.set_place.specs.Places.{tx_at}
 use Rattle.set_place.specs.declared.place.Place.{Place}
 use Rattle.why_top.specs.Explained.{Explains}
-use Rattle.why_top.specs.Placed.{EndsAsReported}
+use Rattle.why_top.specs.Placed.{EndsAsReported, ExplainsMet}
 use Rattle.why_words.specs.declared.request.Request.{Request}
 use Rattle.why_words.specs.declared.request.Target.{Target}
 use Rattle.why_words.specs.declared.request.Target.TheVariants as targets
@@ -69,13 +69,15 @@ pub record ExplainsEnvelope (request : Request) (m : FileMap) (header : Header) 
   pub held : FileSpells envelope_format m request.base64 request.file envelope
   pub explains : Explains request.form lines (running_header header request.close_time) verdicts entries envelope
 
--- The file spells a set without a conflict that has a transaction at the place. The last line is that of the result there.
+-- The file spells a set without a conflict that has a transaction at the place. The lines are those of this transaction on the
+-- entries that it meets there. The last one is that of the result that the set has there.
 pub record ExplainsPlace (place : Place) (request : Request) (m : FileMap) (header : Header) (entries : LedgerMap)
     (verdicts : Verdicts) (lines : List ℕ) : Type 0 where
   pub set : TxSet
   pub held : FileSpells set_format m request.base64 request.file set
   pub free : AllByRecursion HasNoConflict (map clusters_in (stages_of set))
   pub there : IsSome (tx_at (map clusters_in (stages_of set)) place)
+  pub explains : ExplainsMet request.form header verdicts entries set request.close_time place lines
   pub last : EndsAsReported header verdicts entries set request.close_time place lines
 
 abbrev pub ExplainsTarget : Target → Request → FileMap → Header → LedgerMap → Verdicts → List ℕ → Type 0

@@ -1,4 +1,4 @@
--- The exit code and the line of each refusal (own). Where `soroban_cmd` has the same refusal, they are its own.
+-- The exit code and the line of each refusal (own). Where `soroban_cmd` has the same refusal, they are the same as there.
 use Rattle.std.specs.Prelude.{ℕ, List, ◌++◌, codes, decimal, string_bytes}
 use Rattle.hex.specs.Hex.{encode_lower}
 use Rattle.ledger_spec.specs.declared.LedgerWhy.{LedgerWhy}

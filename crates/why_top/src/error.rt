@@ -1,4 +1,4 @@
-//! Refusals: their lines and exit codes. Where `soroban_cmd` has the same refusal, they are its own.
+//! Refusals: their lines and exit codes. Where `soroban_cmd` has the same refusal, they are the same as there.
 
 ghost use Rattle.std.specs.Prelude.{◌≡◌, ◌++◌, IfOk, codes, decimal};
 ghost use Rattle.why_top.specs.Lines.{conflict_line, line_of, name_of, number_of, place_line};

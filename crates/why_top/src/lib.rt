@@ -2,7 +2,7 @@
 #![tactic(auto)]
 
 ghost use Rattle.std.specs.Prelude.{◌≡◌, ◌≢◌, ◌≤◌, IfErr};
-ghost use Rattle.why_top.specs.Counts.{AreAllThere, IsNoFault, NoLower};
+ghost use Rattle.why_top.specs.Counts.{AreAllThere, IsNoFault, NoLower, SameCounts};
 ghost use Rattle.why_top.specs.Ends.{code_due, said_of, Ends, IsDue, Prints};
 
 mod counted;
@@ -34,7 +34,11 @@ pub fn why<F: Files, S: Say>(alloc: Global, words: &[Word], files: &mut F, say: 
     // ran out.
     ensures ends { Ends words.now (F.contents files.old) (F.faults files.old) (F.faults files.new) result
         (S.text say.old) (S.text say.new) (S.faults say.old) (S.faults say.new) }
-    // On steady files that are there, with a steady output, no call fails.
+    // On steady files that are there no call fails, and on a steady output none does: they stay steady, and no count changes.
+    // If both are steady, the code is not 4.
+    ensures present { F.steady files.old → AreAllThere words.now (F.contents files.old) →
+        F.steady files.new × SameCounts (F.faults files.old) (F.faults files.new) }
+    ensures say_steady { S.steady say.old → S.steady say.new × (S.faults say.new ≡ S.faults say.old) }
     ensures steady { F.steady files.old → S.steady say.old → AreAllThere words.now (F.contents files.old) → result ≢ 4 }
     ensures same { F.contents files.new ≡ F.contents files.old }
     ensures counts { NoLower (F.faults files.old) (F.faults files.new) }
@@ -49,6 +53,7 @@ fn finish<S: Say>(alloc: Global, came_to: Result<Vec<u8>, WhyErr>, say: &mut S) 
     ensures prints { Prints (said_of (λ v. v.items) came_to) (code_due came_to) result
         (S.text say.old) (S.text say.new) (S.faults say.old) (S.faults say.new) }
     ensures steady { S.steady say.old → IfErr came_to IsNoFault → result ≢ 4 }
+    ensures say_steady { S.steady say.old → S.steady say.new × (S.faults say.new ≡ S.faults say.old) }
     ensures say_count { S.faults say.old ≤ S.faults say.new }
 {
     match came_to {
@@ -64,6 +69,7 @@ fn finish<S: Say>(alloc: Global, came_to: Result<Vec<u8>, WhyErr>, say: &mut S) 
 fn print<S: Say>(say: &mut S, bytes: &[u8], due: u8) -> u8
     ensures prints { Prints bytes.now due result (S.text say.old) (S.text say.new) (S.faults say.old) (S.faults say.new) }
     ensures steady { S.steady say.old → due ≢ 4 → result ≢ 4 }
+    ensures say_steady { S.steady say.old → S.steady say.new × (S.faults say.new ≡ S.faults say.old) }
     ensures say_count { S.faults say.old ≤ S.faults say.new }
 {
     match say.say(bytes) {
@@ -76,7 +82,8 @@ fn print<S: Say>(say: &mut S, bytes: &[u8], due: u8) -> u8
 /// The lines of a run.
 fn lines<F: Files>(alloc: Global, words: &[Word], files: &mut F) -> Result<Vec<u8>, WhyErr>
     ensures due { IsDue (λ v. v.items) words.now (F.contents files.old) (F.faults files.old) (F.faults files.new) result }
-    ensures steady { F.steady files.old → AreAllThere words.now (F.contents files.old) → IfErr result IsNoFault }
+    ensures steady { F.steady files.old → AreAllThere words.now (F.contents files.old) →
+        IfErr result IsNoFault × F.steady files.new × SameCounts (F.faults files.old) (F.faults files.new) }
     ensures same { F.contents files.new ≡ F.contents files.old }
     ensures counts { NoLower (F.faults files.old) (F.faults files.new) }
 {

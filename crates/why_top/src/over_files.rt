@@ -3,7 +3,7 @@
 ghost use Rattle.std.specs.Prelude.{◌≡◌, [], ◌∷◌, IfOk, IfErr, IfSome, IsTrue};
 ghost use Rattle.ledger_spec.specs.LedgerFile.{are_settings, has_next};
 ghost use Rattle.edge_io.specs.Contents.{IsThere};
-ghost use Rattle.why_top.specs.Counts.{AreThere, HasCause, IsNoFault, NoLower, file, files_of, option_of};
+ghost use Rattle.why_top.specs.Counts.{AreThere, HasCause, IsNoFault, NoLower, SameCounts, file, files_of, option_of};
 ghost use Rattle.why_top.specs.Files.{ExplainsFiles, ExplainsTarget, ExplainsEnvelope, ExplainsPlace};
 ghost use Rattle.why_top.specs.Refused.{IsRefused, IsRefusedTarget};
 ghost use Rattle.why_words.specs.declared.request.Target.TheVariants as targets;
@@ -32,9 +32,9 @@ pub fn explain_files<F: Files>(
     ensures refused { IfSome (F.contents files.old) (λ m. IfErr result (IsRefused request.now m)) }
     // A fault has the name of a file whose count of failed calls rose. The words are not refused.
     ensures cause { IfErr result (HasCause (files_of request.now) (F.faults files.old) (F.faults files.new)) }
-    // On steady files that are there no call fails.
+    // On steady files that are there no call fails: no refusal is a fault, and no count changes.
     ensures steady { F.steady files.old → AreThere (F.contents files.old) (files_of request.now) →
-        IfErr result IsNoFault × F.steady files.new }
+        IfErr result IsNoFault × F.steady files.new × SameCounts (F.faults files.old) (F.faults files.new) }
     ensures counts { NoLower (F.faults files.old) (F.faults files.new) }
     ensures same { F.contents files.new ≡ F.contents files.old }
 {
@@ -60,7 +60,7 @@ fn explain_target<F: Files>(
     ensures cause { IfErr result (HasCause (file (option_of target) request.now.file ∷ [])
         (F.faults files.old) (F.faults files.new)) }
     ensures steady { F.steady files.old → IsThere (F.contents files.old) request.now.file →
-        IfErr result IsNoFault × F.steady files.new }
+        IfErr result IsNoFault × F.steady files.new × SameCounts (F.faults files.old) (F.faults files.new) }
     ensures counts { NoLower (F.faults files.old) (F.faults files.new) }
     ensures same { F.contents files.new ≡ F.contents files.old }
 {
@@ -85,7 +85,7 @@ fn of_envelope<F: Files>(
     ensures refused { IfSome (F.contents files.old) (λ m. IfErr result (IsRefusedTarget targets.Envelope request.now m)) }
     ensures cause { IfErr result (HasCause (file 0 request.now.file ∷ []) (F.faults files.old) (F.faults files.new)) }
     ensures steady { F.steady files.old → IsThere (F.contents files.old) request.now.file →
-        IfErr result IsNoFault × F.steady files.new }
+        IfErr result IsNoFault × F.steady files.new × SameCounts (F.faults files.old) (F.faults files.new) }
     ensures counts { NoLower (F.faults files.old) (F.faults files.new) }
     ensures same { F.contents files.new ≡ F.contents files.old }
 {
@@ -117,7 +117,7 @@ fn of_place<F: Files>(
     ensures refused { IfSome (F.contents files.old) (λ m. IfErr result (IsRefusedTarget (targets.InSet place) request.now m)) }
     ensures cause { IfErr result (HasCause (file 3 request.now.file ∷ []) (F.faults files.old) (F.faults files.new)) }
     ensures steady { F.steady files.old → IsThere (F.contents files.old) request.now.file →
-        IfErr result IsNoFault × F.steady files.new }
+        IfErr result IsNoFault × F.steady files.new × SameCounts (F.faults files.old) (F.faults files.new) }
     ensures counts { NoLower (F.faults files.old) (F.faults files.new) }
     ensures same { F.contents files.new ≡ F.contents files.old }
 {

@@ -9,7 +9,7 @@ ghost use Rattle.tx_xdr.specs.Stages.{stages_of};
 ghost use Rattle.stage_runs.specs.Runs.{clusters_in, HasNoConflict};
 ghost use Rattle.set_place.specs.Places.{met_in, tx_at};
 ghost use Rattle.set_place.specs.Reaching.{met_of};
-ghost use Rattle.why_top.specs.Placed.{EndsAsReported};
+ghost use Rattle.why_top.specs.Placed.{EndsAsReported, ExplainsMet};
 ghost use Rattle.why_top.specs.Counts.{IsOfBytes};
 ghost use Rattle.why_top.specs.Refused.{IsRefusedPlace};
 
@@ -23,9 +23,9 @@ use tx_xdr::TxSet;
 use value_xdr::encode;
 use why_words::Form;
 
-/// Runs the transaction at a place of a set, with the footprint that it declares, on the ledger that it meets there. The last
-/// line is that of the result that the set has there. A set with a conflict is refused, and so is a place that the set does not
-/// have.
+/// Runs the transaction at a place of a set, with the footprint that it declares, on the ledger that it meets there, and makes
+/// its lines. The last one is that of the result that the set has there. A set with a conflict is refused, and so is a place that
+/// the set does not have.
 pub fn explain_place(
     alloc: Global,
     ledger: Ledger,
@@ -43,6 +43,8 @@ pub fn explain_place(
     // The set's first conflict is refused, or else a place that it does not have.
     ensures refused { IfErr result (IsRefusedPlace place set.now) }
     ensures cause { IfErr result IsOfBytes }
+    ensures explains { IfOk result (λ v.
+        ExplainsMet form ledger.header verdicts.now ledger.entries set.now close_time place v.items) }
     ensures last { IfOk result (λ v. EndsAsReported ledger.header verdicts.now ledger.entries set.now close_time place v.items) }
 {
     let reached = reach_place(alloc, ledger, verdicts, set, close_time, place)?;

@@ -6,7 +6,7 @@ ghost use Rattle.base64_text.specs.Text.{bytes_in};
 ghost use Rattle.ledger_types.specs.Verdicts.{verdicts_format};
 ghost use Rattle.ledger_spec.specs.LedgerFile.{are_settings, has_next, ledger_of};
 ghost use Rattle.edge_io.specs.Contents.{IsThere};
-ghost use Rattle.why_top.specs.Counts.{HasCause, IsNoFault, IsOfBytes, NoLower, file};
+ghost use Rattle.why_top.specs.Counts.{HasCause, IsNoFault, IsOfBytes, NoLower, SameCounts, file};
 ghost use Rattle.why_top.specs.Files.{FileSpells, Holds, HoldsLedger, HoldsVerdicts, TextSpells};
 ghost use Rattle.why_top.specs.Refused.{AreNoVerdicts, AreRefusedVerdicts, IsNoBase64, IsNoLedger, IsNoSpelling};
 ghost use Rattle.why_top.specs.Refused.{IsRefusedFile, IsRefusedLedger, IsRefusedText, IsUnread};
@@ -41,7 +41,8 @@ fn read_file<F: Files>(
     ensures same { F.contents files.new ≡ F.contents files.old }
     ensures counts { NoLower (F.faults files.old) (F.faults files.new) }
     ensures cause { IfErr result (HasCause (file option name.now ∷ []) (F.faults files.old) (F.faults files.new)) }
-    ensures steady { F.steady files.old → IsThere (F.contents files.old) name.now → IfErr result IsNoFault × F.steady files.new }
+    ensures steady { F.steady files.old → IsThere (F.contents files.old) name.now →
+        IfErr result IsNoFault × F.steady files.new × SameCounts (F.faults files.old) (F.faults files.new) }
 {
     // Cloned before the call, so that a fault can name the file.
     let again = name.clone()?;
@@ -66,7 +67,8 @@ pub(crate) fn read_ledger<F: Files>(
     ensures same { F.contents files.new ≡ F.contents files.old }
     ensures counts { NoLower (F.faults files.old) (F.faults files.new) }
     ensures cause { IfErr result (HasCause (file 1 name.now ∷ []) (F.faults files.old) (F.faults files.new)) }
-    ensures steady { F.steady files.old → IsThere (F.contents files.old) name.now → IfErr result IsNoFault × F.steady files.new }
+    ensures steady { F.steady files.old → IsThere (F.contents files.old) name.now →
+        IfErr result IsNoFault × F.steady files.new × SameCounts (F.faults files.old) (F.faults files.new) }
 {
     let bytes = read_file(alloc, files, LEDGER, name)?;
     ledger_in(alloc, bytes.as_slice())
@@ -95,7 +97,8 @@ pub(crate) fn read_verdicts<F: Files>(
     ensures same { F.contents files.new ≡ F.contents files.old }
     ensures counts { NoLower (F.faults files.old) (F.faults files.new) }
     ensures cause { IfErr result (HasCause (file 2 name.now ∷ []) (F.faults files.old) (F.faults files.new)) }
-    ensures steady { F.steady files.old → IsThere (F.contents files.old) name.now → IfErr result IsNoFault × F.steady files.new }
+    ensures steady { F.steady files.old → IsThere (F.contents files.old) name.now →
+        IfErr result IsNoFault × F.steady files.new × SameCounts (F.faults files.old) (F.faults files.new) }
 {
     let bytes = read_file(alloc, files, VERDICTS, name)?;
     verdicts_in(alloc, bytes.as_slice())
@@ -130,7 +133,8 @@ pub(crate) fn read_spelled<T: Xdr + Drop, F: Files>(
     ensures same { F.contents files.new ≡ F.contents files.old }
     ensures counts { NoLower (F.faults files.old) (F.faults files.new) }
     ensures cause { IfErr result (HasCause (file option name.now ∷ []) (F.faults files.old) (F.faults files.new)) }
-    ensures steady { F.steady files.old → IsThere (F.contents files.old) name.now → IfErr result IsNoFault × F.steady files.new }
+    ensures steady { F.steady files.old → IsThere (F.contents files.old) name.now →
+        IfErr result IsNoFault × F.steady files.new × SameCounts (F.faults files.old) (F.faults files.new) }
 {
     let text = read_file(alloc, files, option, name)?;
     opened(alloc, base64, name, text.as_slice())

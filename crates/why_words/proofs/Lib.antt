@@ -1,1 +1,2 @@
+mod OneKind
 mod Parsing

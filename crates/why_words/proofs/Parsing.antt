@@ -1,5 +1,5 @@
 -- From what clap says to what comes of the words.
-use Rattle.std.proofs.Common.{◌≡◌, ◌⊎◌, ◌&&◌, Bool, List, [], ◌∷◌, true, false, None, Some, Result, Err, refl, sym, ap, ap₂, ◌∙◌, inl, inr, map}
+use Rattle.std.proofs.Common.{◌≡◌, ◌⊎◌, ◌&&◌, Bool, List, [], ◌∷◌, true, false, None, Some, Result, Err, refl, sym, ap, ap₂, subst, ◌∙◌, inl, inr, map}
 use Rattle.clap.specs.Faults.{fault_of, is_free_app, is_simple_and_free}
 use Rattle.clap.specs.Kinds.{Kinds, HasKind, IsAmong}
 use Rattle.clap.specs.Matches.{found_of}
@@ -21,6 +21,7 @@ use Rattle.why_words.specs.Words.{asked_of, request_from}
 use Rattle.why_words.specs.declared.request.Request.{Request}
 use Rattle.why_words.specs.declared.words.NoRequest.{NoRequest}
 use Rattle.why_words.specs.declared.words.NoRequest.TheVariants.{Usage, Shown, NoMemory}
+use Rattle.why_words.proofs.OneKind.{one_fault}
 
 -- a list as it is
 pub map_same : {A : Type 0} (xs : List A) → map (λ x. x) xs ≡ xs
@@ -57,7 +58,7 @@ read_ok words rows request asked is = asked ∙ is
 
 pub read_err : (words : List Text) (rows : List Row) (e : WordsErr) → fault_of why_app words ≡ [] → asked_of words ≡ request_from rows
     → (let r : Result Request WordsErr = Err e in ReadsWords r (request_from rows)) → ReadsRequest (Err (no_request e)) words
-read_err words rows wrong.Usage none asked is = (asked ∙ is, inl none)
+read_err words rows wrong.Usage none asked is = (asked ∙ is, λ asks. subst (λ (kinds : Kinds). IsAmong asks.0 kinds) none asks.2)
 read_err words rows wrong.NoMemory none asked is = tt
 
 -- a fault of the words, if it is not for memory
@@ -86,7 +87,7 @@ fault_at app words read e is_app is_read memory faults =
 pub read_fault : (app : App) (words read : List Text) (e : Error) (error : NoRequest) → app ≡ why_app → read ≡ words → IsRefusal e error → (is_simple_and_free app ≡ true → HasKind (fault_of app read) e) → ReadsRequest (Err error) words
 read_fault app words read e Usage is_app is_read h faults =
     let at = fault_at app words read e is_app is_read h.0 faults in
-    (not_asked words (kind_of e) at, inr (kind_of e, h.1, at))
+    (not_asked words (kind_of e) at, λ asks. h.1 (subst IsShown ((one_fault words).same asks.0 (kind_of e) asks.2 at) asks.1))
 read_fault app words read e (Shown text) is_app is_read h faults =
     let at = fault_at app words read e is_app is_read (shown_is_no_memory (kind_of e) h) faults in
     (not_asked words (kind_of e) at, (kind_of e, h, at))

@@ -1,5 +1,5 @@
 -- What comes of the words (own).
-use Rattle.std.specs.Prelude.{◌≡◌, ◌≢◌, ◌⊎◌, ⊤, List, [], Some, None, Result, Ok, Err}
+use Rattle.std.specs.Prelude.{◌≡◌, ◌≢◌, ◌⊎◌, ⊤, List, Some, None, Result, Ok, Err}
 use Rattle.clap.specs.Faults.{fault_of}
 use Rattle.clap.specs.Kinds.{IsAmong}
 use Rattle.clap.specs.Values.{kind_of}
@@ -19,29 +19,26 @@ use Rattle.why_words.specs.declared.words.NoRequest.TheVariants.{Usage, Shown, N
 abbrev pub IsShown : ErrorKind → Type 0
 IsShown kind = (kind ≡ DisplayHelp) ⊎ (kind ≡ DisplayVersion)
 
--- the words are wrong
-abbrev pub IsWrong : ErrorKind → Type 0
-IsWrong kind = (kind ≢ DisplayHelp) × (kind ≢ DisplayVersion)
+-- The words ask for the help or the version, and no word before that is wrong. In each list of words, clap finds at most one
+-- kind of fault.
+abbrev pub AskForText : List Text → Type 0
+AskForText words = (kind : ErrorKind) × IsShown kind × IsAmong kind (fault_of why_app words)
 
--- clap finds a fault in the words, which may be of such a kind
-abbrev pub HasFault : (ErrorKind → Type 0) → List Text → Type 0
-HasFault P words = (kind : ErrorKind) × P kind × IsAmong kind (fault_of why_app words)
-
--- The request of the words; or that they are wrong: clap finds a fault that is no request for a text, or the values of the
--- options are none of a request; or that they ask for a text; unless memory ran out.
+-- Ok: the words ask for this request. Usage: they ask for none, and for no text. Shown: they ask for a text. Memory may run out
+-- at any time.
 abbrev pub ReadsRequest : Result Request NoRequest → List Text → Type 0
 ReadsRequest (Ok request) words = asked_of words ≡ Some request
-ReadsRequest (Err Usage) words = (asked_of words ≡ None) × ((fault_of why_app words ≡ []) ⊎ HasFault IsWrong words)
-ReadsRequest (Err (Shown text)) words = (asked_of words ≡ None) × HasFault IsShown words
+ReadsRequest (Err Usage) words = (asked_of words ≡ None) × ¬ AskForText words
+ReadsRequest (Err (Shown text)) words = (asked_of words ≡ None) × AskForText words
 ReadsRequest (Err NoMemory) words = ⊤
 
 -- clap ran out of memory, or refused the words, or showed the text that they ask for
 abbrev pub IsRefusal : Error → NoRequest → Type 0
-IsRefusal e Usage = (kind_of e ≢ OutOfMemory) × IsWrong (kind_of e)
+IsRefusal e Usage = (kind_of e ≢ OutOfMemory) × ¬ IsShown (kind_of e)
 IsRefusal e (Shown text) = IsShown (kind_of e)
 IsRefusal e NoMemory = ⊤
 
--- the same reason, of the whole words
+-- how a refusal by `command_words` is passed on
 abbrev pub no_request : WordsErr → NoRequest
 no_request wrong.Usage = Usage
 no_request wrong.NoMemory = NoMemory

@@ -7,4 +7,4 @@ returns-clause-due g c =
     c.explain_files.result c.explain_files.ensures.explains c.explain_files.ensures.refused c.explain_files.ensures.cause
 
 pub returns-clause-steady : goal.returns-clause-steady
-returns-clause-steady g c = λ steady h. (c.explain_files.ensures.steady steady (there c.args.words.now _ c.in_ok-request.request c.in_ok-request.ensures h)).0
+returns-clause-steady g c = λ steady h. c.explain_files.ensures.steady steady (there c.args.words.now _ c.in_ok-request.request c.in_ok-request.ensures h)
