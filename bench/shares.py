@@ -23,7 +23,7 @@ COUNT = 10_000
 PARTS = [
     ("reading the set and the ledger", ["command_io::decode::", "command_io::inputs::", "ledger_file::reading::"]),
     ("conflicts of the stages", ["stage_plan::"]),
-    ("checks, limits and changes of transactions", ["tx_steps::", "tx_apply::", "ledger_apply::"]),
+    ("checks, limits and changes of transactions", ["tx_steps::", "tx_apply::", "set_steps::", "ledger_apply::"]),
     ("reading and checking the module", ["module_loader::", "wasm_read::", "wasm_check::", "wasm_code::", "host_interface::"]),
     ("running WebAssembly", [
         "wasm_run::", "wasm_machine::", "wasm_num::",

@@ -71,7 +71,7 @@ else
 fi
 
 if [ -x "$why" ]; then
-    for table in tools/program_cases/why/*.txt crates/why_cases/data/*.txt; do
+    for table in tools/program_cases/why/*.txt crates/command_cases/data/why/*.txt; do
         check "soroban_why: $table" python3 tools/program_cases.py "$why" "$table"
     done
     check 'soroban_why: the options of tools/commands.json' python3 tools/command_table.py check-other why "$why"

@@ -395,7 +395,7 @@ class Table:
         case, arrow, outcome = without_remark(line).partition(" => ")
         kind, _, rest = case.partition(" ")
         expected = ([outcome] if arrow else []) + [without_remark(it) for it in below]
-        if kind not in ("run", "said"):
+        if kind not in ("run", "why", "said"):
             if expected:
                 raise Unclear("a case that has an outcome")
             self.prepare(kind, rest)
@@ -406,7 +406,7 @@ class Table:
             self.left_out += 1
             return []
         outcome, modes = self.run(words_of(self.names, rest))
-        wanted = (expected_outcome if kind == "run" else spelled_outcome)(self.names, expected)
+        wanted = (spelled_outcome if kind == "said" else expected_outcome)(self.names, expected)
         lines = outcome.differs(wanted) + modes
         self.held += not lines
         return lines
@@ -417,7 +417,7 @@ class Table:
             self.define(kind, rest, below)
             return []
         lines = self.judge(line, below)
-        if kind in ("run", "said"):
+        if kind in ("run", "why", "said"):
             self.forget()
         return lines
 

@@ -3,9 +3,9 @@ use Rattle.std.specs.Bool.{Decides}
 use Rattle.std.specs.FinMap.{get}
 use Rattle.std.specs.List.{list_all}
 use Rattle.std.specs.Option.{option_map}
-use Rattle.std.specs.Prelude.{if◌then◌else◌, ◌↔◌, ◌==◌}
+use Rattle.std.specs.Prelude.{if◌then◌else◌, ◌==◌}
 use Rattle.std.specs.Str.{bytes_eq}
-use Rattle.std.proofs.Common.{◌≡◌, ℕ, Bool, true, false, ◌||◌, ◌&&◌, List, [], ◌∷◌, Option, Some, None, refl, sym, ap, ap₂, ◌∙◌, subst}
+use Rattle.std.proofs.Common.{◌≡◌, ℕ, Bool, true, false, List, [], ◌∷◌, Option, Some, None, refl, sym, ap, ap₂, ◌∙◌, subst}
 use Rattle.std.proofs.lemmas.Bool.{and_from, and_parts}
 use Rattle.std.proofs.lemmas.Bool.Decides.{Decides-eqb}
 use Rattle.std.proofs.lemmas.List.Folds.{list_any-append}
@@ -46,8 +46,8 @@ use Rattle.call_spec.proofs.Lemmas.{local_law}
 use Rattle.apply_spec.specs.Checks.{footprint_of, first_failed, form_checks, refusal_of}
 use Rattle.apply_spec.specs.Enforced.{authority_of, enforced, first_performed, judged, result_pair}
 use Rattle.apply_spec.specs.Recorded.{recorded, is_declared}
-use Rattle.apply_spec.specs.Simulated.{ext_with, with_footprint, Needs, needs_of, work_needs, body_needs, first_needs, unless_refused, keeps_footprint, needs, Simulated, simulated_with, simulated}
-use Rattle.apply_spec.specs.ListRuns.{named, listed, run_listed, are_same, agrees, is_kept}
+use Rattle.apply_spec.specs.Simulated.{ext_with, with_footprint, Needs, needs_of, work_needs, body_needs, first_needs, unless_refused, keeps_footprint, needs, Simulated, simulated_with}
+use Rattle.apply_spec.specs.ListRuns.{named, run_listed, are_same}
 use Rattle.apply_spec.specs.ListLaws.{ResimulatedLaw, AgreesLaw, KeptRunLaw, StagesLaw}
 use Rattle.apply_spec.proofs.Framed.{step_framed}
 use Rattle.apply_spec.proofs.Halves.{outcome_kept, result_kept}

@@ -1,3 +1,2 @@
 -- The lemmas that other crates cite.
-pub use Rattle.auth_parts.proofs.Passing.{by_error}
 pub use Rattle.auth_parts.proofs.Splitting.{entry_asked}

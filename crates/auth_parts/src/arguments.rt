@@ -11,10 +11,9 @@ ghost use Rattle.call_spec.specs.Asking.{check_args};
 ghost use Rattle.auth_parts.specs.Entering.{IsEncodable};
 
 use crate::contexts::{bytes_of, contexts_of, vec_of};
-use crate::payloads::hold_hash;
 use auth_types::{AddressCredentials, Invocation};
 use std::alloc::Global;
-use value_types::{Hash, ScVal};
+use value_types::{Hash, ScVal, hash_fits};
 use xdr_core::NoMemory;
 
 /// The contexts of an invocation, of which there are fewer than 2^32. Memory holds no more.
@@ -58,7 +57,7 @@ pub(crate) fn check_args(
     ensures args { IfOk result (λ a. datums a.items ≡ check_args payload signer.now root.now) }
     ensures encodable { IfOk result (λ a. All IsEncodable a.items) }
 {
-    hold_hash(payload);
+    hash_fits(payload);
     let contexts = few_contexts(alloc, root)?;
     let args = args_of(alloc, payload, &signer.signature, contexts)?;
     Ok(args)

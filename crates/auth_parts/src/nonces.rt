@@ -77,11 +77,10 @@ fn make_nonce<G: Ground, W: Watch>(
     let entry = nonce_entry(n, signer);
     let size = size_of(&entry);
     let key = nonce_key(signer);
-    let again = nonce_key(signer);
-    match storage.make(key, entry, signer.signature_expiration_ledger) {
+    match storage.make(&key, entry, signer.signature_expiration_ledger) {
         Ok(true) => pay(budget, Kind::ValSer, size),
         Ok(false) => Err(USED_NONCE),
-        Err(error) => Err(end_of(again, error)),
+        Err(error) => Err(end_of(key, error)),
     }
 }
 

@@ -3,7 +3,7 @@
 ghost use Rattle.std.specs.Prelude.{◌≡◌, length, IfOk, IfErr};
 ghost use Rattle.sha2.specs.Sha256.{sha256};
 ghost use Rattle.xdr_core.specs.Sizes.{capped};
-ghost use Rattle.value_types.specs.Hash.{hash_format, hash_of};
+ghost use Rattle.value_types.specs.Hash.{hash_of};
 ghost use Rattle.auth_types.specs.AuthEntry.{auth_entry_format};
 ghost use Rattle.auth_types.specs.Invocation.{invocation_format};
 ghost use Rattle.auth_types.specs.Payload.{signed_bytes};
@@ -12,20 +12,12 @@ ghost use Rattle.host_spec.specs.declared.error.HostErr.TheVariants as ends;
 use auth_types::{AddressCredentials, AuthEntry, Credentials, Invocation, payload_hash};
 use host_spec::HostErr;
 use std::alloc::Global;
-use value_types::Hash;
+use value_types::{Hash, hash_fits};
 use value_xdr::Xdr;
 use xdr_core::add_sizes;
 
 /// The bytes of a payload before the root of the tree: the envelope type, the network's id, the nonce and the last ledger.
 const HEAD: u64 = 48;
-
-/// Says that a hash has a spelling.
-#[tactic(auto, unfolding(value_types::specs::Hash::hash_format))]
-pub(crate) fn hold_hash(hash: Hash)
-    ensures { hash_format.fits hash }
-{
-    let _ = hash;
-}
 
 /// The number of bytes that a signature signs, or `u64::MAX` if there are more.
 #[tactic(auto, using(crate::proofs::SignedBytes::signed_length), unfolding(xdr_core::specs::Sizes::capped))]
@@ -33,7 +25,7 @@ pub(crate) fn signed_len(network: &Hash, signer: &AddressCredentials, root: &Inv
     requires { invocation_format.fits root.now }
     ensures { result ≡ capped (length (signed_bytes network.now signer.now root.now)) }
 {
-    hold_hash(*network);
+    hash_fits(*network);
     let _ = signer;
     add_sizes(HEAD, root.size())
 }

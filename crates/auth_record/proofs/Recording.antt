@@ -5,7 +5,7 @@ use Rattle.std.proofs.lemmas.Bool.{lt-ltb, ltb-false}
 use Rattle.budget_meter.specs.Meter.{Meter, used_after}
 use Rattle.budget_meter.specs.declared.kind.Kind.TheVariants.{ValSer}
 use Rattle.value_types.specs.Datum.{Datum}
-use Rattle.value_types.specs.Views.{datum, datums}
+use Rattle.value_types.specs.Views.{datum}
 use Rattle.value_types.specs.declared.account_id.AccountId.{AccountId}
 use Rattle.value_types.specs.declared.error.ScError.{ScError}
 use Rattle.value_types.specs.declared.value.ScVal.{ScVal}
@@ -149,10 +149,8 @@ module _ {G U V : Type 0} (old : Host G U V) where
     pub pairs-is : old.marks.pairs ≡ []
     pub noted-is : old.marks.noted ≡ Some no_notes
     pub open-is : old.open.items ≡ []
-    pub function-is : old.place.function.items ≡ []
-    pub args-is : old.place.args.items ≡ []
-    pub path-is : old.place.path.items ≡ []
-    pub begun-is : old.place.begun ≡ 0
+    pub path-is : old.ledger.frame.path.items ≡ []
+    pub begun-is : old.ledger.frame.begun ≡ 0
     pub meter-is : old.ledger.budget ≡ meter
 
   abbrev first : Header → LedgerMap → World
@@ -165,7 +163,7 @@ module _ {G U V : Type 0} (old : Host G U V) where
     events = is.events-is i;
     pairs = is.pairs-is i;
     noted = is.noted-is i;
-    frame = record outside { function = is.function-is i; args = datums (is.args-is i); path = is.path-is i; begun = is.begun-is i };
+    frame = record outside { path = is.path-is i; begun = is.begun-is i };
     contracts = reverse (is.open-is i);
     meter = is.meter-is i;
   }

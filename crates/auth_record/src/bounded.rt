@@ -2,43 +2,28 @@
 //! can say it.
 
 ghost use Rattle.std.specs.Prelude.{◌≡◌, true};
-ghost use Rattle.xdr_spec.specs.Format.{IsBytes, number32, number64, signed32, signed64, opaque};
+ghost use Rattle.xdr_spec.specs.Format.{number32, number64, signed32, signed64, opaque};
 ghost use Rattle.value_types.specs.AccountId.{account_id_format};
 ghost use Rattle.value_types.specs.Address.{address_format};
 ghost use Rattle.value_types.specs.Datum.{vec, map, items_of, members_of};
 ghost use Rattle.value_types.specs.Error.{error_format};
 ghost use Rattle.value_types.specs.Formats.{scval_format};
-ghost use Rattle.value_types.specs.Hash.{hash_format};
 ghost use Rattle.value_types.specs.Numbers.{u128_format, i128_format};
 ghost use Rattle.value_types.specs.Views.{datum, datums, datum_pairs};
 ghost use Rattle.value_xdr.specs.Bytes.{IsBounded};
 ghost use Rattle.invoke_types.specs.Arguments.{values_format};
 
 use value_types::{
-    AccountId, Entry, Hash, Int128Parts, ScAddress, ScError, ScVal, UInt128Parts, depth,
+    AccountId, Entry, Hash, Int128Parts, ScAddress, ScError, ScVal, UInt128Parts, depth, hash_fits,
 };
-
-/// Says that what a slice holds are bytes.
-fn hold_bytes(slice: &[u8])
-    ensures { IsBytes slice.now }
-{
-    let _ = slice;
-}
-
-/// Says that a hash has a spelling.
-#[tactic(auto, unfolding(value_types::specs::Hash::hash_format))]
-pub(crate) fn hold_hash(hash: Hash)
-    ensures { hash_format.fits hash }
-{
-    let _ = hash;
-}
+use value_xdr::hold_bytes;
 
 /// Says that the id of an account has a spelling.
 #[tactic(auto, unfolding(value_types::specs::AccountId::account_id_format))]
 pub(crate) fn hold_account(account: AccountId)
     ensures { account_id_format.fits account }
 {
-    hold_hash(account.0);
+    hash_fits(account.0);
 }
 
 /// Says that a number has a spelling.
@@ -121,7 +106,7 @@ pub(crate) fn address_fits(address: ScAddress) -> bool
             true
         }
         ScAddress::Contract(contract) => {
-            hold_hash(contract);
+            hash_fits(contract);
             true
         }
         _ => false,

@@ -11,14 +11,12 @@ ghost use Rattle.auth_types.specs.Credentials.{address_credentials_format, crede
 ghost use Rattle.auth_types.specs.Invocation.{one_level, subs_format};
 ghost use Rattle.auth_types.specs.Views.{forest_of};
 
-use crate::bounded::{
-    address_fits, hold_hash, hold_i64, hold_u32, is_short, value_fits, values_fit,
-};
+use crate::bounded::{address_fits, hold_i64, hold_u32, is_short, value_fits, values_fit};
 use auth_types::{AddressCredentials, AuthEntry, Credentials, Invocation};
 use invoke_types::{
     CreateContractArgs, CreateContractArgsV2, Function, InvokeContractArgs, Preimage,
 };
-use value_types::Executable;
+use value_types::{Executable, hash_fits};
 
 /// The number of levels below the root of a tree.
 const LEVELS_BELOW: u32 = 99;
@@ -30,7 +28,7 @@ fn executable_fits(executable: Executable) -> bool
 {
     match executable {
         Executable::Wasm(hash) => {
-            hold_hash(hash);
+            hash_fits(hash);
             true
         }
         Executable::StellarAsset => false,
@@ -44,7 +42,7 @@ fn preimage_fits(preimage: Preimage) -> bool
 {
     match preimage {
         Preimage::FromAddress { address, salt } => {
-            hold_hash(salt);
+            hash_fits(salt);
             address_fits(address)
         }
         Preimage::FromAsset(_) => false,

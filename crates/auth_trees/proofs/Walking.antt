@@ -28,9 +28,6 @@ node_is nodes id n k e r =
     let long : id < length (map kept nodes) = slice_get_within (map kept nodes) id k e in
     ap kept r ∙ sym (get_or-map kept nodes id n k lt) ∙ same_Some _ _ (sym (slice_get-get_or (map kept nodes) id k long) ∙ e)
 
-abbrev pub Walk : List Kept → List Bool → Function → ℕ → List Tree → Option ℕ → Type 0
-Walk nodes taken function id ts answer = IsRowAt nodes id ts × (first_open taken function id ts ≡ answer)
-
 chosen_there : (b : Bool) (o p answer : Option ℕ) → cond b o p ≡ answer → b ≡ true → o ≡ answer
 chosen_there b o p answer e t = ap (λ x. cond x o p) (sym t) ∙ e
 

@@ -7,14 +7,13 @@ use Rattle.host_spec.specs.VecRows.{all_given}
 use Rattle.host_spec.specs.Words.{meaning as word_meaning}
 use Rattle.value_types.specs.Views.{datum}
 use Rattle.host_spec.specs.declared.error.HostErr.{HostErr}
-use Rattle.call_spec.specs.World.{Access, Copied, World, Env}
+use Rattle.call_spec.specs.World.{Access, World, Env}
 use Rattle.call_spec.specs.Acts.{Act, Out, Good, then_do, after, gives, lift, paying, world_of}
 use Rattle.call_spec.specs.Frames.{HostCalls, Entered, returned_value, writes_instance, started, finished, runs_from, paying_pages}
 use Rattle.call_spec.specs.Outcomes.{Leaves, Says, trace_of}
 use Rattle.host_ledger.proofs.Lemmas.{ends_then, since}
 use Rattle.call_parts.specs.Steps.{Returns}
 use Rattle.call_host.specs.Worlds.{world_in, ending, leaving_by, IsEnvOf, DoesIn, RunsIn}
-use Rattle.call_host.specs.Running.{DoesFrom}
 use Rattle.call_host.specs.Framed.{argument_words}
 use Rattle.call_host.specs.declared.host.Host.{Host}
 use Rattle.call_host.proofs.Beginning.{charges_first}
@@ -55,11 +54,11 @@ ends_so env host e words u = then_do (runs_from host e words u) (finished env)
 frame_first : (env : Env) (host : HostCalls) (e : Entered) (w : World) → after (started host e) (finished env) w ≡ then_do (argument_words e.module_.memories e.args w) (ends_so env host e)
 frame_first env host e w = ap (λ o. then_do o (finished env)) (started_first host e w) ∙ joined (argument_words e.module_.memories e.args w) (runs_from host e) (finished env)
 
-module _ {G U V : Type 0} (host : Env → HostCalls) (e : Entered) (first : Copied) (old : Host G U V) where
+module _ {G U V : Type 0} (host : Env → HostCalls) (e : Entered) (old : Host G U V) where
   -- its arguments were not shown
   pub not_begun : (x : HostErr) (view : ScVal → Datum) {W : Type 0} (words : W → List ℕ) (h1 : Host G U V) → (let none : Result W HostErr = Err x in DoesIn none words (λ env. argument_words e.module_.memories e.args) old h1)
-      → (let r : Result ScVal HostErr = Err x in DoesFrom first r view (λ env. after (started (host env) e) (finished env)) old h1)
-  not_begun x view {W = W} words h1 begun env is rest trace same =
+      → (let r : Result ScVal HostErr = Err x in RunsIn r view (λ env. after (started (host env) e) (finished env)) old h1)
+  not_begun x view {W = W} words h1 begun env is rest trace =
       let w = world_in rest old trace in
       let out = argument_words e.module_.memories e.args w in
       let r : Result ScVal HostErr = Err x in
@@ -72,8 +71,8 @@ module _ {G U V : Type 0} (host : Env → HostCalls) (e : Entered) (first : Copi
       (later : (env : Env) → IsEnvOf env old → IsEnvOf env h1) where
     -- its code did not return
     pub not_run : (x : HostErr) (view : ScVal → Datum) → (let none : Result ℕ HostErr = Err x in RunsIn none (λ word. word) (λ env. runs_from (host env) e (words given)) h1 h2)
-        → (let r : Result ScVal HostErr = Err x in DoesFrom first r view (λ env. after (started (host env) e) (finished env)) old h2)
-    not_run x view ran env is rest trace same =
+        → (let r : Result ScVal HostErr = Err x in RunsIn r view (λ env. after (started (host env) e) (finished env)) old h2)
+    not_run x view ran env is rest trace =
         let w = world_in rest old trace in
         let out = argument_words e.module_.memories e.args w in
         let r : Result ScVal HostErr = Err x in
@@ -90,8 +89,8 @@ module _ {G U V : Type 0} (host : Env → HostCalls) (e : Entered) (first : Copi
     -- it ended
     pub all_run : (word : ℕ) (r : Result ScVal HostErr) (view : ScVal → Datum) (h3 : Host G U V) → ((env : Env) → IsEnvOf env h1 → IsEnvOf env h2)
         → (let given-word : Result ℕ HostErr = Ok word in RunsIn given-word (λ n. n) (λ env. runs_from (host env) e (words given)) h1 h2)
-        → DoesFrom first r view (λ env. finished env word) h2 h3 → DoesFrom first r view (λ env. after (started (host env) e) (finished env)) old h3
-    all_run word r view h3 still ran ended env is rest trace same =
+        → RunsIn r view (λ env. finished env word) h2 h3 → RunsIn r view (λ env. after (started (host env) e) (finished env)) old h3
+    all_run word r view h3 still ran ended env is rest trace =
         let w = world_in rest old trace in
         let out = argument_words e.module_.memories e.args w in
         same_act (λ v t. world_in v h3 t) keep_memory (telling old h3 trace) r view rest (after (started (host env) e) (finished env) w) (then_do out (ends_so env (host env) e)) (frame_first env (host env) e w)
@@ -103,7 +102,7 @@ module _ {G U V : Type 0} (host : Env → HostCalls) (e : Entered) (first : Copi
         go_on_at (λ v z. world_in v h2 z) (λ v z. world_in v h3 z) keep_memory (telling old h2 trace) (telling old h3 trace) (λ _ _ _. refl) word r (λ (n : ℕ). n) view at ran_out (finished env)
         (since some (λ (n : ℕ). n) ran_out old.ledger.storage h1.ledger.storage h2.ledger.storage trace t (λ z. world_in last h2 z) told (ran env (later env is) at t))
         (λ z again. since r view (finished env word (world_in last h2 z)) old.ledger.storage h2.ledger.storage h3.ledger.storage trace z
-        (λ y. world_in (keep_memory last (world_of (finished env word (world_in last h2 z)))) h3 y) again (ended env (still env (later env is)) last z same))))
+        (λ y. world_in (keep_memory last (world_of (finished env word (world_in last h2 z)))) h3 y) again (ended env (still env (later env is)) last z))))
 
 -- ---- the end of a frame
 

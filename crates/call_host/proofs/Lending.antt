@@ -1,20 +1,17 @@
 -- Parts of the state, lent.
-use Rattle.std.proofs.Common.{◌≡◌, [], Result, Ok, Err, refl, sym, subst, arith}
-use Rattle.std.proofs.lemmas.Grind.{common_steps}
+use Rattle.std.proofs.Common.{◌≡◌, Result, Ok, Err, refl, sym, subst}
 use Rattle.budget_meter.specs.Meter.{Meter}
 use Rattle.host_spec.specs.Answers.{Answer}
 use Rattle.host_spec.specs.declared.error.HostErr.{HostErr}
 use Rattle.host_spec.specs.declared.error.HostErr.TheVariants as ends
 use Rattle.object_store.specs.Shown.{shown_of}
-use Rattle.auth_trees.proofs.Lemmas.{later_self}
 use Rattle.call_spec.specs.World.{Env}
 use Rattle.call_spec.specs.Acts.{Failed, Bad, Act}
 use Rattle.host_frame.specs.Answered.{answer_of}
 use Rattle.host_frame.specs.declared.answer.Answer.{Answer as Answer'}
 use Rattle.call_spec.specs.Outcomes.{trace_of}
-use Rattle.host_ledger.proofs.Lemmas.{later_same, quietly}
-use Rattle.call_host.specs.Worlds.{world_in, MayRun}
-use Rattle.call_host.specs.Running.{StaysIn}
+use Rattle.host_ledger.proofs.Lemmas.{quietly}
+use Rattle.call_host.specs.Worlds.{world_in}
 use Rattle.call_host.specs.Taken.{Takes, TakesIn}
 use Rattle.call_host.specs.declared.host.Host.{Host}
 use Rattle.host_ledger.specs.declared.state.HostLedger.{HostLedger}
@@ -25,32 +22,6 @@ paid l m = record l { budget = m }
 
 abbrev pub around : {G U V : Type 0} → Host G U V → HostLedger G V → Host G U V
 around h l = record h { ledger = l }
-
-stays_by : {G U V : Type 0} (old : Host G U V) (m : Meter) → MayRun old → StaysIn old (around old (paid old.ledger m))
-stays_by old m ready = record {
-  left = record {
-    header = refl;
-    storage = later_same old.ledger.storage old.ledger.storage refl;
-    events = ([], grind (arith, common_steps));
-    contract = refl;
-    caller = refl;
-    code = refl;
-  };
-  contracts = refl;
-  marks = later_self old.marks;
-  verdicts = refl;
-  place = refl;
-  ready = record {
-    ledger = record { bounds = ready.ledger.bounds; number = ready.ledger.number; lives = ready.ledger.lives; indices = ready.ledger.indices; copy = ready.ledger.copy };
-    entries = ready.entries;
-  };
-}
-
-pub stays_paid : {G U V : Type 0} (old : Host G U V) (new : HostLedger G V) → MayRun old → new ≡ paid old.ledger new.budget → StaysIn old (around old new)
-stays_paid old new ready e = subst (λ l. StaysIn old (around old l)) (sym e) (stays_by old new.budget ready)
-
-pub stays_same : {G U V : Type 0} (old : Host G U V) → MayRun old → StaysIn old old
-stays_same old ready = stays_by old old.ledger.budget ready
 
 taken_by : {A G U V : Type 0} (r : Result A HostErr) (act : Env → Act Answer) (next : Env → A → Act Answer) (old : Host G U V) (m : Meter)
     → ((env : Env) → Takes r (act env) (next env) (shown_of old.ledger.objects old.ledger.frame.shown) old.ledger.budget m) → TakesIn r act next old (around old (paid old.ledger m))

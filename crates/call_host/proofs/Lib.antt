@@ -6,6 +6,7 @@ mod Framing
 mod Joining
 pub mod Lemmas
 mod Lending
+mod Meeting
 mod Showing
 mod Splitting
 mod Stepping

@@ -1,5 +1,5 @@
 -- Failures that leave the state as it was.
-use Rattle.std.proofs.Common.{◌≡◌, ◌+◌, ◌<◌, ◌≤◌, ◌^◌, ℕ, List, [], ◌∷◌, ◌++◌, length-append, inl, inr, arith, length, take, append-nil, Some, Result, Ok, Err, refl, sym, ap, ◌∙◌, subst}
+use Rattle.std.proofs.Common.{◌≡◌, ◌<◌, ◌^◌, ℕ, List, inl, inr, arith, length, take, append-nil, Some, Result, Ok, Err, refl, sym, ap, ◌∙◌, subst}
 use Rattle.std.proofs.Math.Seq.{take-append_seam}
 use Rattle.xdr_spec.specs.Format.{number32}
 use Rattle.value_types.specs.Error.{error_format, code_format}
@@ -14,29 +14,27 @@ use Rattle.ledger_spec.specs.LedgerMap.{LedgerMap}
 use Rattle.invoke_types.specs.declared.event.ContractEvent.{ContractEvent}
 use Rattle.host_spec.specs.declared.error.HostErr.{HostErr}
 use Rattle.host_spec.specs.declared.error.HostErr.TheVariants as ends
-use Rattle.contract_storage.specs.Stored.{Stored, IsHalfReleased, IsLater, IsRead, IsRestored, with_maps, with_snapshot, with_touched}
+use Rattle.contract_storage.specs.Stored.{Stored, IsLater, IsRead, IsRestored, with_touched}
 use Rattle.contract_storage.specs.Touched.{Known}
-use Rattle.contract_storage.proofs.Lemmas.{goes_back, goes_on}
+use Rattle.contract_storage.proofs.Lemmas.{goes_back, goes_half_on, goes_on}
 use Rattle.host_ledger.proofs.Lemmas.{later_read, tells_still}
 use Rattle.call_spec.specs.World.{Access, World, Env}
-use Rattle.call_spec.specs.Acts.{Act, Failed, Out, Good, Bad, world_of}
-use Rattle.call_spec.specs.Calling.{Call, restored, undone, undoing, caught, catching, calls}
+use Rattle.call_spec.specs.Acts.{Act, Failed, Out, Good, world_of}
+use Rattle.call_spec.specs.Calling.{Call, restored, caught, catching, calls}
 use Rattle.call_spec.specs.Errors.{HIDDEN_ERROR}
 use Rattle.call_spec.specs.HostFunctions.{opener_of}
-use Rattle.call_host.specs.Placed.{HasRoom}
+use Rattle.call_host.specs.Paths.{HasRoom}
 use Rattle.value_types.specs.declared.address.ScAddress.{ScAddress}
 use Rattle.value_types.specs.declared.address.ScAddress.TheVariants.{Contract}
 use Rattle.call_spec.specs.Frames.{passed_on}
 use Rattle.call_spec.specs.Outcomes.{Says, trace_of}
 use Rattle.host_ledger.specs.Traced.{Tells}
-use Rattle.call_host.specs.Worlds.{world_around, leaving_by, DoesAround, IsEnvOf, MayRun, Stays}
-use Rattle.call_host.specs.Undone.{opened, IsMark, IsWithin, IsBack, IsInStorage, IsReleasedHost, IsHalfReleasedHost, Releases, Undoes, Catches}
-use Rattle.auth_spec.specs.Pairs.{Pair}
+use Rattle.call_host.specs.Worlds.{world_around, uncounted, leaving_by, DoesAround, IsEnvOf, Stays}
+use Rattle.call_host.specs.Undone.{opened, IsMark, IsBack, IsInStorage, IsReleasedHost, IsHalfReleasedHost, Releases, Undoes, Catches}
 use Rattle.auth_spec.specs.Authorities.{Authorised, point_of, demands_of, noted_back, undone_to, IsLaterState}
 use Rattle.auth_spec.specs.declared.point.Point.{Point}
 use Rattle.auth_trees.proofs.Lemmas.{goes_back_to, later_back}
 use Rattle.call_host.specs.declared.host.Host.{Host}
-use Rattle.call_host.specs.declared.place.Place.{Place}
 use Rattle.call_host.specs.declared.undo.Mark.{Mark}
 use Rattle.call_host.proofs.Joining.{Telling, knowing, same_act, traced, keep_rest}
 use Rattle.call_host.proofs.Showing.{shown_as, telling}
@@ -75,9 +73,6 @@ restored_is {G} {U} {V} mark start old new marks stays back rest trace later =
     ∙ ap (λ (s : Stored). at s.map new.ledger.events new.marks) same.storage ∙ ap (λ (e : List ContractEvent). at start.ledger.storage.map e new.marks) same.events
     ∙ ap (λ (s : Authorised). at start.ledger.storage.map start.ledger.events s) same.marks)
 
-same_place : (p q r : Place) → r ≡ q → q ≡ record p { begun = q.begun } → r ≡ record p { begun = r.begun }
-same_place p q r same stays = same ∙ stays ∙ ap (λ (x : Place). record p { begun = x.begun }) (sym same)
-
 pub stays_back : {G U V : Type 0} (mark : Mark) (start old new : Host G U V) → IsMark mark start → Stays (opened start) old → IsBack mark old new → Stays start new
 stays_back {G} {U} {V} mark start old new marks stays back =
     let same = gone_back mark start old new marks stays back in
@@ -86,11 +81,10 @@ stays_back {G} {U} {V} mark start old new marks stays back =
       storage = later_read start.ledger.storage new.ledger.storage same.storage;
       events = (_, same.events ∙ sym (append-nil start.ledger.events));
       objects = ap (λ (h : Host G U V). h.ledger.objects) back.rest ∙ stays.objects;
-      frame = ap (λ (h : Host G U V). h.ledger.frame) back.rest ∙ stays.frame;
+      frame = ap (λ (h : Host G U V). uncounted h.ledger.frame) back.rest ∙ stays.frame;
       contracts = ap (λ (h : Host G U V). h.open.items) back.rest ∙ stays.contracts;
       marks = subst (λ (s : Authorised). IsLaterState start.marks s) (sym (back.marks ∙ ap (λ (to : Point). undone_to to old.marks) marks.marks)) (later_back start.marks old.marks (point_of start.marks) stays.marks (omega arith));
       verdicts = ap (λ (h : Host G U V). h.verdicts.now) back.rest ∙ stays.verdicts;
-      place = same_place start.place old.place new.place (ap (λ (h : Host G U V). h.place) back.rest) stays.place;
     }
 
 -- ---- a snapshot that is open
@@ -101,15 +95,6 @@ opened_env env h is = record {
   ledger = record { header = is.ledger.header; serves = record { number = is.ledger.serves.number; lives = is.ledger.serves.lives; judge = is.ledger.serves.judge } };
   authority = is.authority;
 }
-
-opened_ready : {G U V : Type 0} (h : Host G U V) → MayRun h → MayRun (opened h)
-opened_ready h ready = record {
-  ledger = record { bounds = ready.ledger.bounds; number = ready.ledger.number; lives = ready.ledger.lives; indices = ready.ledger.indices; copy = ready.ledger.copy };
-  entries = ready.entries;
-}
-
-pub ready_opened : {G U V : Type 0} (h next : Host G U V) → next ≡ opened h → MayRun h → MayRun next
-ready_opened {G} {U} {V} h next is ready = subst (λ (x : Host G U V). MayRun x) (sym is) (opened_ready h ready)
 
 -- an act over it is one over the state
 pub does_opened : {A B G U V : Type 0} (r : Result A HostErr) (view : A → B) (act : Env → Act B) (start next old : Host G U V) → next ≡ opened start → DoesAround r view act next old → DoesAround r view act start old
@@ -140,13 +125,6 @@ with_past snapshots h = record h { ledger = record h.ledger { storage = record h
 released_is : {G U V : Type 0} (old new : Host G U V) → IsReleasedHost old new → new ≡ with_past new.ledger.storage.snapshots old
 released_is {G} {U} {V} old new done = done.rest ∙ ap (λ (s : Stored). record old { ledger = record old.ledger { storage = s } }) done.storage.same
 
-half_on : (start later done : Stored) → IsLater (with_snapshot start) later → IsHalfReleased later done → IsLater start done
-half_on start later done l half =
-    let past : done.snapshots ≡ start.snapshots = ap (λ (x : Stored). x.snapshots) (goes_on start later (record later { snapshots = done.snapshots }) l (record { same = refl; closed = half.closed })).0 in
-    let is : done ≡ record start { map = done.map; touched = later.touched } =
-    half.same ∙ ap (λ (x : Stored). with_maps x done) l ∙ ap (λ (p : List LedgerMap). record (with_touched start later.touched) { map = done.map; snapshots = p }) past in
-    subst (λ (x : Stored). IsLater start x) (sym is) refl
-
 -- what the work since a snapshot left, with another storage
 stays_with : {G U V : Type 0} (start old new : Host G U V) → Stays (opened start) old → IsInStorage old new → IsLater start.ledger.storage new.ledger.storage → Stays start new
 stays_with {G} {U} {V} start old new stays rest later = record {
@@ -154,11 +132,10 @@ stays_with {G} {U} {V} start old new stays rest later = record {
   storage = later;
   events = (stays.events.0, ap (λ (h : Host G U V). h.ledger.events) rest ∙ stays.events.1);
   objects = ap (λ (h : Host G U V). h.ledger.objects) rest ∙ stays.objects;
-  frame = ap (λ (h : Host G U V). h.ledger.frame) rest ∙ stays.frame;
+  frame = ap (λ (h : Host G U V). uncounted h.ledger.frame) rest ∙ stays.frame;
   contracts = ap (λ (h : Host G U V). h.open.items) rest ∙ stays.contracts;
   marks = subst (λ (s : Authorised). IsLaterState start.marks s) (sym (ap (λ (h : Host G U V). h.marks) rest)) stays.marks;
   verdicts = ap (λ (h : Host G U V). h.verdicts.now) rest ∙ stays.verdicts;
-  place = same_place start.place old.place new.place (ap (λ (h : Host G U V). h.place) rest) stays.place;
 }
 
 pub stays_released : {G U V : Type 0} (start old new : Host G U V) → Stays (opened start) old → IsReleasedHost old new → Stays start new
@@ -167,7 +144,7 @@ stays_released start old new stays done =
 
 stays_half : {G U V : Type 0} (start old new : Host G U V) → Stays (opened start) old → IsHalfReleasedHost old new → Stays start new
 stays_half start old new stays done =
-    stays_with start old new stays done.rest (half_on start.ledger.storage old.ledger.storage new.ledger.storage stays.storage done.storage)
+    stays_with start old new stays done.rest (goes_half_on start.ledger.storage old.ledger.storage new.ledger.storage stays.storage done.storage).1
 
 releases_stay : {R G U V : Type 0} (memory end r : R) (start old new : Host G U V) → Stays (opened start) old → Releases memory end r old new → Stays start new
 releases_stay memory end r start old new stays (inl done) = stays_released start old new stays done.1
@@ -192,11 +169,6 @@ released_end {A} change e r view act start old new (inl done) same does =
 released_end {A} change e r view act start old new (inr half) same does =
     subst (λ (x : Result A HostErr). DoesAround x view (λ env w. change w (act env w)) start new) (sym half.0) (λ env at rest trace. tt)
 
-as_results : {A G U V : Type 0} (e r : HostErr) (old new : Host G U V) → Releases ends.NoMemory e r old new
-    → (let none : Result A HostErr = Err ends.NoMemory in let one : Result A HostErr = Err e in let two : Result A HostErr = Err r in Releases none one two old new)
-as_results {A = A} e r old new (inl done) = let at : HostErr → Result A HostErr = λ x. Err x in inl (ap at done.0, done.1)
-as_results {A = A} e r old new (inr half) = let at : HostErr → Result A HostErr = λ x. Err x in inr (ap at half.0, half.1)
-
 -- ---- failures that are undone
 
 left_is : {A B G U V : Type 0} (r : Result A HostErr) (view : A → B) (rest : World) (t : List Access) (told : Telling) (new : Host G U V) (out : Out B) → Says r view out (knowing told (λ _. world_around rest new t))
@@ -211,48 +183,7 @@ told_back : {B G U V : Type 0} (start old new : Host G U V) (trace : List Access
 told_back start old new trace out other rest back is told =
     subst (telling start new trace) (sym (ap (λ (w : World). w.trace) is)) (λ first. restored_tells old.ledger.storage new.ledger.storage (trace_of out) back (told first))
 
-pub undoes_good : {A B G U V : Type 0} (a : A) (view : A → B) (act : Env → Act B) (start old new : Host G U V) → IsReleasedHost old new → (let r : Result A HostErr = Ok a in DoesAround r view act start old)
-    → (let r : Result A HostErr = Ok a in DoesAround r view (λ env. undoing (act env)) start new)
-undoes_good {A} {B} a view act start old new done does env at rest trace =
-    let r : Result A HostErr = Ok a in
-    same_end undone r view act start old new done (λ env rest trace says. ap (λ (o : Out B). undone (world_around rest start trace) o) says.1 ∙ sym says.1) does env at rest trace
-
-undoes_failed : {A B G U V : Type 0} (mark : Mark) (d : ScError) (view : A → B) (act : Env → Act B) (start old new : Host G U V) → IsMark mark start → Stays (opened start) old → IsBack mark old new
-    → (let r : Result A HostErr = Err (ends.Failed d) in DoesAround r view act start old) → (let r : Result A HostErr = Err (ends.Failed d) in DoesAround r view (λ env. undoing (act env)) start new)
-undoes_failed {A} {B} mark d view act start old new marks stays back does env is rest trace =
-    let r : Result A HostErr = Err (ends.Failed d) in
-    let w = world_around rest start trace in
-    let out = act env w in
-    let says = does env is rest trace in
-    let e = ap (λ (o : Out B). undone w o) says.1 ∙ ap (Bad (Failed d)) (restored_is mark start old new marks stays back rest trace (trace_of out)) in
-    left_is r view rest (trace_of out) (telling start new trace) new (undone w out) (told_back start old new trace out (undone w out) rest back.storage (ap (λ (o : Out B). world_of o) e) says.0, e)
-
-pub undoes_end : {A B G U V : Type 0} (mark : Mark) (e d : HostErr) (view : A → B) (act : Env → Act B) (start old new : Host G U V) → IsMark mark start → Stays (opened start) old → Undoes mark e d old new
-    → (let r : Result A HostErr = Err e in DoesAround r view act start old) → (let r : Result A HostErr = Err d in DoesAround r view (λ env. undoing (act env)) start new)
-undoes_end {A} mark (ends.Failed f) d view act start old new marks stays back does =
-    let at : HostErr → Result A HostErr = λ x. Err x in
-    subst (λ (x : HostErr). DoesAround (at x) view (λ env. undoing (act env)) start new) (sym back.0) (undoes_failed mark f view act start old new marks stays back.1 does)
-undoes_end {A} {B} mark ends.Spent d view act start old new marks stays done does =
-    released_end undone (Err ends.Spent) (Err d) view act start old new (as_results {A = A} ends.Spent d old new done) (λ env rest trace says. ap (λ (o : Out B). undone (world_around rest start trace) o) says.1 ∙ sym says.1) does
-undoes_end {A} {B} mark (ends.Archived key) d view act start old new marks stays done does =
-    released_end undone (Err (ends.Archived key)) (Err d) view act start old new (as_results {A = A} (ends.Archived key) d old new done) (λ env rest trace says. ap (λ (o : Out B). undone (world_around rest start trace) o) says.1 ∙ sym says.1) does
-undoes_end {A} {B} mark (ends.Undeclared key) d view act start old new marks stays done does =
-    released_end undone (Err (ends.Undeclared key)) (Err d) view act start old new (as_results {A = A} (ends.Undeclared key) d old new done) (λ env rest trace says. ap (λ (o : Out B). undone (world_around rest start trace) o) says.1 ∙ sym says.1) does
-undoes_end {A} mark ends.NoMemory d view act start old new marks stays (inl done) does =
-    let at : HostErr → Result A HostErr = λ x. Err x in
-    subst (λ (x : HostErr). DoesAround (at x) view (λ env. undoing (act env)) start new) (sym done.0) (λ env is rest trace. tt)
-undoes_end {A} mark ends.NoMemory d view act start old new marks stays (inr half) does =
-    let at : HostErr → Result A HostErr = λ x. Err x in
-    subst (λ (x : HostErr). DoesAround (at x) view (λ env. undoing (act env)) start new) (sym half.0) (λ env is rest trace. tt)
-
 -- ---- failures that are caught
-
-pub catches_good : {G U V : Type 0} (made : Result ScVal HostErr) (v : ScVal) (act : Env → Act Datum) (start old new : Host G U V) → made ≡ Ok v → IsReleasedHost old new → DoesAround made datum act start old
-    → (let r : Result ScVal HostErr = Ok v in DoesAround r datum (λ env. catching (act env)) start new)
-catches_good made v act start old new given done does =
-    let r : Result ScVal HostErr = Ok v in
-    same_end caught r datum act start old new done (λ env rest trace says. ap (λ (o : Out Datum). caught (world_around rest start trace) o) says.1 ∙ sym says.1)
-    (subst (λ (x : Result ScVal HostErr). DoesAround x datum act start old) given does)
 
 caught_failed : {G U V : Type 0} (mark : Mark) (d : ScError) (act : Env → Act Datum) (start old new : Host G U V) → IsMark mark start → Stays (opened start) old → IsBack mark old new
     → (let r : Result ScVal HostErr = Err (ends.Failed d) in DoesAround r datum act start old)
@@ -317,18 +248,3 @@ hidden_bounded = refl
 pub passed_hidden : (e : ScError) → ((code : ℕ) → e ≡ errors.Contract code → ⊥) → HIDDEN_ERROR ≡ passed_on e
 passed_hidden (errors.Contract code) h = absurd (h code refl)
 passed_hidden _ h = refl
-
--- ---- a mark that may be gone back to
-
-last_is : (xs : List LedgerMap) (x : LedgerMap) → 1 ≤ length (xs ++ x ∷ [])
-last_is xs x = omega (arith, length-append xs (x ∷ []))
-
-pub may_undo : {G U V : Type 0} (mark : Mark) (start old : Host G U V) → IsMark mark start → Stays (opened start) old → IsWithin mark old
-may_undo mark start old marks stays =
-    let more = stays.marks.pairs.0 in
-    let pairs : length old.marks.pairs ≡ length start.marks.pairs + length more = ap (λ (ps : List Pair). length ps) stays.marks.pairs.1 ∙ length-append start.marks.pairs more in
-    let at : mark.marks.pairs ≡ length start.marks.pairs = ap (λ (to : Point). to.pairs) marks.marks in
-    record {
-      storage = subst (λ (ms : List LedgerMap). 1 ≤ length ms) (sym (ap (λ (s : Stored). s.snapshots) stays.storage)) (last_is start.ledger.storage.snapshots start.ledger.storage.map);
-      pairs = omega (arith, pairs, at);
-    }

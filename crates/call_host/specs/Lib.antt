@@ -1,6 +1,7 @@
 pub mod Creations
+pub mod Demanded
 pub mod Framed
-pub mod Placed
+pub mod Paths
 pub mod Running
 pub mod Taken
 pub mod Targets

@@ -44,7 +44,7 @@ pub record IsReleasedHost {G U V : Type 0} (old new : Host G U V) : Type 0 where
   pub storage : IsReleased old.ledger.storage new.ledger.storage
   pub rest : IsInStorage old new
 
--- the same if memory ran out: the entries may be others
+-- the same if memory ran out: each key has its entry before the call, or that at the snapshot
 pub record IsHalfReleasedHost {G U V : Type 0} (old new : Host G U V) : Type 0 where
   pub storage : IsHalfReleased old.ledger.storage new.ledger.storage
   pub rest : IsInStorage old new

@@ -14,39 +14,43 @@ ghost use Rattle.host_ledger.specs.Worlds.{Serves, IsHeld, copied};
 ghost use Rattle.host_ledger.specs.Spelled.{IsKeySpelled};
 ghost use Rattle.call_host.specs.Framed.{argument_words};
 
+use crate::functions::clone_args;
 use budget_meter::Budget;
 use call_parts::{charge_run, is_same, returned_value, show_args, write_instance};
 use contract_storage::{Storage, Watch};
 use entry_lookup::Ground;
-use host_ledger::{InstanceCopy, Running};
+use host_ledger::{Frame, InstanceCopy};
 use host_spec::HostErr;
 use object_store::{Objects, Shown};
 use value_types::{Hash, ScVal};
 use wasm_spec::Module;
 
-/// Charges for a run of a module's function, and shows its arguments. Returns their words.
+/// Charges for a run of a module's function, and shows clones of its arguments. Returns their words.
 pub(crate) fn argument_words(
     objects: &mut Objects,
     shown: &mut Shown,
     budget: &mut Budget,
     module: &Module,
-    args: Vec<ScVal>,
+    args: &[ScVal],
 ) -> Result<Vec<u64>, HostErr>
-    requires made { AreMade (datums args.items) }
+    requires made { AreMade (datums args.now) }
     requires indices { AreIndices objects.old shown.old }
     ensures does { (w : World) → w.frame.shown ≡ shown_of objects.old shown.old → w.meter ≡ budget.old
-        → Says result (λ words. words.items) (argument_words «module».now.memories (datums args.items) w)
+        → Says result (λ words. words.items) (argument_words «module».now.memories (datums args.now) w)
         (quiet w (λ trace. record w {
           frame = record w.frame { shown = shown_of objects.new shown.new };
           trace = trace;
           meter = budget.new;
         })) }
-    ensures count { IfOk result (λ words. length words.items ≡ length (datums args.items)) }
+    ensures count { IfOk result (λ words. length words.items ≡ length (datums args.now)) }
     ensures indices { AreIndices objects.new shown.new }
     ensures key { IfErr result IsKeySpelled }
 {
     match charge_run(budget, module) {
-        Ok(()) => show_args(objects, shown, budget, args),
+        Ok(()) => match clone_args(objects.allocator(), args) {
+            Ok(args) => show_args(objects, shown, budget, args),
+            Err(error) => Err(error),
+        },
         Err(error) => Err(error),
     }
 }
@@ -82,8 +86,7 @@ pub(crate) fn finish<G: Ground, W: Watch>(
     budget: &mut Budget,
     n: u32,
     objects: &Objects,
-    frame: &Running,
-    first: &InstanceCopy,
+    frame: &Frame,
     word: u64,
 ) -> Result<ScVal, HostErr>
     requires held { IsHeld frame.now.copy.storage }
@@ -91,7 +94,7 @@ pub(crate) fn finish<G: Ground, W: Watch>(
     requires indices { AreIndices objects.now frame.now.shown }
     ensures does { (env : Env) → Serves env storage.old → (w : World) → w.entries ≡ storage.old.map → w.meter ≡ budget.old
         → w.frame.shown ≡ shown_of objects.now frame.now.shown → w.frame.contract ≡ frame.now.contract
-        → w.frame.first ≡ copied first.now → w.frame.copy ≡ copied frame.now.copy
+        → w.frame.first ≡ copied frame.now.first → w.frame.copy ≡ copied frame.now.copy
         → Says result datum (finished env word w)
         (leaving storage.old storage.new w.trace
         (λ trace. record w { entries = storage.new.map; trace = trace; meter = budget.new })) }
@@ -100,6 +103,13 @@ pub(crate) fn finish<G: Ground, W: Watch>(
     ensures key { IfErr result IsKeySpelled }
 {
     let value = returned_value(objects, &frame.shown, word)?;
-    write_if_changed(storage, budget, n, frame.contract, first, &frame.copy)?;
+    write_if_changed(
+        storage,
+        budget,
+        n,
+        frame.contract,
+        &frame.first,
+        &frame.copy,
+    )?;
     Ok(value)
 }

@@ -5,17 +5,20 @@ ghost use Rattle.auth_types.specs.AuthEntry.{auth_entry_format};
 ghost use Rattle.host_spec.specs.declared.error.HostErr.TheVariants as ends;
 ghost use Rattle.contract_storage.specs.Stored.{HasBounds};
 ghost use Rattle.call_spec.specs.World.{next_seq};
+ghost use Rattle.host_ledger.specs.Worlds.{called_name, called_args, IsCallOf};
 ghost use Rattle.call_host.specs.Worlds.{numbered, IsOpened, IsClosed, MayRun};
 
-use crate::place::{Place, outermost};
+use crate::functions::contract_function;
+use crate::paths::begin_in;
 use crate::telling::{tell_begun, tell_ended};
 use auth_trees::{Authorising, Authority};
 use budget_meter::Budget;
 use code_cache::Cache;
 use contract_storage::{Storage, Watch};
 use entry_lookup::Ground;
-use host_ledger::{Events, HostLedger, InstanceCopy, InstanceStorage, Running};
+use host_ledger::{Events, Frame, HostLedger, InstanceCopy, InstanceStorage};
 use host_spec::HostErr;
+use invoke_types::Function;
 use ledger_types::{Header, Verdicts};
 use object_store::{Objects, Shown};
 use std::alloc::Global;
@@ -32,34 +35,59 @@ pub struct Host<'a, G: Ground, A: Authority, W: Watch> {
     pub marks: Authorising<A>,
     /// The signatures of accounts that are known to be good.
     pub verdicts: &'a Verdicts,
-    /// Where the running frame is.
-    pub place: Place,
     /// Codes that threads share. They save the loading of modules, and change no result.
     pub codes: Option<&'a Cache<'a>>,
 }
 
 /// A frame that waits while another one runs, with its values.
 #[derive(Drop)]
-pub struct Waiting {
-    pub frame: Running,
+pub struct SuspendedFrame {
+    pub frame: Frame,
     pub objects: Objects,
-    pub place: Place,
+}
+
+/// An instance of no contract.
+fn no_instance() -> InstanceCopy
+    ensures { result.storage ≡ None }
+{
+    InstanceCopy {
+        code: Hash([0; 32]),
+        storage: InstanceStorage::null(),
+    }
+}
+
+/// The function of a contract that has no name and takes no arguments.
+fn no_function(alloc: Global, contract: Hash) -> Function
+    ensures name { called_name result ≡ [] }
+    ensures args { called_args result ≡ [] }
+    ensures called { IsCallOf contract result }
+{
+    let name = Vec::new(alloc);
+    let args = Vec::new(alloc);
+    contract_function(contract, name, args)
 }
 
 /// The frame of no contract: the transaction itself.
-fn outside(alloc: Global) -> Running
-    ensures shown { result.shown ≡ [] }
+fn outside(alloc: Global) -> Frame
+    ensures function { called_name result.function ≡ [] }
+    ensures args { called_args result.function ≡ [] }
+    ensures called { IsCallOf result.contract result.function }
     ensures copy { result.copy.storage ≡ None }
+    ensures shown { result.shown ≡ [] }
+    ensures path { result.path.items ≡ [] }
+    ensures begun { result.begun ≡ 0 }
 {
-    Running {
-        contract: Hash([0; 32]),
+    let contract = Hash([0; 32]);
+    Frame {
+        contract,
         caller: None,
+        function: no_function(alloc, contract),
         code: Hash([0; 32]),
-        copy: InstanceCopy {
-            code: Hash([0; 32]),
-            storage: InstanceStorage::null(),
-        },
+        first: no_instance(),
+        copy: no_instance(),
         shown: Shown::new(alloc),
+        path: Vec::new(alloc),
+        begun: 0,
     }
 }
 
@@ -87,10 +115,10 @@ impl<'a, G: Ground, A: Authority, W: Watch> Host<'a, G, A, W> {
         ensures contracts { result.open.items ≡ [] }
         ensures marks { result.marks ≡ A.authorised marks }
         ensures verdicts { result.verdicts.now ≡ verdicts.now }
-        ensures function { result.place.function.items ≡ [] }
-        ensures args { result.place.args.items ≡ [] }
-        ensures path { result.place.path.items ≡ [] }
-        ensures begun { result.place.begun ≡ 0 }
+        ensures function { called_name result.ledger.frame.function ≡ [] }
+        ensures args { called_args result.ledger.frame.function ≡ [] }
+        ensures path { result.ledger.frame.path.items ≡ [] }
+        ensures begun { result.ledger.frame.begun ≡ 0 }
         ensures ready { MayRun result }
     {
         Host {
@@ -105,7 +133,6 @@ impl<'a, G: Ground, A: Authority, W: Watch> Host<'a, G, A, W> {
             open: Vec::new(alloc),
             marks: Authorising::new(marks),
             verdicts,
-            place: outermost(alloc),
             codes,
         }
     }
@@ -129,11 +156,10 @@ impl<'a, G: Ground, A: Authority, W: Watch> Host<'a, G, A, W> {
     }
 
     /// Opens a frame, which has shown nothing yet. Returns the frame that waits. Its only error is memory.
-    pub fn open_frame(&mut self, frame: Running, place: Place) -> Result<Waiting, HostErr>
-        ensures waiting { IfOk result (λ w. w.frame ≡ self.old.ledger.frame) }
+    pub fn open_frame(&mut self, frame: Frame) -> Result<SuspendedFrame, HostErr>
+        ensures suspended { IfOk result (λ w. w.frame ≡ self.old.ledger.frame) }
         ensures objects { IfOk result (λ w. w.objects ≡ self.old.ledger.objects) }
-        ensures place { IfOk result (λ w. w.place ≡ self.old.place) }
-        ensures frame { OnOk result (IsOpened frame place self.old self.new) }
+        ensures frame { OnOk result (IsOpened frame self.old self.new) }
         ensures contracts { OnOk result (self.new.open.items ≡ self.old.open.items ++ frame.contract ∷ []) }
         ensures memory { IfErr result (λ e. e ≡ ends.NoMemory) }
         ensures err { OnErr result (self.new ≡ record self.old { «open» = self.new.open }) }
@@ -145,37 +171,31 @@ impl<'a, G: Ground, A: Authority, W: Watch> Host<'a, G, A, W> {
             Ok(()) => {
                 let objects = std::mem::replace(&mut self.ledger.objects, Objects::new(alloc));
                 let frame = std::mem::replace(&mut self.ledger.frame, frame);
-                let place = std::mem::replace(&mut self.place, place);
                 tell_begun(self);
-                Ok(Waiting {
-                    frame,
-                    objects,
-                    place,
-                })
+                Ok(SuspendedFrame { frame, objects })
             }
         }
     }
 
     /// Closes the running frame, which ended so, and goes back to the one that waits.
-    pub fn close_frame(&mut self, end: &Result<ScVal, HostErr>, waiting: Waiting)
-        ensures frame { IsClosed waiting.objects waiting.frame waiting.place self.old self.new }
+    pub fn close_frame(&mut self, end: &Result<ScVal, HostErr>, suspended: SuspendedFrame)
+        ensures frame { IsClosed suspended.objects suspended.frame self.old self.new }
         ensures contracts { self.new.open.items ≡ take (length self.old.open.items - 1) self.old.open.items }
     {
         tell_ended(self, end);
-        self.ledger.objects = waiting.objects;
-        self.ledger.frame = waiting.frame;
-        self.place = waiting.place;
+        self.ledger.objects = suspended.objects;
+        self.ledger.frame = suspended.frame;
         let _contract = self.open.pop();
     }
 
     /// Counts a call or create that the running frame begins, and returns its path. Its only error is memory.
     pub fn begin(&mut self) -> Result<Vec<u64>, HostErr>
-        ensures path { IfOk result (λ path. path.items ≡ self.old.place.path.items ++ self.old.place.begun ∷ []) }
+        ensures path { IfOk result (λ path. path.items ≡ self.old.ledger.frame.path.items ++ self.old.ledger.frame.begun ∷ []) }
         ensures count { IfOk result (λ path. self.new ≡ numbered self.old) }
         ensures err { IfErr result (λ e. self.new ≡ self.old) }
         ensures memory { IfErr result (λ e. e ≡ ends.NoMemory) }
     {
         let alloc = self.allocator();
-        self.place.begin(alloc)
+        begin_in(&mut self.ledger.frame, alloc)
     }
 }

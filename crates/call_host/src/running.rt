@@ -10,38 +10,62 @@ ghost use Rattle.call_spec.specs.World.{World, Env};
 ghost use Rattle.call_spec.specs.Outcomes.{quiet, Says};
 ghost use Rattle.host_ledger.specs.Traced.{leaving};
 ghost use Rattle.call_spec.specs.Frames.{finished};
-ghost use Rattle.host_ledger.specs.Worlds.{IsReady, IsHeld, Serves, copied};
+ghost use Rattle.host_ledger.specs.Worlds.{called_args, IsReady, IsHeld, Serves, copied};
 ghost use Rattle.host_ledger.specs.Spelled.{IsKeySpelled};
-ghost use Rattle.call_host.specs.Worlds.{DoesIn, MayRun};
+ghost use Rattle.call_host.specs.Worlds.{DoesIn, RunsIn, MayRun};
 ghost use Rattle.call_host.specs.Framed.{argument_words as argument_words_in};
-ghost use Rattle.call_host.specs.Running.{IsNewFrame, StaysIn, DoesFrom};
+ghost use Rattle.call_host.specs.Running.{IsFrameFor, StaysIn};
+ghost use Rattle.host_spec.specs.declared.error.HostErr.TheVariants as ends;
 
 use crate::frames::{argument_words, finish};
+use crate::functions::{args_of, clone_bytes, contract_function};
 use crate::host::Host;
 use auth_trees::Authority;
+use call_parts::clone_copy;
 use contract_storage::Watch;
 use entry_lookup::Ground;
-use host_ledger::{HostLedger, InstanceCopy, Running, made_seq};
+use host_ledger::{Frame, HostLedger, InstanceCopy, made_seq};
 use host_spec::HostErr;
 use module_loader::LinkedModule;
 use object_store::Shown;
 use std::alloc::Global;
 use value_types::{Hash, ScVal};
 
-/// Makes the frame of a call, before it runs.
-pub fn new_frame(alloc: Global, contract: Hash, caller: Option<Hash>, copy: InstanceCopy) -> Running
-    requires { IsHeld copy.storage }
-    ensures contract { result.contract ≡ contract }
-    ensures caller { result.caller ≡ caller }
-    ensures copy { result.copy ≡ copy }
-    ensures new { IsNewFrame result }
+/// Makes the frame of a call, before it runs. Takes memory linear in the name and the instance. Its only error is memory.
+pub fn new_frame(
+    alloc: Global,
+    contract: Hash,
+    caller: Option<Hash>,
+    function: &[u8],
+    args: Vec<ScVal>,
+    copy: InstanceCopy,
+    path: Vec<u64>,
+) -> Result<Frame, HostErr>
+    requires held { IsHeld copy.storage }
+    requires made { AreMade (datums args.items) }
+    ensures ok { IfOk result (λ f. IsFrameFor f contract caller function.now args.items copy path.items) }
+    ensures memory { IfErr result (λ e. e ≡ ends.NoMemory) }
 {
-    Running {
-        contract,
-        caller,
-        code: copy.code,
-        copy,
-        shown: Shown::new(alloc),
+    match clone_bytes(alloc, function) {
+        Err(error) => Err(error),
+        Ok(name) => match clone_copy(&copy) {
+            Err(error) => Err(error),
+            Ok(first) => {
+                let function = contract_function(contract, name, args);
+                let shown = Shown::new(alloc);
+                Ok(Frame {
+                    contract,
+                    caller,
+                    function,
+                    code: copy.code,
+                    first,
+                    copy,
+                    shown,
+                    path,
+                    begun: 0,
+                })
+            }
+        },
     }
 }
 
@@ -49,18 +73,17 @@ pub fn new_frame(alloc: Global, contract: Hash, caller: Option<Hash>, copy: Inst
 fn begin_in<G: Ground, W: Watch>(
     ledger: &mut HostLedger<'_, G, W>,
     module: &LinkedModule,
-    args: Vec<ScVal>,
 ) -> Result<Vec<u64>, HostErr>
-    requires made { AreMade (datums args.items) }
+    requires made { AreMade (called_args ledger.old.frame.function) }
     requires ready { IsReady ledger.old }
     ensures does { (w : World) → w.frame.shown ≡ shown_of ledger.old.objects ledger.old.frame.shown → w.meter ≡ ledger.old.budget
-        → Says result (λ words. words.items) (argument_words_in «module».now.memories (datums args.items) w)
+        → Says result (λ words. words.items) (argument_words_in «module».now.memories (called_args ledger.old.frame.function) w)
         (quiet w (λ trace. record w {
           frame = record w.frame { shown = shown_of ledger.new.objects ledger.new.frame.shown };
           trace = trace;
           meter = ledger.new.budget;
         })) }
-    ensures count { IfOk result (λ words. length words.items ≡ length (datums args.items)) }
+    ensures count { IfOk result (λ words. length words.items ≡ length (called_args ledger.old.frame.function)) }
     ensures indices { AreIndices ledger.new.objects ledger.new.frame.shown }
     ensures stays { ledger.new
         ≡ record ledger.old {
@@ -75,7 +98,7 @@ fn begin_in<G: Ground, W: Watch>(
         &mut ledger.frame.shown,
         &mut ledger.budget,
         module.valid().module(),
-        args,
+        args_of(&ledger.frame.function),
     )
 }
 
@@ -83,17 +106,16 @@ fn begin_in<G: Ground, W: Watch>(
 pub fn begin<G: Ground, A: Authority, W: Watch>(
     host: &mut Host<'_, G, A, W>,
     module: &LinkedModule,
-    args: Vec<ScVal>,
 ) -> Result<Vec<u64>, HostErr>
     requires ready { MayRun host.old }
-    requires made { AreMade (datums args.items) }
+    requires made { AreMade (called_args host.old.ledger.frame.function) }
     ensures does { DoesIn result (λ words. words.items)
-        (λ env. argument_words_in «module».now.memories (datums args.items)) host.old host.new }
-    ensures count { IfOk result (λ words. length words.items ≡ length (datums args.items)) }
+        (λ env. argument_words_in «module».now.memories (called_args host.old.ledger.frame.function)) host.old host.new }
+    ensures count { IfOk result (λ words. length words.items ≡ length (called_args host.old.ledger.frame.function)) }
     ensures stays { StaysIn host.old host.new }
     ensures key { IfErr result IsKeySpelled }
 {
-    begin_in(&mut host.ledger, module, args)
+    begin_in(&mut host.ledger, module)
 }
 
 /// The number of the ledger that is made.
@@ -107,14 +129,13 @@ fn made_in<G: Ground, W: Watch>(ledger: &HostLedger<'_, G, W>) -> u32
 /// Ends the ledger's running frame, whose code returned a word.
 fn end_in<G: Ground, W: Watch>(
     ledger: &mut HostLedger<'_, G, W>,
-    first: &InstanceCopy,
     word: u64,
 ) -> Result<ScVal, HostErr>
     requires ready { IsReady ledger.old }
     ensures does { (env : Env) → Serves env ledger.old.storage → (w : World) → w.entries ≡ ledger.old.storage.map
         → w.meter ≡ ledger.old.budget
         → w.frame.shown ≡ shown_of ledger.old.objects ledger.old.frame.shown → w.frame.contract ≡ ledger.old.frame.contract
-        → w.frame.first ≡ copied first.now → w.frame.copy ≡ copied ledger.old.frame.copy
+        → w.frame.first ≡ copied ledger.old.frame.first → w.frame.copy ≡ copied ledger.old.frame.copy
         → Says result datum (finished env word w)
         (leaving ledger.old.storage ledger.new.storage w.trace
         (λ trace. record w { entries = ledger.new.storage.map; trace = trace; meter = ledger.new.budget })) }
@@ -130,7 +151,6 @@ fn end_in<G: Ground, W: Watch>(
         n,
         &ledger.objects,
         &ledger.frame,
-        first,
         word,
     )
 }
@@ -139,14 +159,13 @@ fn end_in<G: Ground, W: Watch>(
 /// has changed.
 pub fn end<G: Ground, A: Authority, W: Watch>(
     host: &mut Host<'_, G, A, W>,
-    first: &InstanceCopy,
     word: u64,
 ) -> Result<ScVal, HostErr>
     requires ready { MayRun host.old }
-    ensures does { DoesFrom (copied first.now) result datum (λ env. finished env word) host.old host.new }
+    ensures does { RunsIn result datum (λ env. finished env word) host.old host.new }
     ensures hosted { IfOk result (λ value. IsHosted (datum value)) }
     ensures stays { StaysIn host.old host.new }
     ensures key { IfErr result IsKeySpelled }
 {
-    end_in(&mut host.ledger, first, word)
+    end_in(&mut host.ledger, word)
 }

@@ -2,15 +2,15 @@
 
 ghost use Rattle.std.specs.Prelude.{◌≡◌};
 
+use crate::functions::{args_of, name_of};
 use crate::host::Host;
 use crate::targets::ContractCall;
-use auth_spec::Demand;
 use auth_trees::Authority;
-use contract_storage::{End, Met, Moment, Watch};
+use contract_storage::{End, Moment, Watch};
 use entry_lookup::Ground;
+use host_ledger::HostLedger;
 use host_spec::HostErr;
-use invoke_types::Function;
-use value_types::{ScAddress, ScVal};
+use value_types::ScVal;
 
 /// How a call or a frame ended.
 fn end_of(end: &Result<ScVal, HostErr>) -> End<'_> {
@@ -21,17 +21,6 @@ fn end_of(end: &Result<ScVal, HostErr>) -> End<'_> {
         Err(HostErr::Undeclared(key)) => End::Undeclared(key),
         Err(HostErr::Archived(key)) => End::Archived(key),
         Err(HostErr::NoMemory) => End::NoMemory,
-    }
-}
-
-/// What met a demand.
-fn met_by(demand: Demand) -> Met {
-    match demand {
-        Demand::Matched { entry, first } => Met::ByEntry { entry, first },
-        Demand::ByInvoker => Met::ByCaller,
-        Demand::Denied => Met::Denied,
-        Demand::Noted => Met::Noted,
-        Demand::NoMemory => Met::NoMemory,
     }
 }
 
@@ -66,20 +55,25 @@ pub fn tell_returned<G: Ground, A: Authority, W: Watch>(
     });
 }
 
+/// Tells that the ledger's running frame begins.
+fn tell_begun_in<G: Ground, W: Watch>(ledger: &mut HostLedger<'_, G, W>)
+    ensures { ledger.new ≡ ledger.old }
+{
+    let used = ledger.budget.spent();
+    ledger.storage.tell(Moment::Begun {
+        contract: ledger.frame.contract,
+        caller: ledger.frame.caller,
+        function: name_of(&ledger.frame.function),
+        args: args_of(&ledger.frame.function),
+        used,
+    });
+}
+
 /// Tells that the running frame begins.
 pub(crate) fn tell_begun<G: Ground, A: Authority, W: Watch>(host: &mut Host<'_, G, A, W>)
     ensures { host.new ≡ host.old }
 {
-    let contract = host.ledger.frame.contract;
-    let caller = host.ledger.frame.caller;
-    let used = host.ledger.budget.spent();
-    host.ledger.storage.tell(Moment::Begun {
-        contract,
-        caller,
-        function: host.place.function.as_slice(),
-        args: host.place.args.as_slice(),
-        used,
-    });
+    tell_begun_in(&mut host.ledger);
 }
 
 /// Tells that the running frame ends.
@@ -93,21 +87,5 @@ pub(crate) fn tell_ended<G: Ground, A: Authority, W: Watch>(
     host.ledger.storage.tell(Moment::Ended {
         end: end_of(end),
         used,
-    });
-}
-
-/// Tells of a demand of the running frame.
-pub fn tell_demanded<G: Ground, A: Authority, W: Watch>(
-    host: &mut Host<'_, G, A, W>,
-    address: ScAddress,
-    function: &Function,
-    demand: Demand,
-)
-    ensures { host.new ≡ host.old }
-{
-    host.ledger.storage.tell(Moment::Demanded {
-        address,
-        function,
-        met: met_by(demand),
     });
 }

@@ -60,7 +60,8 @@ impl<'a, G: Ground, A: Authority, W: Watch> Host<'a, G, A, W> {
         self.marks.restore(mark.marks);
     }
 
-    /// Closes the newest snapshot, and keeps the writes since. If memory runs out, the entries are unspecified.
+    /// Closes the newest snapshot, and keeps the writes since. If memory runs out, each key has its entry before the call, or
+    /// that at the snapshot.
     fn release(&mut self) -> Result<(), HostErr>
         requires { 1 ≤ length self.old.ledger.storage.snapshots }
         ensures ok { OnOk result (IsReleasedHost self.old self.new) }

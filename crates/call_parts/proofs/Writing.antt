@@ -95,10 +95,10 @@ put_is env entry s w serves fits e =
     swap j n l = rw (j, n, l) (ap (λ (map : LedgerMap). at_change (admits s.declared kinds.Write (key_of entry)) (put s.lives s.n map entry) entry w) e)
 
 -- a put that the storage refuses
-pub put_refused : (e : StoErr) (x : HostErr) (key again : LedgerKey) (entry : LedgerEntry) (old new : Stored) (meter : Meter) → key ≡ key_of entry → again ≡ key → x ≡ end_of again e → entry_format.fits entry
+pub put_refused : (e : StoErr) (x : HostErr) (key : LedgerKey) (entry : LedgerEntry) (old new : Stored) (meter : Meter) → key ≡ key_of entry → x ≡ end_of key e → entry_format.fits entry
     → Does (put_act entry) (Err e) old new → (let q : Result (Unit {0}) HostErr = Err x in Steps q (λ u. u) (λ env. access env Write key (puts env entry tt)) old new meter meter)
-put_refused e x key again entry old new meter k same is fits h =
-    subst (λ (y : HostErr). let q : Result (Unit {0}) HostErr = Err y in Steps q (λ u. u) (λ env. access env Write key (puts env entry tt)) old new meter meter) (sym (is ∙ ap (λ (a : LedgerKey). end_of a e) (same ∙ k)))
+put_refused e x key entry old new meter k is fits h =
+    subst (λ (y : HostErr). let q : Result (Unit {0}) HostErr = Err y in Steps q (λ u. u) (λ env. access env Write key (puts env entry tt)) old new meter meter) (sym (is ∙ ap (λ (a : LedgerKey). end_of a e) k))
     (subst (λ (at : LedgerKey). let q : Result (Unit {0}) HostErr = Err (end_of (key_of entry) e) in Steps q (λ u. u) (λ env. access env Write at (puts env entry tt)) old new meter meter) (sym k)
     (λ env serves w i j.
     let q : Result (Unit {0}) HostErr = Err (end_of (key_of entry) e) in

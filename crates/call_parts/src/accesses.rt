@@ -1,7 +1,6 @@
 //! Accesses of the ledger's entries.
 
-ghost use Rattle.std.specs.Prelude.{◌≡◌, IfOk, IfErr};
-ghost use Rattle.host_spec.specs.declared.error.HostErr.TheVariants as ends;
+ghost use Rattle.std.specs.Prelude.{◌≡◌, IfErr};
 ghost use Rattle.ledger_types.specs.Key.{key_format};
 ghost use Rattle.ledger_types.specs.Entry.{entry_format, key_of};
 ghost use Rattle.ledger_spec.specs.LedgerMap.{HasCodeHash};
@@ -38,17 +37,6 @@ pub(crate) fn is_there<G: Ground, W: Watch>(
     }
 }
 
-/// Clones a key. Its only error is memory.
-fn clone_key(key: &LedgerKey) -> Result<LedgerKey, HostErr>
-    ensures ok { IfOk result (λ k. k ≡ key.now) }
-    ensures memory { IfErr result (λ e. e ≡ ends.NoMemory) }
-{
-    match key.clone() {
-        Ok(key) => Ok(key),
-        Err(_) => Err(HostErr::NoMemory),
-    }
-}
-
 /// Puts an entry at its key. The charge comes after the put. If it exceeds a limit, the run ends and its writes are dropped, so
 /// the order cannot be seen.
 pub(crate) fn put<G: Ground, W: Watch>(
@@ -66,9 +54,8 @@ pub(crate) fn put<G: Ground, W: Watch>(
     ensures key { IfErr result IsKeySpelled }
 {
     let size = size_of(&entry);
-    let again = clone_key(&key)?;
-    match storage.put(key, entry) {
+    match storage.put(&key, entry) {
         Ok(()) => pay(budget, Kind::ValSer, size),
-        Err(error) => Err(end_of(again, error)),
+        Err(error) => Err(end_of(key, error)),
     }
 }

@@ -2,9 +2,7 @@
 
 ghost use Rattle.std.specs.Prelude.{◌≡◌, ◌<◌, ◌^◌, length, IfOk, IfErr};
 ghost use Rattle.sha2.specs.Sha256.{sha256};
-ghost use Rattle.xdr_spec.specs.Format.{IsBytes};
-ghost use Rattle.value_types.specs.Address.{address_format};
-ghost use Rattle.value_types.specs.Hash.{hash_of, hash_format};
+ghost use Rattle.value_types.specs.Hash.{hash_of};
 ghost use Rattle.ledger_types.specs.Entry.{entry_format};
 ghost use Rattle.ledger_spec.specs.LedgerMap.{HasCodeHash};
 ghost use Rattle.host_spec.specs.declared.error.HostErr.TheVariants as ends;
@@ -17,30 +15,10 @@ use ledger_types::{
 };
 use sha2::{Digest, Sha256};
 use std::alloc::Global;
-use value_types::{Blob, Entries, Executable, Hash, Instance, ScAddress, ScVal};
-
-/// Says that the address of a contract has a spelling.
-#[tactic(auto, unfolding(value_types::specs::Address::address_format, value_types::specs::Hash::hash_format))]
-fn hold_contract(contract: Hash)
-    ensures { address_format.fits (ScAddress.Contract contract) }
-{
-    let _ = contract;
-}
-
-/// Says that a hash has a spelling.
-#[tactic(auto, unfolding(value_types::specs::Hash::hash_format))]
-pub(crate) fn hold_hash(hash: Hash)
-    ensures { hash_format.fits hash }
-{
-    let _ = hash;
-}
-
-/// Says that what a slice holds are bytes.
-fn hold_bytes(slice: &[u8])
-    ensures { IsBytes slice.now }
-{
-    let _ = slice;
-}
+use value_types::{
+    Blob, Entries, Executable, Hash, Instance, ScAddress, ScVal, contract_fits, hash_fits,
+};
+use value_xdr::hold_bytes;
 
 /// The entry of an instance.
 #[tactic(auto, using(crate::proofs::EntryLaws::instance_same, crate::proofs::EntryLaws::instance_entry_fits))]
@@ -55,8 +33,8 @@ pub(crate) fn instance_entry(
     ensures fits { entry_format.fits result }
     ensures hashed { HasCodeHash result.data }
 {
-    hold_contract(contract);
-    hold_hash(code);
+    contract_fits(contract);
+    hash_fits(code);
     LedgerEntry {
         last_modified_ledger_seq: n,
         data: LedgerEntryData::ContractData(ContractDataEntry {
@@ -104,7 +82,7 @@ pub(crate) fn code_entry(
     ensures hashed { IfOk result (λ e. HasCodeHash e.data) }
     ensures memory { IfErr result (λ e. e ≡ ends.NoMemory) }
 {
-    hold_hash(hash);
+    hash_fits(hash);
     hold_bytes(code);
     let code = copy_of(alloc, code)?;
     Ok(LedgerEntry {

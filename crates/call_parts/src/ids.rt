@@ -12,12 +12,11 @@ ghost use Rattle.call_parts.specs.Steps.{Charges};
 ghost use Rattle.host_ledger.specs.Spelled.{IsKeySpelled};
 
 use crate::charges::pay;
-use crate::entries::hold_hash;
 use budget_meter::{Budget, Kind};
 use host_spec::HostErr;
 use invoke_types::{Preimage, contract_id};
 use std::alloc::Global;
-use value_types::{Hash, ScAddress};
+use value_types::{Hash, ScAddress, hash_fits};
 
 /// Says that an address has a spelling.
 #[tactic(auto, unfolding(value_types::specs::Address::address_format, value_types::specs::AccountId::account_id_format, value_types::specs::Hash::hash_format, xdr_spec::specs::Format::number64))]
@@ -25,11 +24,11 @@ fn hold_address(address: ScAddress)
     ensures { address_format.fits address }
 {
     match address {
-        ScAddress::Account(account) => hold_hash(account.0),
-        ScAddress::Contract(contract) => hold_hash(contract),
-        ScAddress::MuxedAccount { ed25519, .. } => hold_hash(ed25519),
-        ScAddress::ClaimableBalance(balance) => hold_hash(balance),
-        ScAddress::LiquidityPool(pool) => hold_hash(pool),
+        ScAddress::Account(account) => hash_fits(account.0),
+        ScAddress::Contract(contract) => hash_fits(contract),
+        ScAddress::MuxedAccount { ed25519, .. } => hash_fits(ed25519),
+        ScAddress::ClaimableBalance(balance) => hash_fits(balance),
+        ScAddress::LiquidityPool(pool) => hash_fits(pool),
     }
 }
 
@@ -38,9 +37,9 @@ fn hold_address(address: ScAddress)
 fn payload_len(network: &Hash, deployer: ScAddress, salt: Hash) -> u64
     ensures { result ≡ length (contract_id_payload network.now (FromAddress deployer salt)) }
 {
-    hold_hash(*network);
+    hash_fits(*network);
     hold_address(deployer);
-    hold_hash(salt);
+    hash_fits(salt);
     match deployer {
         ScAddress::Account(_) | ScAddress::ClaimableBalance(_) => 112,
         ScAddress::Contract(_) | ScAddress::LiquidityPool(_) => 108,
@@ -55,7 +54,7 @@ fn id_of(alloc: Global, network: &Hash, deployer: ScAddress, salt: Hash) -> Resu
     ensures memory { IfErr result (λ e. e ≡ ends.NoMemory) }
 {
     hold_address(deployer);
-    hold_hash(salt);
+    hash_fits(salt);
     let preimage = Preimage::FromAddress {
         address: deployer,
         salt,

@@ -286,10 +286,9 @@ pub fn make_instance<G: Ground, W: Watch>(
     let size = size_of(&entry);
     let life = first_life(settings, n, &entry);
     let key = instance_key(contract);
-    let again = instance_key(contract);
-    match storage.make(key, entry, life) {
+    match storage.make(&key, entry, life) {
         Ok(true) => pay(budget, Kind::ValSer, size),
         Ok(false) => Err(EXISTS),
-        Err(error) => Err(end_of(again, error)),
+        Err(error) => Err(end_of(key, error)),
     }
 }

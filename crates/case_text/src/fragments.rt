@@ -132,7 +132,12 @@ impl Fragments {
 
 /// Appends bytes in hex digits.
 pub fn push_hex(alloc: Global, out: &mut String, bytes: &[u8]) -> Result<(), CaseErr> {
-    out.push_str(hex::encode(alloc, bytes)?.as_str())?;
+    push_str(out, hex::encode(alloc, bytes)?.as_str())
+}
+
+/// Appends a text as it is.
+pub fn push_str(out: &mut String, text: &str) -> Result<(), CaseErr> {
+    out.push_str(text)?;
     Ok(())
 }
 
@@ -173,7 +178,7 @@ fn push_all(out: &mut Vec<u8>, bytes: &[u8]) -> Result<(), CaseErr> {
 
 fn push_times(out: &mut Vec<u8>, bytes: &[u8], times: &str) -> Result<(), CaseErr> {
     for _ in 0..number(times)? {
-        out.extend_from_slice(bytes)?;
+        push_all(out, bytes)?;
     }
     Ok(())
 }
@@ -199,12 +204,9 @@ fn push_edited(
     offset: usize,
     other: &[u8],
 ) -> Result<(), CaseErr> {
-    let before = prefix(bytes, offset)?;
-    let after = suffix(bytes, offset.saturating_add(other.len()))?;
-    out.extend_from_slice(before)?;
-    out.extend_from_slice(other)?;
-    out.extend_from_slice(after)?;
-    Ok(())
+    push_all(out, prefix(bytes, offset)?)?;
+    push_all(out, other)?;
+    push_all(out, suffix(bytes, offset.saturating_add(other.len()))?)
 }
 
 fn prefix(bytes: &[u8], end: usize) -> Result<&[u8], CaseErr> {

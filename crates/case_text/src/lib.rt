@@ -13,7 +13,7 @@ mod tally;
 mod words;
 
 pub use case_err::CaseErr;
-pub use fragments::{Fragments, push_hex};
+pub use fragments::{Fragments, push_hex, push_str};
 pub use judge::{Case, Judge};
 pub use run::run_tables;
 pub use tally::Tally;

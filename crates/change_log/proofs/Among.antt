@@ -4,7 +4,7 @@ use Rattle.std.specs.Prelude.{is_some}
 use Rattle.xdr_spec.specs.declared.XdrErr.{XdrErr}
 use Rattle.xdr_spec.specs.declared.Why.TheVariants.{Tag}
 use Rattle.xdr_spec.specs.Format.{Input, Outcome, Format, refusal, word_at, nothing, arm_of, allows, union_among, enumeration, ◌>>=◌}
-use Rattle.xdr_spec.proofs.Lemmas.{ok_is, err_is}
+use Rattle.xdr_spec.proofs.Lemmas.{ok_is}
 use Rattle.xdr_core.specs.Sources.{Source, IsTold, GoesOn}
 use Rattle.xdr_core.specs.Reads.{Reads}
 use Rattle.xdr_core.specs.declared.error.ReadXdr.{ReadXdr}
@@ -36,19 +36,6 @@ module _ {K V : Type 0} (allowed : K → Bool) (number : K → ℕ) (kind_of : �
   -- once the kind is read, its arm is, if it is allowed
   among_read : (i : Input) (k : K) (j : Input) → (enumeration number kind_of).read i ≡ Ok (k, j) → (union_among allowed number kind_of kind arms).read i ≡ of_kind i (k, j)
   among_read i k j h = after_word i (word_at i) k j h
-
-  refused_at : (i : Input) (o : Option K) (j : Input) (e : XdrErr) → cond (is_some o) ((arm_of (λ k. nothing k) o).read j) (Err (refusal i.place Tag)) ≡ Err e
-      → cond (allows allowed o) ((arm_of arms o).read j) (Err (refusal i.place Tag)) ≡ Err e
-  refused_at i None j e h = ap (λ d. Err d) (err_is (K × Input) _ e h)
-  refused_at i (Some m) j e h = absurd cc
-
-  refused_word : (i : Input) (w : Outcome ℕ) (e : XdrErr) → (w >>= by_kind i) ≡ Err e → (w >>= by_arm i) ≡ Err e
-  refused_word i (Err d) e h = ap (λ d. Err d) (err_is (K × Input) d e h)
-  refused_word i (Ok n) e h = refused_at i (kind_of n.0) n.1 e h
-
-  -- where no kind is read, no value is
-  pub among_refused : (i : Input) (e : XdrErr) → (enumeration number kind_of).read i ≡ Err e → (union_among allowed number kind_of kind arms).read i ≡ Err e
-  among_refused i e h = refused_word i (word_at i) e h
 
   -- ---- the same, of a source
 

@@ -24,7 +24,7 @@ use Rattle.change_log.specs.Log.{Changes}
 use Rattle.change_log.specs.Groups.{Group}
 use Rattle.change_log.specs.Read.{Partial, nothing, created, stated, held, removed, updated, Progress, progress_if, kept_by}
 use Rattle.change_log.specs.Read.{is_key, is_update, begin, end_made, hold, alter, end_gone, altered_entry, end_altered, step}
-use Rattle.change_log.specs.Read.{finish, with_first, read_from, rise_after, groups_in}
+use Rattle.change_log.specs.Read.{finish, with_first, read_from, rise_after}
 use Rattle.change_log.specs.Fits.{FitsEntry, FitsChange, IsKept, IsEntry, IsNewEntry, IsGroup, IsPartial, IsProgress}
 use Rattle.change_log.specs.declared.entry.LoggedEntry.{LoggedEntry}
 use Rattle.change_log.specs.declared.entry.LoggedEntry.TheVariants.{Entry, Ttl}
@@ -239,8 +239,3 @@ pub risen : (r : Option (List Group)) (gs : List Group)
     → option_and_then (λ (hs : List Group). cond (rise_after None hs) (Some hs) None) r ≡ Some gs → r ≡ Some gs
 risen None gs e = absurd (none_some gs e)
 risen (Some hs) gs e = ap (λ (x : List Group). Some x) (rising hs gs (rise_after None hs) e)
-
--- the groups of a list that fits fit
-pub groups_fit : (list : Changes) (gs : List Group) → AllByRecursion FitsChange list → groups_in list ≡ Some gs
-    → AllByRecursion IsGroup gs
-groups_fit list gs all e = read_fits list all nothing gs tt (risen (read_from nothing list) gs e)

@@ -219,10 +219,6 @@ module _ (m n : LedgerMap) (is : AreKept m) (too : AreKept n) where
 
   -- ---- the map that it is
 
-  either : (a b : Bool) → (a || b) ≡ false → (a ≡ false) × (b ≡ false)
-  either true b e = absurd cc
-  either false b e = (refl, e)
-
   laid_at : (ks : List (List ℕ)) (x : LedgerMap) (q : List ℕ) → (has_key ks q ≡ false → get x q ≡ get n q)
       → get (laid x ks) q ≡ get n q
   unfolding laid

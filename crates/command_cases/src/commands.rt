@@ -142,6 +142,10 @@ impl Judge for Commands {
                 let words = words_of(alloc, fragments, case.words)?;
                 self.run(rt, rt, alloc, &words, out)
             }
+            "why" | "said" => {
+                let words = words_of(alloc, fragments, case.words)?;
+                self.memory.run_why(alloc, case.kind, &words, out)
+            }
             _ => self.prepare(rt, alloc, fragments, case),
         }
     }

@@ -1,4 +1,5 @@
-//! Judges cases of whole commands: over files in memory, whose calls may fail, and over files on disk.
+//! Judges cases of whole commands: over files in memory, whose calls may fail, and over files on disk. Judges cases of
+//! `soroban_why` over files in memory.
 //!
 //! The tables are in data/. docs/CASES.md describes their lines.
 #![tactic(auto)]
@@ -7,6 +8,7 @@ mod commands;
 mod disk;
 mod memory;
 mod outcome;
+mod why;
 mod words;
 
 use case_text::{CaseErr, run_tables};

@@ -1,8 +1,9 @@
 //! Commands over files in memory, whose calls may fail.
 
 use crate::outcome::{name_in, push_outcome, push_stored};
+use crate::why::run_why;
 use crate::words::word;
-use case_text::{CaseErr, number};
+use case_text::{CaseErr, number, push_str};
 use edge_io::{Gate, MeetGate, MemFiles, MemSay, OpenGate, Word};
 use soroban_top::soroban;
 use std::alloc::Global;
@@ -104,8 +105,7 @@ impl Memory {
         }
         let gate = MeetGate::new(meeting, self.turns);
         self.run_at(threads, alloc, words, &gate, out)?;
-        out.push_str(if gate.met() { "met\n" } else { "missed\n" })?;
-        Ok(())
+        push_str(out, if gate.met() { "met\n" } else { "missed\n" })
     }
 
     /// Runs a command whose workers enter a gate.
@@ -154,6 +154,32 @@ impl Memory {
         let status = soroban(threads, alloc, words, files, say, gate);
         push_outcome(out, &status, say.text())?;
         self.push_changed(alloc, words, files, out)
+    }
+
+    /// Runs `soroban_why` over a copy of the files, and appends its outcome.
+    pub fn run_why(
+        &self,
+        alloc: Global,
+        kind: &str,
+        words: &[Word],
+        out: &mut String,
+    ) -> Result<(), CaseErr> {
+        let mut files = MemFiles::new(alloc, Vec::new(alloc));
+        let mut say = MemSay::new(alloc, Vec::new(alloc));
+        self.run_why_over(alloc, kind, words, &mut files, &mut say, out)
+    }
+
+    fn run_why_over(
+        &self,
+        alloc: Global,
+        kind: &str,
+        words: &[Word],
+        files: &mut MemFiles,
+        say: &mut MemSay,
+        out: &mut String,
+    ) -> Result<(), CaseErr> {
+        self.copy_into(alloc, files)?;
+        run_why(alloc, kind, words, files, say, out)
     }
 
     fn copy_into(&self, alloc: Global, files: &mut MemFiles) -> Result<(), CaseErr> {

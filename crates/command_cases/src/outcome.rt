@@ -1,6 +1,7 @@
 //! The text of an outcome: the status, what was said, and the files that were stored.
 
-use case_text::{CaseErr, push_hex};
+use crate::words::text_of;
+use case_text::{CaseErr, push_hex, push_str};
 use edge_io::Word;
 use sha2::{Digest, Sha256};
 use soroban_top::Status;
@@ -18,10 +19,7 @@ pub fn push_outcome(out: &mut String, status: &Status, said: &[u8]) -> Result<()
         let name = name.as_str();
         write!(out, " '{name}'")?;
     }
-    let said = std::str::from_utf8(said)
-        .ok()
-        .ok_or(CaseErr::Lacks("text in what is said"))?;
-    push_said(out, said)
+    push_said(out, text_of(said, "text in what is said")?)
 }
 
 /// Appends what was said, line by line. A last line without its end is marked.
@@ -30,8 +28,7 @@ fn push_said(out: &mut String, said: &str) -> Result<(), CaseErr> {
         out.push_str(if i == 0 { " " } else { "\n" })?;
         push_line(out, line)?;
     }
-    out.push('\n')?;
-    Ok(())
+    push_str(out, "\n")
 }
 
 fn push_line(out: &mut String, line: &str) -> Result<(), CaseErr> {
@@ -73,13 +70,11 @@ fn push_sum(alloc: Global, out: &mut String, name: &str, bytes: &[u8]) -> Result
     let length = bytes.len();
     write!(out, "stores {name} {length} bytes, SHA-256 ")?;
     push_hex(alloc, out, &Sha256::digest(bytes))?;
-    out.push('\n')?;
-    Ok(())
+    push_str(out, "\n")
 }
 
 fn push_content(alloc: Global, out: &mut String, name: &str, bytes: &[u8]) -> Result<(), CaseErr> {
     write!(out, "stores {name} ")?;
     push_hex(alloc, out, bytes)?;
-    out.push('\n')?;
-    Ok(())
+    push_str(out, "\n")
 }

@@ -36,13 +36,15 @@ fn push_part(
 }
 
 fn push_words(alloc: Global, words: &mut Vec<Word>, text: &[u8]) -> Result<(), CaseErr> {
-    let text = std::str::from_utf8(text)
-        .ok()
-        .ok_or(CaseErr::Lacks("text of that name"))?;
-    for part in text.split(' ') {
+    for part in text_of(text, "text of that name")?.split(' ') {
         words.push(word(alloc, part)?)?;
     }
     Ok(())
+}
+
+/// The text that bytes spell.
+pub fn text_of<'a>(bytes: &'a [u8], what: &'static str) -> Result<&'a str, CaseErr> {
+    std::str::from_utf8(bytes).ok().ok_or(CaseErr::Lacks(what))
 }
 
 /// The bytes of a text of hex digits, in which spaces do not count and `#` begins a remark.

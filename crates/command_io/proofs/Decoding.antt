@@ -9,14 +9,8 @@ use Rattle.xdr_spec.specs.declared.XdrErr.{XdrErr}
 use Rattle.xdr_core.specs.Reads.{IsRefusal}
 use Rattle.xdr_core.specs.declared.error.ReadXdr.{ReadXdr}
 use Rattle.xdr_core.specs.declared.error.ReadXdr.TheVariants as read_errors
-use Rattle.ledger_file.specs.Reading.{IsRefusalUnlessMemory}
-use Rattle.ledger_file.specs.declared.error.LedgerErr.{LedgerErr}
-use Rattle.ledger_file.specs.declared.error.LedgerErr.TheVariants as ledger_errors
-use Rattle.ledger_spec.specs.declared.LedgerRefusal.{LedgerRefusal}
-use Rattle.set_build.specs.Built.{envelopes_format}
-use Rattle.tx_xdr.specs.Envelope.{envelope_lawful}
-use Rattle.command_io.specs.Counts.{IsOfBytes}
-use Rattle.command_io.specs.Inputs.{as_ledger, as_spelled, unread, unread_ledger}
+use Rattle.tx_xdr.specs.Envelope.{envelope_lawful, envelopes_format}
+use Rattle.command_io.specs.Inputs.{as_spelled, unread}
 use Rattle.command_io.specs.Steps.{Gives}
 use Rattle.xdr_spec.proofs.Lemmas.{decoded_refuses, decoded_spells, list_lawful, not_both, one_refusal}
 
@@ -41,19 +35,6 @@ pub unread_due : {V : Type 0} (F : Format V) (lawful : IsFormat F) (bytes : List
 unread_due F lawful bytes (read_errors.Bad e) fit refuses = rw (refuses_decoded F lawful bytes e fit refuses) refl
 unread_due F lawful bytes read_errors.NoMemory fit refuses = tt
 unread_due F lawful bytes read_errors.Stopped fit refuses = tt
-
-pub unread_of_bytes : (e : ReadXdr) → IsOfBytes (unread e)
-unread_of_bytes (read_errors.Bad e) = tt
-unread_of_bytes read_errors.NoMemory = tt
-unread_of_bytes read_errors.Stopped = tt
-
-pub unread_ledger_due : {L A : Type 0} (view : L → A) (found : Result A LedgerRefusal) (e : LedgerErr) → IsRefusalUnlessMemory found e → Gives view (Err (unread_ledger e)) (as_ledger found)
-unread_ledger_due view found (ledger_errors.Refused r) is = rw is refl
-unread_ledger_due view found ledger_errors.NoMemory is = tt
-
-pub unread_ledger_of_bytes : (e : LedgerErr) → IsOfBytes (unread_ledger e)
-unread_ledger_of_bytes (ledger_errors.Refused r) = tt
-unread_ledger_of_bytes ledger_errors.NoMemory = tt
 
 -- ---- lists of envelopes
 

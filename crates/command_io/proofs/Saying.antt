@@ -1,16 +1,11 @@
 -- Parts of a line, one said behind another.
 use Rattle.std.proofs.Common.{◌≡◌, ℕ, ◌+◌, List, ◌++◌, length, take, drop, Option, Some, None, Result, Ok, Err, refl, sym, ◌∙◌, ap}
-use Rattle.std.proofs.lemmas.List.{append-nil, append_assoc, take-append-drop}
+use Rattle.std.proofs.lemmas.List.{append_assoc, take-append-drop}
 use Rattle.std.proofs.Math.Seq.{take-append-add, take-append_seam}
 use Rattle.std.specs.Prelude.{⊤}
 use Rattle.edge_io.specs.Text.{extended}
 use Rattle.edge_io.specs.declared.failed.EdgeErr.{EdgeErr}
 use Rattle.command_io.specs.Lines.{SaysPrefix, SaysLines}
-
--- nothing was said, which is a prefix
-pub none_said : (old new : Option (List ℕ)) (lines : List ℕ) → new ≡ old → SaysPrefix lines old new
-none_said None new lines e = (0, e)
-none_said (Some text) new lines e = (0, e ∙ ap Some (sym (append-nil text)))
 
 extended_twice : (old : Option (List ℕ)) (a b : List ℕ) → extended (extended old a) b ≡ extended old (a ++ b)
 extended_twice None a b = refl

@@ -1,9 +1,9 @@
 -- Stores in order.
-use Rattle.std.proofs.Common.{ℕ, List, [], ◌∷◌, inl, inr, refl}
-use Rattle.edge_io.specs.Contents.{Contents, put}
+use Rattle.std.proofs.Common.{ℕ, List, [], ◌∷◌, inl, inr}
+use Rattle.edge_io.specs.Contents.{Contents}
 use Rattle.command_io.specs.Counts.{HasCause}
 use Rattle.command_io.specs.Product.{File, Job}
-use Rattle.command_io.specs.Left.{stored, StoresPrefix, StoresTorn, StoresAll}
+use Rattle.command_io.specs.Left.{StoresPrefix, StoresTorn, StoresAll}
 use Rattle.command_io.specs.declared.status.Status.{Status}
 use Rattle.command_io.specs.declared.status.Status.TheVariants.{Done, Fault, NoMemory}
 
@@ -23,8 +23,3 @@ stopped Done job jobs all start old new prefix torn files counts later cause h =
 stopped (Fault name) job jobs all start old new prefix torn files counts later cause h = torn name new (torn_first name job jobs old new h)
 stopped NoMemory job jobs all start old new prefix torn files counts later cause h = prefix new (prefix_first job jobs old new h)
 stopped status job jobs all start old new prefix torn files counts later cause h = h
-
--- all of them, and then no more
-pub prefix_all : (jobs : List Job) (old : Contents) → StoresPrefix jobs old (stored jobs old)
-prefix_all [] old = refl
-prefix_all (job ∷ jobs) old = inr (prefix_all jobs (put old job.file.name job.bytes))

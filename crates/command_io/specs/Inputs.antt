@@ -14,9 +14,8 @@ use Rattle.ledger_spec.specs.declared.LedgerRefusal.{LedgerRefusal}
 use Rattle.ledger_types.specs.Verdicts.{verdicts_format}
 use Rattle.ledger_types.specs.declared.header.Header.{Header}
 use Rattle.ledger_types.specs.declared.verdicts.Verdicts.{Verdicts}
-use Rattle.set_build.specs.Built.{envelopes_format}
 use Rattle.tx_xdr.specs.Set.{set_format}
-use Rattle.tx_xdr.specs.Envelope.{envelope_format}
+use Rattle.tx_xdr.specs.Envelope.{envelope_format, envelopes_format}
 use Rattle.tx_xdr.specs.declared.envelope.Envelope.{Envelope}
 use Rattle.tx_xdr.specs.declared.set.TxSet.{TxSet}
 use Rattle.value_types.specs.Formats.{scval_format}

@@ -5,8 +5,7 @@ ghost use Rattle.std.specs.Prelude.{◌≡◌, ◌<◌, [], ◌∷◌, true, fal
 ghost use Rattle.change_log.specs.Log.{log_format};
 ghost use Rattle.ledger_spec.specs.LedgerFile.{are_settings, has_next};
 ghost use Rattle.ledger_types.specs.Header.{header_format};
-ghost use Rattle.set_build.specs.Built.{envelopes_format};
-ghost use Rattle.tx_xdr.specs.Envelope.{envelope_format};
+ghost use Rattle.tx_xdr.specs.Envelope.{envelope_format, envelopes_format};
 ghost use Rattle.tx_xdr.specs.Set.{set_format};
 ghost use Rattle.command_io.specs.Counts.{HasCause, IsOfBytes, NoLower, SameCounts};
 ghost use Rattle.command_io.specs.Inputs.{any_ledger_at, envelope_at, envelope_opened, ledger_at, list_at, log_at, set_at};

@@ -13,9 +13,6 @@ own = numerals_by_value _ tells_all_ascii_digits
 in_range : (least most : ℕ) (text : List ℕ) → all_ascii_digits text ≡ true → 0 < length text → least ≤ digits_value 10 text → digits_value 10 text ≤ most → number_in least most text ≡ Some (digits_value 10 text)
 in_range least most text digits some large small = grind (arith, nat_tests)
 
-out_of_range : (least most : ℕ) (text : List ℕ) → (least ≤ digits_value 10 text → digits_value 10 text ≤ most → ⊥) → number_in least most text ≡ None
-out_of_range least most text out = grind (arith, nat_tests)
-
 no_number : (least most : ℕ) (text : List ℕ) → (all_ascii_digits text ≡ true → 0 < length text → digits_value 10 text ≤ most → ⊥) → number_in least most text ≡ None
 no_number least most text none = grind (arith, nat_tests)
 
@@ -39,15 +36,6 @@ number_read {E} least most n text (Ok x) unsigned parsed is large small =
     let value : x ≡ digits_value 10 text = h.1 in
     let same : digits_value 10 text ≡ n = cc in
     sym (in_range least most text digits h.0.1 (omega arith) (omega arith) ∙ ap Some same)
-
--- and is none where it is out of range
-pub number_out : {E : Type 0} (least most n : ℕ) (text : List ℕ) (r : Result ℕ E) → begins_with 43 text ≡ false → ParsesUnsigned 64 10 text r → result_ok r ≡ Some n → (least ≤ n → n ≤ most → ⊥) → None ≡ number_in least most text
-number_out least most n text (Err e) unsigned parsed is out = absurd cc
-number_out {E} least most n text (Ok x) unsigned parsed is out =
-    let h = parse_plain own {E = E} 64 text (Ok x) parsed (plain text unsigned) in
-    let value : x ≡ digits_value 10 text = h.1 in
-    let same : digits_value 10 text ≡ n = cc in
-    sym (out_of_range least most text (λ large small. out (omega arith) (omega arith)))
 
 -- what was not read is none
 pub number_unread : {E : Type 0} (least most : ℕ) (text : List ℕ) (r : Result ℕ E) → begins_with 43 text ≡ false → ParsesUnsigned 64 10 text r → result_ok r ≡ None → most < 2 ^ 64 → number_in least most text ≡ None

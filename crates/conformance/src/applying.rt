@@ -10,7 +10,7 @@ ghost use Rattle.tx_xdr.specs.Set.{set_format};
 use crate::errors::{made, unread};
 use crate::hashes::push_hex_line;
 use crate::ledgers::push_no_ledger;
-use case_text::{Case, CaseErr, Fragments, first_word, number};
+use case_text::{Case, CaseErr, Fragments, first_word, number, push_str};
 use edge_io::OpenGate;
 use entry_map::StoredEntry;
 use invoke_types::SuccessPreimage;
@@ -165,8 +165,7 @@ fn push_lives(out: &mut String, applied: &Applied) -> Result<(), CaseErr> {
     for row in applied.ledger.entries.rows() {
         push_row(out, row)?;
     }
-    out.push('\n')?;
-    Ok(())
+    push_str(out, "\n")
 }
 
 fn push_row(out: &mut String, row: &[Box<StoredEntry>]) -> Result<(), CaseErr> {
@@ -256,7 +255,6 @@ fn push_written(
     if report.starts_with(alone) {
         push_hex_line(alloc, out, report)
     } else {
-        out.push_str("results written otherwise\n")?;
-        Ok(())
+        push_str(out, "results written otherwise\n")
     }
 }

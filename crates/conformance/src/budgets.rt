@@ -2,7 +2,7 @@
 
 use crate::errors::spelled;
 use budget_meter::{Budget, Kind, Limits, Used};
-use case_text::{CaseErr, Fragments, first_word, number};
+use case_text::{CaseErr, Fragments, first_word, number, push_str};
 use ledger_types::Settings;
 use std::alloc::Global;
 use std::fmt::Write;
@@ -46,7 +46,8 @@ fn charge_all(budget: &mut Budget, charges: &str, out: &mut String) -> Result<()
     push_sums(out, budget.spent())
 }
 
-fn push_sums(out: &mut String, used: Used) -> Result<(), CaseErr> {
+/// Appends the line of what a budget has spent.
+pub fn push_sums(out: &mut String, used: Used) -> Result<(), CaseErr> {
     let (instructions, memory) = (used.instructions, used.memory);
     writeln!(out, "instructions {instructions} memory {memory}")?;
     Ok(())
@@ -55,8 +56,7 @@ fn push_sums(out: &mut String, used: Used) -> Result<(), CaseErr> {
 fn push_charged(budget: &mut Budget, charge: &str, out: &mut String) -> Result<(), CaseErr> {
     let (kind, input) = work_of(charge)?;
     let fits = budget.charge(kind, input).is_ok();
-    out.push_str(if fits { "fits " } else { "spent " })?;
-    Ok(())
+    push_str(out, if fits { "fits " } else { "spent " })
 }
 
 /// KIND:INPUT: a kind of work and its input.

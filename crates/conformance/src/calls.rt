@@ -7,7 +7,7 @@ ghost use Rattle.wasm_spec.specs.Code.{BlockType};
 
 use crate::events::{Shown, budget_of, push_event};
 use budget_meter::Budget;
-use case_text::{CaseErr, count, first_word, hex_number, hex_numbers, number, push_hex};
+use case_text::{CaseErr, count, first_word, hex_number, hex_numbers, number, push_hex, push_str};
 use std::alloc::Global;
 use wasm_check::ValidModule;
 use wasm_run::{Event, Instance, StartErr};
@@ -76,8 +76,7 @@ fn push_beginning(
     out: &mut String,
 ) -> Result<(), CaseErr> {
     let (export, args) = first_word(rest);
-    out.push_str(beginning(alloc, module, export, count(args)?)?)?;
-    Ok(())
+    push_str(out, beginning(alloc, module, export, count(args)?)?)
 }
 
 fn beginning(
@@ -223,6 +222,5 @@ fn push_memory(alloc: Global, out: &mut String, memory: &[u8], range: &str) -> R
         .get(start..end)
         .ok_or(CaseErr::Lacks("so many bytes of memory"))?;
     push_hex(alloc, out, bytes)?;
-    out.push('\n')?;
-    Ok(())
+    push_str(out, "\n")
 }

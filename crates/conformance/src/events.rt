@@ -2,14 +2,15 @@
 
 ghost use Rattle.std.specs.Prelude.{◌≡◌};
 
+use crate::budgets::push_sums;
 use budget_meter::{Budget, KindTerms, Limits, LinearCost, Terms, Used};
-use case_text::CaseErr;
+use case_text::{CaseErr, push_str};
 use std::fmt::Write;
 use wasm_run::Event;
 use wasm_spec::TrapKind;
 
 /// What is shown of an event.
-#[derive(Clone, Copy, PartialEq, Eq)]
+#[derive(Clone, Copy)]
 pub enum Shown {
     Alone,
     /// With what the budget has spent.
@@ -23,24 +24,29 @@ pub fn push_event(
     used: Used,
     shown: Shown,
 ) -> Result<(), CaseErr> {
-    match event {
-        Event::Done(number) => write!(out, "done {number:x}")?,
-        Event::Trap(kind) => {
-            let name = trap_name(*kind);
-            write!(out, "trap {name}")?;
+    push_kind(out, event)?;
+    match shown {
+        Shown::Alone => push_str(out, "\n"),
+        Shown::WithSums => {
+            out.push_str(", ")?;
+            push_sums(out, used)
         }
-        Event::Spent => out.push_str("spent")?,
+    }
+}
+
+fn push_kind(out: &mut String, event: &Event) -> Result<(), CaseErr> {
+    match event {
+        Event::Done(number) => Ok(write!(out, "done {number:x}")?),
+        Event::Trap(kind) => {
+            out.push_str("trap ")?;
+            push_str(out, trap_name(*kind))
+        }
+        Event::Spent => push_str(out, "spent"),
         Event::HostCall { import, args } => {
             write!(out, "asks {import}")?;
-            push_words(out, args.as_slice())?;
+            push_words(out, args.as_slice())
         }
     }
-    if shown == Shown::WithSums {
-        let (instructions, memory) = (used.instructions, used.memory);
-        write!(out, ", instructions {instructions} memory {memory}")?;
-    }
-    out.push('\n')?;
-    Ok(())
 }
 
 fn push_words(out: &mut String, words: &[u64]) -> Result<(), CaseErr> {

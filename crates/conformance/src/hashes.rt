@@ -5,7 +5,7 @@ ghost use Rattle.ledger_types.specs.Entry.{entry_format};
 
 use crate::errors::{made, spelled, unread};
 use auth_types::{AuthEntry, Credentials, payload_hash};
-use case_text::{Case, CaseErr, Fragments, first_word, push_hex};
+use case_text::{Case, CaseErr, Fragments, first_word, push_hex, push_str};
 use invoke_types::{Preimage, contract_id};
 use ledger_types::{LedgerEntry, LedgerKey, key_hash, key_of, write_key_of};
 use std::alloc::Global;
@@ -113,8 +113,7 @@ fn push_key_of(alloc: Global, out: &mut String, entry: &LedgerEntry) -> Result<(
     if has_key(alloc, entry, &key)? {
         push_hex_line(alloc, out, &key)
     } else {
-        out.push_str("written otherwise\n")?;
-        Ok(())
+        push_str(out, "written otherwise\n")
     }
 }
 
@@ -151,6 +150,5 @@ pub fn read_hash(alloc: Global, bytes: &[u8]) -> Result<Hash, CaseErr> {
 /// Appends a line of hex digits.
 pub fn push_hex_line(alloc: Global, out: &mut String, bytes: &[u8]) -> Result<(), CaseErr> {
     push_hex(alloc, out, bytes)?;
-    out.push('\n')?;
-    Ok(())
+    push_str(out, "\n")
 }

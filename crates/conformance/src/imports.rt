@@ -1,6 +1,6 @@
 //! The host interface.
 
-use case_text::{CaseErr, first_word};
+use case_text::{CaseErr, first_word, push_str};
 use host_interface::{HOST_ROWS, TableRow};
 use std::fmt::Write;
 
@@ -28,8 +28,7 @@ fn push_import(
             return push_signature(out, row);
         }
     }
-    out.push_str("none\n")?;
-    Ok(())
+    push_str(out, "none\n")
 }
 
 fn push_signature(out: &mut String, row: &TableRow) -> Result<(), CaseErr> {

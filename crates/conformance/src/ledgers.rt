@@ -7,7 +7,7 @@ ghost use Rattle.ledger_types.specs.Entry.{entry_format, key_of as key_of_entry}
 
 use crate::errors::{made, unread};
 use crate::hashes::{hash_of, push_hex_line};
-use case_text::{Case, CaseErr, Fragments, first_word, number};
+use case_text::{Case, CaseErr, Fragments, first_word, number, push_str};
 use entry_map::{EntryMap, Made};
 use ledger_file::{Ledger, LedgerErr, read_ledger, read_verdicts, write_ledger};
 use ledger_spec::LedgerWhy;
@@ -271,8 +271,7 @@ pub fn verdict(
     let key = hash_of(alloc, fragments, key)?;
     let payload = hash_of(alloc, fragments, payload)?;
     let is_good = is_good(alloc, &fragments.bytes(alloc, verdicts)?, &key, &payload)?;
-    out.push_str(if is_good { "good\n" } else { "unknown\n" })?;
-    Ok(())
+    push_str(out, if is_good { "good\n" } else { "unknown\n" })
 }
 
 fn is_good(alloc: Global, verdicts: &[u8], key: &Hash, payload: &Hash) -> Result<bool, CaseErr> {

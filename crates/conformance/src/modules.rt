@@ -1,7 +1,7 @@
 //! Cases of modules: judgements and calls.
 
 use crate::calls;
-use case_text::{Case, CaseErr, Fragments, first_word};
+use case_text::{Case, CaseErr, Fragments, first_word, push_str};
 use module_loader::{LoadErr, link};
 use module_vet::{Flaw, VetErr, valid_line, vet};
 use std::alloc::Global;
@@ -59,7 +59,7 @@ fn push_checked(
 
 fn push_not_valid(out: &mut String, kind: &str, flaw: Flaw) -> Result<(), CaseErr> {
     match (kind, flaw) {
-        ("check", Flaw::Ill { .. }) => Ok(out.push_str("ill typed\n")?),
+        ("check", Flaw::Ill { .. }) => push_str(out, "ill typed\n"),
         ("check" | "flaw", flaw) => push_flaw(out, flaw),
         _ => Err(CaseErr::Lacks("a valid module")),
     }
@@ -72,7 +72,7 @@ fn push_valid(
     out: &mut String,
 ) -> Result<(), CaseErr> {
     match asked.kind {
-        "check" | "flaw" => Ok(out.push_str("valid\n")?),
+        "check" | "flaw" => push_str(out, "valid\n"),
         "link" => push_link(alloc, out, module),
         kind => calls::call_case(alloc, module, kind, asked.rest, out),
     }
@@ -80,7 +80,7 @@ fn push_valid(
 
 fn push_link(alloc: Global, out: &mut String, module: &ValidModule) -> Result<(), CaseErr> {
     match link(alloc, module) {
-        Ok(_rows) => Ok(out.push_str("linked\n")?),
+        Ok(_rows) => push_str(out, "linked\n"),
         Err(LoadErr::Flawed(flaw)) => push_flaw(out, flaw),
         Err(LoadErr::NoMemory) => Err(CaseErr::NoMemory),
     }
@@ -105,16 +105,14 @@ pub fn push_line(out: &mut String, line: &[u8]) -> Result<(), CaseErr> {
     let line = std::str::from_utf8(line)
         .ok()
         .ok_or(CaseErr::Lacks("text in its line"))?;
-    out.push_str(line)?;
-    Ok(())
+    push_str(out, line)
 }
 
 fn push_flaw(out: &mut String, flaw: Flaw) -> Result<(), CaseErr> {
     match flaw {
-        Flaw::NotAModule => out.push_str("not a module\n")?,
-        Flaw::Ill { func: Some(func) } => writeln!(out, "ill typed function {func}")?,
-        Flaw::Ill { func: None } => out.push_str("ill typed outside of functions\n")?,
-        Flaw::Unlinked { import } => writeln!(out, "unlinked import {import}")?,
+        Flaw::NotAModule => push_str(out, "not a module\n"),
+        Flaw::Ill { func: Some(func) } => Ok(writeln!(out, "ill typed function {func}")?),
+        Flaw::Ill { func: None } => push_str(out, "ill typed outside of functions\n"),
+        Flaw::Unlinked { import } => Ok(writeln!(out, "unlinked import {import}")?),
     }
-    Ok(())
 }

@@ -4,7 +4,7 @@ ghost use Rattle.ledger_types.specs.Key.{key_format};
 ghost use Rattle.value_types.specs.Formats.{scval_format};
 
 use crate::errors::{made, unread};
-use case_text::{CaseErr, Fragments, first_word};
+use case_text::{CaseErr, Fragments, first_word, push_str};
 use ledger_types::{LedgerKey, cmp_keys};
 use std::alloc::Global;
 use std::cmp::Ordering;
@@ -36,8 +36,7 @@ fn push_rises(
             return Ok(());
         }
     }
-    out.push_str("rises\n")?;
-    Ok(())
+    push_str(out, "rises\n")
 }
 
 /// Whether the value of an index comes behind those before it, and before those behind it. Else a line says which does not.
@@ -117,8 +116,7 @@ pub fn against(
     let key = fragments.bytes(alloc, key)?;
     let order = order_of_keys(alloc, &key, &fragments.bytes(alloc, other)?)?;
     out.push_str(name_of(order))?;
-    out.push('\n')?;
-    Ok(())
+    push_str(out, "\n")
 }
 
 /// VALUE: its size and its depth.

@@ -3,7 +3,7 @@
 use crate::hashes::push_hex_line;
 use crate::modules::push_line;
 use base64_text::{TextErr, decode_text};
-use case_text::{CaseErr, Fragments, first_word, number};
+use case_text::{CaseErr, Fragments, first_word, number, push_str};
 use std::alloc::Global;
 use text_lines::{push_hex, push_number, push_signed};
 
@@ -16,7 +16,7 @@ pub fn base64(
 ) -> Result<(), CaseErr> {
     match decode_text(alloc, &fragments.bytes(alloc, words)?) {
         Ok(bytes) => push_hex_line(alloc, out, &bytes),
-        Err(TextErr::NotBase64) => Ok(out.push_str("not base64\n")?),
+        Err(TextErr::NotBase64) => push_str(out, "not base64\n"),
         Err(TextErr::NoMemory) => Err(CaseErr::NoMemory),
     }
 }

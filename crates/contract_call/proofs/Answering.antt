@@ -17,9 +17,8 @@ use Rattle.host_spec.specs.declared.error.HostErr.TheVariants as ends
 use Rattle.contract_storage.specs.Stored.{Stored}
 use Rattle.host_frame.specs.Answered.{answer_of}
 use Rattle.host_frame.specs.declared.answer.Answer.{Answer as Answer'}
-use Rattle.auth_trees.proofs.Lemmas.{later_self}
 use Rattle.call_spec.specs.World.{Access, Copied, World, Env}
-use Rattle.call_spec.specs.Acts.{Failed, Out, Good, Bad, Undeclared, Act, world_of, then_do, after, gives, lift}
+use Rattle.call_spec.specs.Acts.{Failed, Out, Good, Bad, Undeclared, Act, world_of, after, gives, lift}
 use Rattle.call_spec.specs.Creating.{uploads, upload_wasm}
 use Rattle.call_spec.specs.Frames.{Opener}
 use Rattle.call_spec.specs.HostFunctions.{host_function}
@@ -27,51 +26,33 @@ use Rattle.call_spec.specs.Outcomes.{quiet, Says, trace_of, stopped_kind}
 use Rattle.host_ledger.specs.Traced.{Tells, leaving}
 use Rattle.call_spec.specs.Rules.{Rule, answered, returning}
 use Rattle.host_ledger.specs.Answered.{Answers}
-use Rattle.host_ledger.proofs.Lemmas.{afterwards, ready_after}
+use Rattle.host_ledger.proofs.Lemmas.{afterwards}
 use Rattle.host_ledger.specs.Accessed.{Runs}
 use Rattle.call_parts.specs.Steps.{Steps}
-use Rattle.host_ledger.specs.Called.{Calls, Left}
-use Rattle.host_ledger.specs.Worlds.{world_at, IsReady, Stays as StaysLedger}
+use Rattle.host_ledger.specs.Called.{Calls}
+use Rattle.host_ledger.specs.Worlds.{world_at}
 use Rattle.host_ledger.specs.declared.state.HostLedger.{HostLedger}
-use Rattle.call_host.specs.Worlds.{beside, world_in, leaving_by, DoesIn, MayRun}
-use Rattle.call_host.specs.Running.{StaysIn}
+use Rattle.call_host.specs.Worlds.{world_in, leaving_by, DoesIn}
 use Rattle.call_host.specs.declared.host.Host.{Host}
-use Rattle.call_host.proofs.Lemmas.{around, as_fails, fails_as, go_on, keep_rest, steps_stop, steps_view, stop, telling}
+use Rattle.call_host.proofs.Lemmas.{around, go_on, keep_rest, steps_stop, steps_view, telling}
 
 -- what the host holds are few bytes
 pub few_bytes : (x : List ℕ) → IsHosted (bytes x) → length x < 2 ^ 32
 unfolding opaque
 few_bytes x h = let fits = h.made.bounded in omega (arith, fits.1)
 
--- ---- what stays
-
-pub stays_ledger : {G U V : Type 0} (old : Host G U V) (new : HostLedger G V) → MayRun old → IsReady new → Left old.ledger new → StaysIn old (around old new)
-stays_ledger old new ready after left = record {
-  left = left;
-  contracts = refl;
-  marks = later_self old.marks;
-  verdicts = refl;
-  place = refl;
-  ready = record { ledger = after; entries = ready.entries };
-}
-
-pub stays_row : {G U V : Type 0} (old : Host G U V) (new : HostLedger G V) → MayRun old → StaysLedger old.ledger new → StaysIn old (around old new)
-stays_row old new ready stays =
-    stays_ledger old new ready (ready_after old.ledger new ready.ledger stays)
-    (record { header = stays.header; storage = stays.storage; events = stays.events; contract = stays.contract; caller = stays.caller; code = stays.code })
-
 -- ---- what is done
 
 pub does_call : {G U V : Type 0} (r : Result ℕ HostErr) (i : HostImport) (words : List ℕ) (old : Host G U V) (new : HostLedger G V) → Calls r i words old.ledger new
     → (opener : Opener) → DoesIn r (λ n. n) (λ env. host_function env opener i words) old (around old new)
 does_call r i words old new calls opener env is rest trace =
-    calls.does env is.ledger opener (beside rest old) trace
+    calls.does env is.ledger opener (world_in rest old trace) trace
 
 pub does_row : {G U V : Type 0} (r : Result Answer' HostErr) (ks : List ArgKind) (rule : Env → Rule ks) (words given : List ℕ) (old : Host G U V) (new : HostLedger G V) → words ≡ given → Answers r ks rule given old.ledger new
     → DoesIn r answer_of (λ env. answered ks (rule env) words) old (around old new)
 does_row r ks rule words given old new e answers env is rest trace =
     subst (λ (ws : List ℕ). let out = answered ks (rule env) ws (world_in rest old trace) in Says r answer_of out (leaving_by old (around old new) trace (world_in rest (around old new)))) (sym e)
-    (answers.does env is.ledger (beside rest old) trace)
+    (answers.does env is.ledger (world_in rest old trace) trace)
 
 -- ---- what is shown
 
@@ -86,15 +67,7 @@ shown_on a r start mid new act one same two env is rest trace =
     go_on (λ w t. world_in w mid t) (λ w t. world_in w (around mid new) t) keep_rest (telling start mid trace) (telling start (around mid new) trace) (λ _ _ _. refl) a r answer_of (λ n. n) rest
     (act env (world_in rest start trace)) shows (one env is rest trace)
     (λ w t told. afterwards r (λ n. n) (lift (given (answer_of a)) (world_in w mid t)) start.ledger.storage new.storage trace (world_in w mid t) (world_in w (around mid new))
-    (subst (λ (s : Stored). Tells start.ledger.storage s trace t) (sym same) told) (two (beside w mid) t))
-
-pub shown_stop : {G U V : Type 0} (e : HostErr) (start mid : Host G U V) (act : Env → Act Answer) → (let made : Result Answer' HostErr = Err e in DoesIn made answer_of act start mid)
-    → (let none : Result ℕ HostErr = Err e in DoesIn none (λ n. n) (λ env. after (act env) (λ answer. lift (given answer))) start mid)
-shown_stop e start mid act one env is rest trace =
-    let out = act env (world_in rest start trace) in
-    let then = then_do out shows in
-    as_fails e (λ n. n) then (leaving_by start mid trace (world_in rest mid))
-    (stop (λ w t. world_in w mid t) keep_rest (telling start mid trace) mid.ledger.budget mid.marks.noted (λ _ _. (refl, refl)) e rest out shows (fails_as e answer_of out (leaving_by start mid trace (world_in rest mid)) (one env is rest trace)))
+    (subst (λ (s : Stored). Tells start.ledger.storage s trace t) (sym same) told) (two (world_in w mid t) t))
 
 -- an act that leaves one world, with the accesses so far
 pub traced : {A B : Type 0} (r : Result A HostErr) (view : A → B) (out : Out B) (left : List Access → World) (w : World) → left w.trace ≡ w → (left []).meter ≡ w.meter → (left []).noted ≡ w.noted

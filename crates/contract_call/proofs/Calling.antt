@@ -23,19 +23,17 @@ use Rattle.call_spec.specs.Frames.{Entered, framed}
 use Rattle.call_spec.specs.Found.{with_start}
 use Rattle.call_spec.specs.HostFunctions.{host_of, opener_of}
 use Rattle.call_parts.specs.Started.{IsStarted, refusal_of}
-use Rattle.host_ledger.specs.Worlds.{address_of, copied}
+use Rattle.host_ledger.specs.Worlds.{address_of, called_name, called_args, copied}
 use Rattle.host_ledger.specs.declared.state.InstanceCopy.{InstanceCopy}
-use Rattle.host_ledger.specs.declared.state.Running.{Running}
+use Rattle.host_ledger.specs.declared.state.Frame.{Frame}
 use Rattle.call_host.specs.Worlds.{world_around, leaving_by, numbered, IsEnvOf, DoesAround, Stays}
-use Rattle.call_host.specs.Running.{entered}
+use Rattle.call_host.specs.Running.{entered, IsFrameFor}
 use Rattle.call_host.specs.Targets.{call_at, target, target_of, enters_at, call_of}
-use Rattle.call_host.specs.Placed.{IsNewPlace}
 use Rattle.call_host.specs.declared.host.Host.{Host}
-use Rattle.call_host.specs.declared.place.Place.{Place}
 use Rattle.call_host.specs.declared.targets.Target.{Target as Target'}
 use Rattle.call_host.specs.declared.targets.ContractCall.{ContractCall}
 use Rattle.call_host.proofs.Lemmas.{as_fails, calls_first, fails_as, go_on, keep_rest, same_act, stop, telling, traced}
-use Rattle.contract_call.proofs.Looping.{same_authority, place_again}
+use Rattle.contract_call.proofs.Looping.{same_authority}
 
 -- ---- acts of the host, one after another
 
@@ -60,10 +58,10 @@ around_stop e view other act next old new one env is rest trace =
     (stop (λ w t. world_around w new t) keep_rest (telling old new trace) new.ledger.budget new.marks.noted (λ _ _. (refl, refl)) e rest out (next env) (fails_as e view out (leaving_by old new trace (world_around rest new)) (one env is rest trace)))
 
 -- an act that gets a path of its own
-pub around_begins : {C D G U V : Type 0} (r : Result C HostErr) (view : C → D) (act : Env → List ℕ → Act D) (path : List ℕ) (old mid new : Host G U V) → path ≡ old.place.path.items ++ old.place.begun ∷ [] → mid ≡ numbered old
+pub around_begins : {C D G U V : Type 0} (r : Result C HostErr) (view : C → D) (act : Env → List ℕ → Act D) (path : List ℕ) (old mid new : Host G U V) → path ≡ old.ledger.frame.path.items ++ old.ledger.frame.begun ∷ [] → mid ≡ numbered old
     → DoesAround r view (λ env. act env path) mid new → DoesAround r view (λ env. begins (act env)) old new
 around_begins {G = G} {U = U} {V = V} r view act path old mid new at is h env env_is rest trace =
-    let next : Host G U V → Type 0 = λ m. DoesAround r view (λ env. act env (old.place.path.items ++ old.place.begun ∷ [])) m new in
+    let next : Host G U V → Type 0 = λ m. DoesAround r view (λ env. act env (old.ledger.frame.path.items ++ old.ledger.frame.begun ∷ [])) m new in
     subst next is (subst (λ p. DoesAround r view (λ env. act env p) mid new) at h) env (record { ledger = record { header = env_is.ledger.header; serves = env_is.ledger.serves }; authority = env_is.authority }) rest trace
 
 pub numbered_stays : {G U V : Type 0} (old mid : Host G U V) → mid ≡ numbered old → Stays old mid
@@ -76,7 +74,6 @@ numbered_stays {G} {U} {V} old mid is = subst (λ (h : Host G U V). Stays old h)
   contracts = refl;
   marks = later_self old.marks;
   verdicts = refl;
-  place = refl;
 })
 
 pub stays_then : {G U V : Type 0} (old mid new : Host G U V) → Stays old mid → Stays mid new → Stays old new
@@ -89,7 +86,6 @@ stays_then old mid new one two = record {
   contracts = two.contracts ∙ one.contracts;
   marks = later_twice old.marks mid.marks new.marks one.marks two.marks;
   verdicts = two.verdicts ∙ one.verdicts;
-  place = place_again old.place mid.place new.place one.place two.place;
 }
 
 pub around_same : {C D G U V : Type 0} (r : Result C HostErr) (view : C → D) (one other : Env → Act D) (old new : Host G U V) → ((env : Env) (w : World) → one env w ≡ other env w) → DoesAround r view other old new
@@ -117,53 +113,46 @@ call_splits : (room : ℕ) → room ≢ 0 → (named : Bool) (call : Call) (path
 call_splits room h named call path env w =
     ap (λ o. call_at named env o call path w) (opens env room h) ∙ calls_first named env (framed env (host_of env (opener_of env (room - 1)))) call path w
 
-abbrev enters_frame : Env → ℕ → List ℕ → List Datum → Module → (ℕ → Store → Entered) → Act Datum
-enters_frame env room function args m e = with_start (start_of m function (length args)) (λ index store. framed env (host_of env (opener_of env room)) (e index store))
-
--- the frame of a call's target
-frame_is : (c : ContractCall) (t : Target') (frame : Running) (path : List ℕ) (index : ℕ) (store : Store) → frame.contract ≡ t.contract → frame.caller ≡ c.caller → frame.copy ≡ t.copy
-    → (let e : Entered = record {
-      contract = t.contract;
-      caller = option_map address_of c.caller;
-      function = c.function.now;
-      args = datums c.args.items;
-      instance = copied t.copy;
-      path = path;
-      module_ = t.module;
-      index = index;
-      store = store;
-    } in entered frame c.function.now (datums c.args.items) path t.module index store ≡ e)
-frame_is c t frame path index store at by copy =
-    let e : Hash → Option Hash → InstanceCopy → Entered = λ contract caller copy. record {
-      contract = contract;
-      caller = option_map address_of caller;
-      function = c.function.now;
-      args = datums c.args.items;
+-- the start of a new frame, as the definitions have it
+pub frame_starts : (enter : Entered → Act Datum) (frame : Frame) (id : Hash) (by : Option Hash) (name : List ℕ) (values : List ScVal) (copy : InstanceCopy) (path : List ℕ) (m : Module) (w : World)
+    → IsFrameFor frame id by name values copy path
+    → with_start (start_of m (called_name frame.function) (length (called_args frame.function))) (λ index store. enter (entered frame m index store)) w
+    ≡ with_start (start_of m name (length (datums values))) (λ index store. enter (record {
+      contract = id;
+      caller = option_map address_of by;
+      function = name;
+      args = datums values;
       instance = copied copy;
       path = path;
-      module_ = t.module;
+      module_ = m;
       index = index;
       store = store;
-    } in
-    ap (λ x. e x frame.caller frame.copy) at ∙ ap (λ x. e t.contract x frame.copy) by ∙ ap (e t.contract c.caller) copy
+    })) w
+frame_starts enter frame id by name values copy path m w is = λ i.
+    with_start (start_of m (called_name (is.function i)) (length (called_args (is.function i)))) (λ index store. enter (record {
+      contract = is.contract i;
+      caller = option_map address_of (is.caller i);
+      function = called_name (is.function i);
+      args = called_args (is.function i);
+      instance = copied (is.copy i);
+      path = is.path i;
+      module_ = m;
+      index = index;
+      store = store;
+    })) w
 
-pub start_same : {A : Type 0} (s : Start) (f g : ℕ → Store → Act A) (w : World) → ((index : ℕ) (store : Store) → f index store ≡ g index store) → with_start s f w ≡ with_start s g w
-start_same Missing f g w h = refl
-start_same WrongArity f g w h = refl
-start_same Segment f g w h = refl
-start_same (Ready index store) f g w h = ap (λ (act : Act _). act w) (h index store)
+-- the run of a new frame's function, where so many more frames may be open
+abbrev pub enters_frame : Env → ℕ → Frame → Module → Act Datum
+enters_frame env room frame m =
+    with_start (start_of m (called_name frame.function) (length (called_args frame.function))) (λ index store. framed env (host_of env (opener_of env room)) (entered frame m index store))
 
-pub target_enters : {G U V : Type 0} (room : ℕ) (c : ContractCall) (t : Target') (frame : Running) (place : Place) (r : Result ScVal HostErr) (old new : Host G U V) (path : List ℕ) → IsNewPlace place c.function.now c.args.items path
-    → frame.contract ≡ t.contract → frame.caller ≡ c.caller → frame.copy ≡ t.copy
-    → DoesAround r datum (λ env. enters_frame env room place.function.items (datums c.args.items) t.module (entered frame place.function.items (datums c.args.items) place.path.items t.module)) old new
+pub target_enters : {G U V : Type 0} (room : ℕ) (c : ContractCall) (t : Target') (frame : Frame) (r : Result ScVal HostErr) (old new : Host G U V) (path : List ℕ)
+    → IsFrameFor frame t.contract c.caller c.function.now c.args.items t.copy path → DoesAround r datum (λ env. enters_frame env room frame t.module) old new
     → DoesAround r datum (λ env. enters_at (framed env (host_of env (opener_of env room))) (call_of c) path (target t)) old new
-target_enters room c t frame place r old new path fresh at by copy enters =
+target_enters room c t frame r old new path is enters =
     let enter = λ (env : Env). framed env (host_of env (opener_of env room)) in
-    let args = datums c.args.items in
-    let there = λ (f p : List ℕ) (env : Env). enters_frame env room f args t.module (entered frame f args p t.module) in
-    around_same r datum (λ env. enters_at (enter env) (call_of c) path (target t)) (there c.function.now path) old new
-    (λ env w. start_same (start_of t.module c.function.now (length args)) _ _ w (λ index store. ap (enter env) (sym (frame_is c t frame path index store at by copy))))
-    (subst (λ p. DoesAround r datum (there c.function.now p) old new) fresh.path (subst (λ f. DoesAround r datum (there f place.path.items) old new) fresh.function enters))
+    around_same r datum (λ env. enters_at (enter env) (call_of c) path (target t)) (λ env. enters_frame env room frame t.module) old new
+    (λ env w. sym (frame_starts (enter env) frame t.contract c.caller c.function.now c.args.items t.copy path t.module w is)) enters
 
 pub call_enters : {G U V : Type 0} (room : ℕ) → room ≢ 0 → (named : Bool) (c : ContractCall) (path : List ℕ) (t : Target') (r : Result ScVal HostErr) (old mid new : Host G U V) → Stays old mid
     → (let found : Result Target' HostErr = Ok t in DoesAround found target (target_of named c.contract) old mid)

@@ -5,8 +5,7 @@ use Rattle.budget_meter.specs.Meter.{Meter}
 use Rattle.budget_meter.specs.declared.kind.Kind.TheVariants.{ComputeSha256Hash, VmInstantiation}
 use Rattle.value_types.specs.declared.hash.Hash.{Hash}
 use Rattle.value_types.specs.declared.address.ScAddress.{ScAddress}
-use Rattle.ledger_types.specs.declared.header.Header.{Header}
-use Rattle.invoke_types.specs.ContractId.{contract_id_payload, contract_id_of}
+use Rattle.invoke_types.specs.ContractId.{contract_id_payload}
 use Rattle.wasm_spec.specs.declared.module.Module.{Module}
 use Rattle.wasm_spec.specs.Instances.{function_named}
 use Rattle.module_spec.specs.Loading.{module_of}
@@ -14,7 +13,6 @@ use Rattle.host_spec.specs.Acts.{charged}
 use Rattle.host_spec.specs.Errors.{OTHER_TYPE}
 use Rattle.host_spec.specs.declared.error.HostErr.{HostErr}
 use Rattle.contract_storage.specs.Stored.{Stored, IsLater, IsRead}
-use Rattle.call_spec.specs.Errors.{NO_FUNCTION}
 use Rattle.call_spec.specs.World.{Write, World, Env}
 use Rattle.call_spec.specs.Acts.{Act, then_do, after, gives, only_where, lift, paying}
 use Rattle.call_spec.specs.Accesses.{access}
@@ -24,13 +22,13 @@ use Rattle.call_spec.specs.Outcomes.{Says}
 use Rattle.host_ledger.specs.Traced.{leaving}
 use Rattle.call_spec.specs.Frames.{Opener}
 use Rattle.call_spec.specs.Found.{code_at, with_module}
-use Rattle.call_spec.specs.Creating.{Creation, preimage_of, id_of, function_of, paying_id, makes_instance, CONSTRUCTOR, constructs_if, builds, makes, creates_at}
+use Rattle.call_spec.specs.Creating.{Creation, preimage_of, id_of, function_of, makes_instance, CONSTRUCTOR, constructs_if, builds, makes, creates_at}
 use Rattle.host_ledger.specs.Accessed.{Accesses}
 use Rattle.host_ledger.specs.declared.state.HostLedger.{HostLedger}
 use Rattle.host_ledger.proofs.Lemmas.{later_read, quietly}
 use Rattle.call_parts.specs.Steps.{Steps, Charges, Returns}
 use Rattle.call_host.specs.Worlds.{world_around, IsEnvOf, DoesAround}
-use Rattle.contract_call.specs.Made.{identifying, granting, authorising, sized, code_of, instantiating, building, constructing, builds_with, unless_given, if_void}
+use Rattle.contract_call.specs.Made.{identifying, granting, authorising, sized, code_of, instantiating, building, constructing, builds_with, if_void}
 use Rattle.contract_call.specs.declared.creating.SizedCode.{SizedCode}
 use Rattle.call_host.specs.declared.host.Host.{Host}
 use Rattle.call_host.proofs.Lemmas.{around, joined, same_after, steps_on, steps_stop}
@@ -104,11 +102,6 @@ module _ (env : Env) (opener : Opener) (creator : Option ScAddress) (c : Creatio
       let paid = lift (charged ComputeSha256Hash (length (contract_id_payload env.header.network_id (preimage_of c)))) w in
       sym (joined paid (λ _. gives id) (granting env opener creator c path))
 
--- the id, as the program pays for it
-pub paid_is : (r : Result Hash HostErr) (header : Header) (env : Env) (c : Creation) (before after : Meter) → env.header ≡ header
-    → Charges r (λ id. id) (paying_id env (preimage_of c) (gives (contract_id_of header.network_id (preimage_of c)))) before after → Charges r (λ id. id) (identifying env c) before after
-paid_is r header env c before after is h = subst (λ (x : Header). Charges r (λ id. id) (paying_id env (preimage_of c) (gives (contract_id_of x.network_id (preimage_of c)))) before after) (sym is) h
-
 -- ---- the instance and the module
 
 -- a step that only charges leaves the entries
@@ -144,12 +137,6 @@ built code r id hash old mid new before last read one two =
     let given : Result SizedCode HostErr = Ok code in
     steps_on code r sized (λ x. x) (λ env. code_of env hash) (λ env. instantiating env id hash) old mid new before before last (later_read old mid read) (access_step given sized (λ env. code_of env hash) old mid before one) two
 
-pub code_failed : (e : HostErr) (id hash : Hash) (s t : Stored) (m : Meter) → (let none : Result SizedCode HostErr = Err e in Accesses none sized (λ env. code_of env hash) s t)
-    → (let none : Result Module HostErr = Err e in Steps none (λ x. x) (λ env. building env id hash) s t m m)
-code_failed e id hash s t m one =
-    let none : Result SizedCode HostErr = Err e in
-    steps_stop e sized (λ x. x) (λ env. code_of env hash) (λ env. instantiating env id hash) s t m m (access_step none sized (λ env. code_of env hash) s t m one)
-
 -- ---- the host
 
 pub does_around : {A B G U V : Type 0} (r : Result A HostErr) (view : A → B) (act : Env → Act B) (old : Host G U V) (new : HostLedger G V) → new ≡ record old.ledger { storage = new.storage; budget = new.budget }
@@ -172,10 +159,6 @@ charges_around r view act old new e h =
     (traced r view (act env w) (world_around rest (around old paid)) (record w { meter = new.budget }) refl refl refl (h env is.ledger.header w refl)))
 
 -- ---- the constructor's end
-
-pub unless_says : (none : Bool) (id : Hash) → Returns (unless_given none id) (λ h. h) (after (only_where none NO_FUNCTION (gives (tt {0}))) (λ _. gives id))
-unless_says true id w = (refl, refl)
-unless_says false id w = (refl, refl)
 
 pub void_says : (void : Bool) (id : Hash) → Returns (if_void void id) (λ h. h) (after (only_where void OTHER_TYPE (gives (tt {0}))) (λ _. gives id))
 void_says true id w = (refl, refl)

@@ -12,22 +12,19 @@ use Rattle.wasm_spec.specs.Instances.{Start, Missing, WrongArity, Segment, Ready
 use Rattle.host_spec.specs.Errors.{OTHER_TYPE}
 use Rattle.host_spec.specs.declared.error.HostErr.{HostErr}
 use Rattle.call_parts.specs.Steps.{Returns}
-use Rattle.call_spec.specs.World.{Copied, World, Env}
+use Rattle.call_spec.specs.World.{World, Env}
 use Rattle.call_spec.specs.Acts.{Act, then_do, after, gives, only_where}
 use Rattle.call_spec.specs.Creating.{Creation, CONSTRUCTOR, constructs, constructs_if, new_instance, creates_at}
 use Rattle.call_spec.specs.Found.{with_start}
 use Rattle.call_spec.specs.Frames.{Entered, Opener, framed, is_void}
 use Rattle.call_spec.specs.HostFunctions.{host_of, opener_of}
-use Rattle.host_ledger.specs.Worlds.{address_of, copied}
-use Rattle.host_ledger.specs.declared.state.InstanceCopy.{InstanceCopy}
-use Rattle.host_ledger.specs.declared.state.Running.{Running}
+use Rattle.host_ledger.specs.Worlds.{address_of}
+use Rattle.host_ledger.specs.declared.state.Frame.{Frame}
 use Rattle.call_host.specs.Worlds.{world_around, IsEnvOf, DoesAround, Stays}
-use Rattle.call_host.specs.Running.{entered}
+use Rattle.call_host.specs.Running.{IsFrameFor}
 use Rattle.contract_call.specs.Made.{identifying, granting, authorising, building, constructing, builds_with, if_void, IsConstructed}
-use Rattle.call_host.specs.Placed.{IsNewPlace}
 use Rattle.call_host.specs.declared.host.Host.{Host}
-use Rattle.call_host.specs.declared.place.Place.{Place}
-use Rattle.contract_call.proofs.Calling.{env_later, around_on, around_stop, around_same, start_same, opens}
+use Rattle.contract_call.proofs.Calling.{env_later, around_on, around_stop, around_same, enters_frame, frame_starts, opens}
 use Rattle.contract_call.proofs.Constructing.{at_first, authorising_first, void_says}
 use Rattle.host_ledger.proofs.Lemmas.{quietly}
 use Rattle.call_host.proofs.Lemmas.{joined, traced}
@@ -136,34 +133,6 @@ constructing_is env room h creator id c args path m w given some =
     ∙ ap (λ o. then_do o (λ _. gives id)) (with_function (function_named CONSTRUCTOR m.exports) (opener_of env room) creator id c.code args path m enter w some (opens env room h))
     ∙ start_then (start_of m CONSTRUCTOR (length args)) (built_frame enter creator id c.code args path m) (λ d. only_where (is_void d) OTHER_TYPE (gives (tt {0}))) (λ _. gives id) w
 
--- the constructor's frame
-built_is : (frame : Running) (creator : Option Hash) (id code : Hash) (copy : InstanceCopy) (args : List Datum) (path : List ℕ) (m : Module) (index : ℕ) (store : Store) → frame.contract ≡ id → frame.caller ≡ creator
-    → frame.copy ≡ copy → copied copy ≡ new_instance code
-    → (let e : Entered = record {
-      contract = id;
-      caller = option_map address_of creator;
-      function = CONSTRUCTOR;
-      args = args;
-      instance = new_instance code;
-      path = path;
-      module_ = m;
-      index = index;
-      store = store;
-    } in e ≡ entered frame CONSTRUCTOR args path m index store)
-built_is frame creator id code copy args path m index store at by is new =
-    let e : Hash → Option Hash → Copied → Entered = λ contract caller instance. record {
-      contract = contract;
-      caller = option_map address_of caller;
-      function = CONSTRUCTOR;
-      args = args;
-      instance = instance;
-      path = path;
-      module_ = m;
-      index = index;
-      store = store;
-    } in
-    ap (λ x. e x creator (new_instance code)) (sym at) ∙ ap (λ x. e frame.contract x (new_instance code)) (sym by) ∙ ap (e frame.contract frame.caller) (sym (ap copied is ∙ new))
-
 decides : {G U V : Type 0} (returned : Result ScVal HostErr) (id : Hash) (r : Result Hash HostErr) (act : Env → Act Datum) (old new : Host G U V) → ((env : Env) → IsEnvOf env old → IsEnvOf env new) → IsConstructed returned id r
     → DoesAround returned datum act old new → DoesAround r (λ x. x) (λ env. after (act env) (judging id)) old new
 decides (Ok v) id r act old new later is does =
@@ -172,20 +141,17 @@ decides (Ok v) id r act old new later is does =
 decides (Err e) id r act old new later is does =
     subst (λ x. DoesAround x (λ y. y) (λ env. after (act env) (judging id)) old new) (sym is) (around_stop e datum (λ y. y) act (λ env. judging id) old new does)
 
-pub constructs_does : {G U V : Type 0} (room : ℕ) → room ≢ 0 → (creator : Option Hash) (id : Hash) (c : Creation) (copy : InstanceCopy) (frame : Running) (place : Place) (args : List ScVal) (path : List ℕ) (m : Module)
-    (returned : Result ScVal HostErr) (r : Result Hash HostErr) (old new : Host G U V) → datums args ≡ unwrap_or c.args [] → is_some (function_named CONSTRUCTOR m.exports) ≡ true → frame.contract ≡ id → frame.caller ≡ creator
-    → frame.copy ≡ copy → copied copy ≡ new_instance c.code → IsNewPlace place CONSTRUCTOR args (path ++ 1 ∷ []) → Stays old new → IsConstructed returned id r
-    → DoesAround returned datum (λ env. with_start (start_of m place.function.items (length (datums args))) (λ index store. framed env (host_of env (opener_of env (room - 1)))
-    (entered frame place.function.items (datums args) place.path.items m index store))) old new
+pub constructs_does : {G U V : Type 0} (room : ℕ) → room ≢ 0 → (creator : Option Hash) (id : Hash) (c : Creation) (frame : Frame) (values : List ScVal) (path : List ℕ) (m : Module)
+    (returned : Result ScVal HostErr) (r : Result Hash HostErr) (old new : Host G U V) → datums values ≡ unwrap_or c.args [] → is_some (function_named CONSTRUCTOR m.exports) ≡ true
+    → IsFrameFor frame id creator CONSTRUCTOR values (record { code = c.code; storage = None }) (path ++ 1 ∷ []) → Stays old new → IsConstructed returned id r
+    → DoesAround returned datum (λ env. enters_frame env (room - 1) frame m) old new
     → DoesAround r (λ x. x) (λ env. constructing (opener_of env room) (option_map address_of creator) id c path m) old new
-constructs_does room h creator id c copy frame place values path m returned r old new given some at by is fresh placed stays constructed does =
+constructs_does room h creator id c frame values path m returned r old new given some is stays constructed does =
     let args = datums values in
     let enter = λ (env : Env). framed env (host_of env (opener_of env (room - 1))) in
     let built = λ (env : Env). built_frame (enter env) (option_map address_of creator) id c.code args path m in
-    let there = λ (f p : List ℕ) (env : Env). with_start (start_of m f (length args)) (λ index store. enter env (entered frame f args p m index store)) in
     around_same r (λ x. x) (λ env. constructing (opener_of env room) (option_map address_of creator) id c path m) (λ env. after (with_start (start_of m CONSTRUCTOR (length args)) (built env)) (judging id)) old new
     (λ env w. constructing_is env room h (option_map address_of creator) id c args path m w given some)
     (decides returned id r (λ env. with_start (start_of m CONSTRUCTOR (length args)) (built env)) old new (env_later old new stays) constructed
-    (around_same returned datum (λ env. with_start (start_of m CONSTRUCTOR (length args)) (built env)) (there CONSTRUCTOR (path ++ 1 ∷ [])) old new
-    (λ env w. start_same (start_of m CONSTRUCTOR (length args)) _ _ w (λ index store. ap (enter env) (built_is frame creator id c.code copy args (path ++ 1 ∷ []) m index store at by is fresh)))
-    (subst (λ p. DoesAround returned datum (there CONSTRUCTOR p) old new) placed.path (subst (λ f. DoesAround returned datum (there f place.path.items) old new) placed.function does))))
+    (around_same returned datum (λ env. with_start (start_of m CONSTRUCTOR (length args)) (built env)) (λ env. enters_frame env (room - 1) frame m) old new
+    (λ env w. sym (frame_starts (enter env) frame id creator CONSTRUCTOR values (record { code = c.code; storage = None }) (path ++ 1 ∷ []) m w is)) does))

@@ -1,23 +1,24 @@
 -- Demands of authorisation: the node that is used, and what its entry owes.
-use Rattle.std.proofs.Common.{◌≡◌, ℕ, List, [], ◌∷◌, Bool, true, false, Option, Some, None, slice_get, Result, Ok, Err, refl, sym, ap, ◌∙◌, subst, append-nil}
+use Rattle.std.proofs.Common.{◌≡◌, ℕ, List, [], ◌∷◌, Bool, true, false, Option, Some, None, slice_get, Result, Ok, Err, refl, sym, ap, ◌∙◌, subst}
 use Rattle.std.specs.Option.{option_map}
 use Rattle.value_types.specs.Datum.{Datum, void}
-use Rattle.value_types.specs.Views.{datum, datums}
+use Rattle.value_types.specs.Views.{datum}
 use Rattle.value_types.specs.declared.hash.Hash.{Hash}
 use Rattle.value_types.specs.declared.value.ScVal.{ScVal}
 use Rattle.value_types.specs.declared.address.ScAddress.{ScAddress}
+use Rattle.value_types.specs.declared.address.ScAddress.TheVariants.{Contract}
 use Rattle.invoke_types.specs.declared.function.Function.{Function}
+use Rattle.invoke_types.specs.declared.function.Function.TheVariants.{ContractFn, CreateContract, CreateContractV2}
 use Rattle.auth_types.specs.declared.auth_entry.AuthEntry.{AuthEntry}
 use Rattle.auth_spec.specs.declared.demand.Demand.{Demand}
 use Rattle.auth_spec.specs.declared.demand.Demand.TheVariants as demands
 use Rattle.auth_spec.specs.Demands.{Marked, Choice, ByNode, ByCaller, ByNothing, ByNote, answer}
 use Rattle.auth_spec.specs.Authorities.{Authorised, choice_by, chooses, after_choice, IsDemanded}
-use Rattle.auth_trees.proofs.Lemmas.{later_demanded}
 use Rattle.host_spec.specs.declared.error.HostErr.{HostErr}
 use Rattle.host_spec.specs.declared.error.HostErr.TheVariants as ends
 use Rattle.host_frame.specs.Answered.{answer_of}
 use Rattle.host_frame.specs.declared.answer.Answer.{Answer as Answer'}
-use Rattle.host_ledger.proofs.Lemmas.{later_same}
+use Rattle.host_ledger.proofs.Lemmas.{all_same}
 use Rattle.call_spec.specs.Errors.{DENIED}
 use Rattle.call_spec.specs.World.{Access, World, Authority, Env}
 use Rattle.call_spec.specs.Acts.{Failed, Spent, Archived, Out, Good, Bad, Undeclared, Act, world_of, after, gives, only_where}
@@ -31,7 +32,7 @@ use Rattle.host_ledger.specs.Traced.{leaving}
 use Rattle.auth_parts.specs.Asked.{Asked, proved, asks_first, asks_then}
 use Rattle.auth_parts.specs.Views.{asked}
 use Rattle.auth_parts.specs.declared.asking.Asked.{Asked as Asked'}
-use Rattle.host_ledger.specs.Worlds.{address_of, IsEnv}
+use Rattle.host_ledger.specs.Worlds.{address_of, called_name, called_args, IsCallOf, IsEnv}
 use Rattle.host_ledger.specs.declared.state.HostLedger.{HostLedger}
 use Rattle.contract_call.proofs.Constructing.{does_around}
 use Rattle.call_host.proofs.Lemmas.{around}
@@ -39,8 +40,9 @@ use Rattle.auth_parts.proofs.Lemmas.{entry_asked}
 use Rattle.contract_call.specs.Demanded.{called, requires_here, settled, asks_at, granted, denied_end, if_good, checked}
 use Rattle.contract_call.specs.Made.{granting, IsValued}
 use Rattle.call_host.specs.Worlds.{leaving_by, world_around, IsEnvOf, DoesAround, DoesIn, Stays}
+use Rattle.call_host.specs.Demanded.{IsMet}
 use Rattle.call_host.specs.declared.host.Host.{Host}
-use Rattle.contract_call.proofs.Calling.{around_on, around_stop, around_same}
+use Rattle.contract_call.proofs.Calling.{around_on, around_stop, around_same, stays_then}
 use Rattle.contract_call.proofs.Rowing.{in_around, valued_does}
 
 -- ---- the node that is used
@@ -93,19 +95,13 @@ demanded_does {G} {U} room path caller address function answered r old marks new
     ] in
     go answered
 
-pub marked_stays : {G U V : Type 0} (old : Host G U V) (path : List ℕ) (caller : Option ScAddress) (address : ScAddress) (function : Function) (answered : Demand) (marks : Authorised)
-    → IsDemanded path caller address function answered old.marks marks → Stays old (record old { marks = marks })
-marked_stays old path caller address function answered marks is = record {
-  header = refl;
-  storage = later_same old.ledger.storage old.ledger.storage refl;
-  events = ([], sym (append-nil old.ledger.events));
-  objects = refl;
-  frame = refl;
-  contracts = refl;
-  marks = later_demanded path caller address function answered old.marks marks is;
-  verdicts = refl;
-  place = refl;
-}
+-- a demand that was met, and what it owes
+pub met_does : {G U V : Type 0} (room : ℕ) (path : List ℕ) (caller : Option Hash) (address : ScAddress) (function : Function) (answered : Demand) (r : Result (Unit {0}) HostErr) (old mid new : Host G U V)
+    → IsMet path caller address function answered old mid → (answered ≡ demands.NoMemory → r ≡ Err ends.NoMemory) → DoesAround r (λ u. u) (λ env. settled env (opener_of env room) answered) mid new
+    → DoesAround r (λ u. u) (λ env. demanded env (opener_of env room) path (option_map address_of caller) address function) old new
+met_does {G} {U} {V} room path caller address function answered r old mid new met memory does =
+    demanded_does room path (option_map address_of caller) address function answered r old mid.marks new met.demanded memory
+    (subst (λ (h : Host G U V). DoesAround r (λ u. u) (λ env. settled env (opener_of env room) answered) h new) met.rest does)
 
 -- ---- the entry
 
@@ -220,23 +216,32 @@ grants_does room creator c path id (Err e) r old new later is does =
     subst (λ x. DoesAround x (λ x. x) (λ env. granting env (opener_of env room) creator c path id) old new) (sym is)
     (around_stop e (λ u. u) (λ x. x) (λ env. demanded env (opener_of env room) path creator c.deployer (function_of c)) (λ env _. gives id) old new does)
 
--- what the program says of the running frame's function
-pub own_does : {G U V : Type 0} (room : ℕ) (address : ScAddress) (function : Function) (r : Result Answer' HostErr) (old new : Host G U V)
-    → function ≡ called old.ledger.frame.contract old.place.function.items (datums old.place.args.items) → DoesIn r answer_of (λ env. requires_here env (opener_of env room) address function) old new
-    → DoesIn r answer_of (λ env. require_auth env (opener_of env room) address) old new
-own_does room address function r old new is does =
-    subst (λ f. DoesIn r answer_of (λ env. requires_here env (opener_of env room) address f) old new) is does
+-- the function of the running frame, as an authorisation names it
+own_call : (contract : Hash) (function : Function) → IsCallOf contract function → function ≡ called contract (called_name function) (called_args function)
+own_call contract (ContractFn call) is =
+    let at : ScAddress → List ScVal → Function = λ address args. ContractFn (record { contract = address; function = call.function; args = args }) in
+    ap (λ address. at address call.args) is ∙ ap (at (Contract contract)) (sym (all_same call.args))
+own_call contract (CreateContract args) is = absurd is
+own_call contract (CreateContractV2 args) is = absurd is
+
+pub own_does : {G U V : Type 0} (room : ℕ) (address : ScAddress) (r : Result Answer' HostErr) (old new : Host G U V) → IsCallOf old.ledger.frame.contract old.ledger.frame.function
+    → DoesIn r answer_of (λ env. requires_here env (opener_of env room) address old.ledger.frame.function) old new → DoesIn r answer_of (λ env. require_auth env (opener_of env room) address) old new
+own_does room address r old new is does =
+    subst (λ f. DoesIn r answer_of (λ env. requires_here env (opener_of env room) address f) old new) (own_call old.ledger.frame.contract old.ledger.frame.function is) does
 
 pub given_does : {G U V : Type 0} (room : ℕ) (address : ScAddress) (args : List Datum) (function : Function) (r : Result Answer' HostErr) (old new : Host G U V)
-    → function ≡ called old.ledger.frame.contract old.place.function.items args → DoesIn r answer_of (λ env. requires_here env (opener_of env room) address function) old new
+    → function ≡ called old.ledger.frame.contract (called_name old.ledger.frame.function) args → DoesIn r answer_of (λ env. requires_here env (opener_of env room) address function) old new
     → DoesIn r answer_of (λ env. require_auth_for_args env (opener_of env room) address args) old new
 given_does room address args function r old new is does =
     subst (λ f. DoesIn r answer_of (λ env. requires_here env (opener_of env room) address f) old new) is does
 
--- a demand of the running frame
-pub here_does : {G U V : Type 0} (room : ℕ) (address : ScAddress) (function : Function) (met : Result (Unit {0}) HostErr) (r : Result Answer' HostErr) (old new : Host G U V) → Stays old new → IsValued met (λ _. void) r
-    → DoesAround met (λ u. u) (λ env. demanded env (opener_of env room) old.place.path.items (option_map address_of old.ledger.frame.caller) address function) old new
+-- a demand of the running frame, from what meets it to the answer
+pub here_does : {G U V : Type 0} (room : ℕ) (address : ScAddress) (function : Function) (answered : Demand) (settles : Result (Unit {0}) HostErr) (r : Result Answer' HostErr) (old mid new : Host G U V)
+    → IsMet old.ledger.frame.path.items old.ledger.frame.caller address function answered old mid → Stays old mid → (answered ≡ demands.NoMemory → settles ≡ Err ends.NoMemory) → Stays mid new
+    → IsValued settles (λ _. void) r → DoesAround settles (λ u. u) (λ env. settled env (opener_of env room) answered) mid new
     → DoesIn r answer_of (λ env. requires_here env (opener_of env room) address function) old new
-here_does room address function met r old new stays valued does =
-    let act = λ (env : Env). demanded env (opener_of env room) old.place.path.items (option_map address_of old.ledger.frame.caller) address function in
-    valued_does met (λ u. u) (λ _. void) r act old new valued (in_around met (λ u. u) act old new stays does)
+here_does room address function answered settles r old mid new met one memory two valued does =
+    let act = λ (env : Env). demanded env (opener_of env room) old.ledger.frame.path.items (option_map address_of old.ledger.frame.caller) address function in
+    valued_does settles (λ u. u) (λ _. void) r act old new valued
+    (in_around settles (λ u. u) act old new (stays_then old mid new one two)
+    (met_does room old.ledger.frame.path.items old.ledger.frame.caller address function answered settles old mid new met memory does))

@@ -25,6 +25,8 @@ use Rattle.call_spec.specs.Frames.{HostCalls, metered, runs, trap_code}
 use Rattle.call_spec.specs.HostFunctions.{host_function, host_of, of_row, opener_of}
 use Rattle.call_spec.specs.Outcomes.{Says, trace_of, stopped_kind}
 use Rattle.host_ledger.specs.Traced.{Tells as Tells'}
+use Rattle.host_ledger.specs.Worlds.{at_start}
+use Rattle.host_ledger.specs.declared.state.Frame.{Frame}
 use Rattle.host_ledger.proofs.Lemmas.{later_same, retold, serves_later}
 use Rattle.call_host.specs.Worlds.{authority_of, world_in, ending, leaving_by, IsEnvOf}
 use Rattle.contract_storage.proofs.Lemmas.{again}
@@ -33,8 +35,7 @@ use Rattle.call_host.specs.Running.{DoesOver, StaysIn}
 use Rattle.auth_spec.specs.Authorities.{Authorised, IsLaterState}
 use Rattle.auth_trees.proofs.Lemmas.{later_self, later_twice}
 use Rattle.call_host.specs.declared.host.Host.{Host}
-use Rattle.call_host.specs.declared.place.Place.{Place}
-use Rattle.call_host.specs.Placed.{IsPathFor, HasRoom}
+use Rattle.call_host.specs.Paths.{IsPathFor, HasRoom}
 use Rattle.call_host.proofs.Lemmas.{Telling, keep_memory, knowing, says_stopped, shown_as, telling, traced}
 
 -- the rest with another linear memory
@@ -225,12 +226,9 @@ run_refused m room i0 i i1 h0 h h2 b f words row e before after follows tells na
 
 -- ---- the state
 
-pub place_again : (p q r : Place) → q ≡ record p { begun = q.begun } → r ≡ record q { begun = r.begun } → r ≡ record p { begun = r.begun }
-place_again p q r one two = two ∙ ap (λ (x : Place). record x { begun = r.begun }) one
-
 -- the path stays
-pub still_room : {G U V : Type 0} (room : ℕ) (old new : Host G U V) → new.place ≡ record old.place { begun = new.place.begun } → HasRoom room old → HasRoom room new
-still_room room old new is h = subst (λ (p : Place). IsPathFor p.path.items room) (sym is) h
+pub still_room : {G U V : Type 0} (room : ℕ) (old new : Host G U V) → at_start new.ledger.frame ≡ at_start old.ledger.frame → HasRoom room old → HasRoom room new
+still_room room old new is h = subst (λ (f : Frame). IsPathFor f.path.items room) (sym is) h
 
 -- entries and source stay as marks are added
 pub same_authority : {G U V : Type 0} (old new : Host G U V) → IsLaterState old.marks new.marks → new.verdicts.now ≡ old.verdicts.now → authority_of old ≡ authority_of new
@@ -243,14 +241,11 @@ stays_twice h0 h h2 b one two = record {
     header = two.left.header ∙ one.left.header;
     storage = again h0.ledger.storage h.ledger.storage h2.ledger.storage one.left.storage two.left.storage;
     events = (one.left.events.0 ++ two.left.events.0, two.left.events.1 ∙ ap (λ x. x ++ two.left.events.0) one.left.events.1 ∙ append_assoc h0.ledger.events one.left.events.0 two.left.events.0);
-    contract = two.left.contract ∙ one.left.contract;
-    caller = two.left.caller ∙ one.left.caller;
-    code = two.left.code ∙ one.left.code;
+    frame = two.left.frame ∙ one.left.frame;
   };
   contracts = two.contracts ∙ one.contracts;
   marks = later_twice h0.marks h.marks h2.marks one.marks two.marks;
   verdicts = two.verdicts ∙ one.verdicts;
-  place = place_again h0.place h.place h2.place one.place two.place;
   ready = two.ready;
 }
 
@@ -260,20 +255,18 @@ stays_same h ready = record {
     header = refl;
     storage = later_same h.ledger.storage h.ledger.storage refl;
     events = ([], grind (arith, common_steps));
-    contract = refl;
-    caller = refl;
-    code = refl;
+    frame = refl;
   };
   contracts = refl;
   marks = later_self h.marks;
   verdicts = refl;
-  place = refl;
   ready = ready;
 }
 
 pub may_pay : {G U V : Type 0} (h : Host G U V) (b : Meter) → MayRun h → MayRun (paid h b)
 may_pay h b ready = record {
   ledger = record { bounds = ready.ledger.bounds; number = ready.ledger.number; lives = ready.ledger.lives; indices = ready.ledger.indices; copy = ready.ledger.copy };
+  called = ready.called;
   entries = ready.entries;
 }
 

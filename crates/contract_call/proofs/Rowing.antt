@@ -1,12 +1,11 @@
 -- Host functions that open a frame.
 use Rattle.std.proofs.Common.{◌≡◌, ℕ, List, ◌++◌, append_assoc, Some, Result, Ok, Err, refl, sym, ap, ◌∙◌, subst}
-use Rattle.std.specs.Option.{option_map}
 use Rattle.value_types.specs.Datum.{Datum}
 use Rattle.value_types.specs.Views.{datum}
 use Rattle.value_types.specs.declared.value.ScVal.{ScVal}
 use Rattle.value_types.specs.declared.address.ScAddress.{ScAddress}
 use Rattle.value_types.specs.declared.address.ScAddress.TheVariants.{Contract}
-use Rattle.object_store.specs.Shown.{shown_of, AreIndices}
+use Rattle.object_store.specs.Shown.{AreIndices}
 use Rattle.ledger_types.specs.declared.header.Header.{Header}
 use Rattle.contract_storage.specs.Stored.{Stored, HasBounds}
 use Rattle.host_interface.specs.declared.import.HostImport.{HostImport}
@@ -25,27 +24,27 @@ use Rattle.call_spec.specs.HostFunctions.{host_function, opener_of}
 use Rattle.call_spec.specs.Outcomes.{Says}
 use Rattle.call_spec.specs.Rules.{returning}
 use Rattle.host_ledger.specs.Traced.{leaving}
-use Rattle.host_ledger.specs.Worlds.{address_of, copied, IsHeld}
-use Rattle.host_ledger.specs.declared.state.Running.{Running}
-use Rattle.call_host.specs.Worlds.{leaving_by, contracts_of, placed, world_in, world_around, with_memory, DoesAround, DoesIn, Stays, MayRun}
+use Rattle.host_ledger.specs.Worlds.{frame_at, at_start, IsCallOf, IsHeld}
+use Rattle.host_ledger.specs.declared.state.Frame.{Frame as Frame'}
+use Rattle.call_host.specs.Worlds.{leaving_by, contracts_of, world_in, world_around, with_memory, DoesAround, DoesIn, Stays, MayRun}
 use Rattle.call_host.specs.Running.{StaysIn, DoesOver}
 use Rattle.contract_call.specs.Made.{IsValued}
 use Rattle.call_host.specs.Taken.{TakesIn}
 use Rattle.call_host.specs.declared.host.Host.{Host}
 use Rattle.call_host.proofs.Lemmas.{as_fails, fails_as, go_on, keep_rest, same_act, shown_as, stop, telling}
 use Rattle.contract_storage.proofs.Lemmas.{again}
-use Rattle.contract_call.proofs.Looping.{env_in, place_again}
+use Rattle.contract_call.proofs.Looping.{env_in}
 
 -- an act around the running frame, in it
 pub in_around : {A B G U V : Type 0} (r : Result A HostErr) (view : A → B) (act : Env → Act B) (old new : Host G U V) → Stays old new → DoesAround r view act old new → DoesIn r view act old new
 in_around r view act old new stays around env is rest trace =
     let outer : World = record rest { frame = (world_in rest old trace).frame } in
-    let at : Running → List Datum → List Access → World = λ f o t. record rest {
+    let at : Frame' → List Datum → List Access → World = λ f o t. record rest {
       entries = new.ledger.storage.map;
       events = new.ledger.events;
       pairs = new.marks.pairs;
       noted = new.marks.noted;
-      frame = record (placed new.place rest.frame) { contract = f.contract; caller = option_map address_of f.caller; code = f.code; copy = copied f.copy; shown = shown_of o f.shown };
+      frame = record (frame_at rest.frame.memory o f) { path = new.ledger.frame.path.items; begun = new.ledger.frame.begun };
       contracts = contracts_of new;
       trace = t;
       meter = new.ledger.budget;
@@ -113,9 +112,10 @@ still old new ready stays = record {
     bounds = subst (λ (h : Header). HasBounds (next_seq h) h.settings) (sym stays.header) ready.ledger.bounds;
     number = ap (λ (s : Stored). s.n) stays.storage ∙ ready.ledger.number ∙ ap next_seq (sym stays.header);
     lives = ap (λ (s : Stored). s.lives) stays.storage ∙ ready.ledger.lives ∙ ap (λ (h : Header). h.settings) (sym stays.header);
-    indices = subst (λ (f : Running). AreIndices new.ledger.objects f.shown) (sym stays.frame) (subst (λ o. AreIndices o old.ledger.frame.shown) (sym stays.objects) ready.ledger.indices);
-    copy = subst (λ (f : Running). IsHeld f.copy.storage) (sym stays.frame) ready.ledger.copy;
+    indices = subst (λ (f : Frame'). AreIndices new.ledger.objects f.shown) (sym stays.frame) (subst (λ o. AreIndices o old.ledger.frame.shown) (sym stays.objects) ready.ledger.indices);
+    copy = subst (λ (f : Frame'). IsHeld f.copy.storage) (sym stays.frame) ready.ledger.copy;
   };
+  called = subst (λ (f : Frame'). IsCallOf f.contract f.function) (sym stays.frame) ready.called;
   entries = subst (λ (s : Authorised). All auth_entry_format.fits s.entries) (sym stays.marks.rest) ready.entries;
 }
 
@@ -125,13 +125,10 @@ stays_on old mid new one two = record {
     header = two.header ∙ one.left.header;
     storage = again old.ledger.storage mid.ledger.storage new.ledger.storage one.left.storage two.storage;
     events = (one.left.events.0 ++ two.events.0, two.events.1 ∙ ap (λ x. x ++ two.events.0) one.left.events.1 ∙ append_assoc old.ledger.events one.left.events.0 two.events.0);
-    contract = ap (λ (f : Running). f.contract) two.frame ∙ one.left.contract;
-    caller = ap (λ (f : Running). f.caller) two.frame ∙ one.left.caller;
-    code = ap (λ (f : Running). f.code) two.frame ∙ one.left.code;
+    frame = ap at_start two.frame ∙ one.left.frame;
   };
   contracts = two.contracts ∙ one.contracts;
   marks = later_twice old.marks mid.marks new.marks one.marks two.marks;
   verdicts = two.verdicts ∙ one.verdicts;
-  place = place_again old.place mid.place new.place one.place two.place;
   ready = still mid new one.ready two;
 }

@@ -22,7 +22,7 @@ use Rattle.call_spec.proofs.Lemmas.{each_has_rule}
 use Rattle.host_ledger.specs.Worlds.{world_at}
 use Rattle.host_ledger.specs.declared.state.HostLedger.{HostLedger}
 use Rattle.host_values.specs.Called.{Calls}
-use Rattle.call_host.specs.Worlds.{beside, with_memory}
+use Rattle.call_host.specs.Worlds.{world_in, with_memory}
 use Rattle.call_host.specs.Running.{DoesOver}
 use Rattle.call_host.specs.declared.host.Host.{Host}
 use Rattle.host_ledger.proofs.Lemmas.{afterwards, tells_equal}
@@ -78,4 +78,4 @@ pub does_over : {G U V : Type 0} (r : Result ℕ HostErr) (i : HostImport) (word
     → ((env : Env) (opener : Opener) (rest : World) (trace : List Access) → rest.frame.memory ≡ before
     → Says r (λ n. n) (host_function env opener i words (world_at rest old.ledger trace)) (leaving old.ledger.storage new.storage trace (world_at (with_memory after rest) new)))
     → (opener : Opener) → DoesOver before after r (λ n. n) (λ env. host_function env opener i words) old (around old new)
-does_over r i words before after old new h opener env is rest trace m = h env opener (beside rest old) trace m
+does_over r i words before after old new h opener env is rest trace m = h env opener (world_in rest old trace) trace m

@@ -14,9 +14,9 @@ use Rattle.call_spec.specs.HostFunctions.{MOST_FRAMES, opener_of}
 use Rattle.call_spec.specs.WholeRuns.{Work, does, done_under}
 use Rattle.call_parts.specs.Steps.{Steps}
 use Rattle.host_ledger.specs.declared.state.HostLedger.{HostLedger}
-use Rattle.call_host.specs.Placed.{HasRoom}
+use Rattle.call_host.specs.Paths.{HasRoom}
 use Rattle.call_host.specs.Undone.{opened, IsMark}
-use Rattle.call_host.specs.Worlds.{world_around, DoesAround, Stays}
+use Rattle.call_host.specs.Worlds.{world_around, uncounted, DoesAround, Stays}
 use Rattle.call_host.specs.declared.host.Host.{Host}
 use Rattle.call_host.specs.declared.undo.Mark.{Mark}
 use Rattle.host_ledger.specs.Traced.{Tells}
@@ -54,11 +54,10 @@ steps_stay {G} {U} {V} old ledger stays later = record {
   storage = later;
   events = ([], ap (λ (l : HostLedger G V). l.events) stays ∙ sym (append-nil old.ledger.events));
   objects = ap (λ (l : HostLedger G V). l.objects) stays;
-  frame = ap (λ (l : HostLedger G V). l.frame) stays;
+  frame = ap (λ (l : HostLedger G V). uncounted l.frame) stays;
   contracts = refl;
   marks = later_self old.marks;
   verdicts = refl;
-  place = refl;
 }
 
 -- a value that is viewed in another way
@@ -90,16 +89,7 @@ work_does room mark made r view work start next old new most marks is stays ends
     subst (λ (n : ℕ). DoesAround r view (λ env. undoing (does env (opener_of env n) work)) start new) most
     (ends act marks (stays_opened start next old is stays) (does_opened made view act start next old is done))
 
--- the state in which memory ran out
-pub out_of_memory : {A B G U V : Type 0} (e : HostErr) (view : A → B) (act : Env → Act B) (old new : Host G U V) → e ≡ ends.NoMemory → (let r : Result A HostErr = Err e in DoesAround r view act old new)
-out_of_memory {A} e view act old new is =
-    let at : HostErr → Result A HostErr = λ x. Err x in
-    subst (λ (x : HostErr). DoesAround (at x) view act old new) (sym is) (λ env at rest trace. tt)
-
 -- ---- what stays of the storage
-
-pub same_base : {G U V : Type 0} (old new : Host G U V) → Stays old new → new.ledger.storage.base ≡ old.ledger.storage.base
-same_base old new stays = ap (λ (s : Stored). s.base) stays.storage
 
 pub same_declared : {G U V : Type 0} (old new : Host G U V) → Stays old new → new.ledger.storage.declared ≡ old.ledger.storage.declared
 same_declared old new stays = ap (λ (s : Stored). s.declared) stays.storage

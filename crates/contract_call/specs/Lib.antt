@@ -5,7 +5,7 @@ pub mod Parts
 pub mod Possible
 pub use Rattle.auth_parts.specs.Entering
 pub use Rattle.call_host.specs.Creations
-pub use Rattle.call_host.specs.Placed
+pub use Rattle.call_host.specs.Paths
 pub use Rattle.call_host.specs.Worlds
 pub use Rattle.call_host.specs.declared.host.Host
 pub use Rattle.host_ledger.specs.Traced

@@ -22,26 +22,24 @@ ghost use Rattle.host_ledger.specs.Answered.{IsMadeIfOk};
 ghost use Rattle.call_spec.specs.Frames.{Entered, framed, started, finished, runs};
 ghost use Rattle.call_spec.specs.Found.{with_start};
 ghost use Rattle.call_spec.specs.HostFunctions.{host_of, host_function, opener_of};
-ghost use Rattle.host_ledger.specs.Worlds.{address_of, IsHeld, copied};
+ghost use Rattle.host_ledger.specs.Worlds.{address_of, called_name, called_args, IsHeld};
 ghost use Rattle.host_ledger.specs.Spelled.{IsKeySpelled};
 ghost use Rattle.std.specs.Option.{option_map};
 ghost use Rattle.call_host.specs.Worlds.{DoesAround, DoesIn, RunsIn, Stays, MayRun};
 ghost use Rattle.call_host.specs.Creations.{creation_of, AreArgsHosted};
 ghost use Rattle.auth_parts.specs.Asked.{by_contract, asks_then};
-ghost use Rattle.contract_call.specs.Demanded.{settled, requires_here};
+ghost use Rattle.contract_call.specs.Demanded.{settled};
 ghost use Rattle.contract_call.specs.Made.{authorising, builds_with, constructing};
-ghost use Rattle.call_host.specs.Placed.{IsNewPlace, IsPathFor, IsPathBelow, HasRoom};
+ghost use Rattle.call_host.specs.Paths.{IsPathFor, IsPathBelow, HasRoom};
 ghost use Rattle.call_host.specs.Taken.{creates_here};
 ghost use Rattle.call_host.specs.Targets.{may_name as may_name_in, call_of, call_at, target, enters_at};
-ghost use Rattle.call_host.specs.Running.{entered, IsNewFrame, Starts, StaysIn, DoesFrom, DoesOver};
+ghost use Rattle.call_host.specs.Running.{entered, IsNewFrame, Starts, StaysIn, DoesOver};
 
 use crate::creating::{
-    addressed, constructed, constructor_place, create_function, given_args, has_constructor, made,
+    addressed, constructed, constructor_frame, create_function, given_args, has_constructor, made,
     paid_id, unless_args, valued,
 };
-use crate::demands::{
-    ask_entry, authorised, call_with, checked, contract_address, granted, own_call,
-};
+use crate::demands::{ask_entry, authorised, call_with, checked, granted};
 use crate::errors::{DENIED, TOO_MANY_FRAMES};
 use crate::parts::{Part, part_of};
 use crate::rows::{ledger_answer, shown, upload_row, value_answer};
@@ -49,18 +47,18 @@ use auth_parts::Asked;
 use auth_spec::Demand;
 use auth_trees::Authority;
 use call_host::{
-    AuthArgs, CallArgs, ContractCall, Host, NewContract, Place, Target, auth_for_args_words,
-    auth_words, begin, call_words, caught, construct_words, create_words, end, find_target,
-    may_name, new_frame, new_place, tell_called, tell_demanded, tell_returned,
+    AuthArgs, CallArgs, ContractCall, Host, NewContract, Target, args_of, auth_for_args_words,
+    auth_words, begin, call_words, caught, construct_words, create_words, demand_create,
+    demand_here, demand_own, end, find_target, may_name, name_of, new_frame, tell_called,
+    tell_returned,
 };
-use call_parts::{clone_copy, start_instance};
+use call_parts::start_instance;
 use contract_storage::Watch;
 use entry_lookup::Ground;
 use host_frame::Answer;
 use host_interface::HostImport;
-use host_ledger::{InstanceCopy, InstanceStorage, Running};
+use host_ledger::Frame;
 use host_spec::HostErr;
-use invoke_types::Function;
 use module_loader::LinkedModule;
 use value_types::{Hash, ScAddress, ScVal};
 use wasm_run::{CallPhase, Event, Instance, trap_error};
@@ -162,41 +160,44 @@ fn call_target<G: Ground, A: Authority, W: Watch>(
         copy,
         module,
     } = found;
-    match new_place(alloc, call.function, call.args.as_slice(), path) {
-        Ok(place) => {
-            let frame = new_frame(alloc, contract, call.caller, copy);
-            enter(host, room, frame, place, module.linked(), call.args)
-        }
+    match new_frame(
+        alloc,
+        contract,
+        call.caller,
+        call.function,
+        call.args,
+        copy,
+        path,
+    ) {
+        Ok(frame) => enter(host, room, frame, module.linked()),
         Err(error) => Err(error),
     }
 }
 
-/// Runs a function of a module in a new frame, if the module exports it for so many arguments.
+/// Runs the function of a new frame, if the frame's module exports it for so many arguments.
 #[cycle(calls)]
 fn enter<G: Ground, A: Authority, W: Watch>(
     host: &mut Host<'_, G, A, W>,
     room: u32,
-    frame: Running,
-    place: Place,
+    frame: Frame,
     module: &LinkedModule,
-    args: Vec<ScVal>,
 ) -> Result<ScVal, HostErr>
     requires ready { MayRun host.old }
     requires frame { IsNewFrame frame }
-    requires place { IsNewPlace place place.function.items args.items place.path.items }
-    requires path { IsPathFor place.path.items room }
-    requires args { AreMade (datums args.items) }
+    requires path { IsPathFor frame.path.items room }
     ensures does { DoesAround result datum
-        (λ env. with_start (start_of «module».now place.function.items (length (datums args.items)))
-        (λ index store. framed env (host_of env (opener_of env room))
-        (entered frame place.function.items (datums args.items) place.path.items «module».now index store))) host.old host.new }
+        (λ env. with_start (start_of «module».now (called_name frame.function) (length (called_args frame.function)))
+        (λ index store. framed env (host_of env (opener_of env room)) (entered frame «module».now index store)))
+        host.old host.new }
     ensures hosted { IfOk result (λ value. IsHosted (datum value)) }
     ensures stays { Stays host.old host.new }
     ensures key { IfErr result IsKeySpelled }
 {
     let alloc = host.allocator();
-    match start_instance(alloc, module, place.function.as_slice(), args.len()) {
-        Ok(instance) => open(host, room, frame, place, module, instance, args),
+    let name = name_of(&frame.function);
+    let count = args_of(&frame.function).len();
+    match start_instance(alloc, module, name, count) {
+        Ok(instance) => open(host, room, frame, module, instance),
         Err(error) => Err(error),
     }
 }
@@ -206,66 +207,60 @@ fn enter<G: Ground, A: Authority, W: Watch>(
 fn open<G: Ground, A: Authority, W: Watch>(
     host: &mut Host<'_, G, A, W>,
     room: u32,
-    frame: Running,
-    place: Place,
+    frame: Frame,
     module: &LinkedModule,
     instance: Instance<'_>,
-    args: Vec<ScVal>,
 ) -> Result<ScVal, HostErr>
     requires ready { MayRun host.old }
     requires frame { IsNewFrame frame }
-    requires place { IsNewPlace place place.function.items args.items place.path.items }
-    requires path { IsPathFor place.path.items room }
-    requires args { AreMade (datums args.items) }
-    requires starts { (index : ℕ) × (store : Store) × IsFresh instance «module».now index (length (datums args.items)) store }
+    requires path { IsPathFor frame.path.items room }
+    requires starts { (index : ℕ) × (store : Store)
+        × IsFresh instance «module».now index (length (called_args frame.function)) store }
     ensures does { (index : ℕ) (store : Store)
-        → IsFresh instance.entry «module».now index (length (datums args.items)) store
+        → IsFresh instance.entry «module».now index (length (called_args frame.function)) store
         → DoesAround result datum (λ env. framed env (host_of env (opener_of env room))
-        (entered frame place.function.items (datums args.items) place.path.items «module».now index store)) host.old host.new }
+        (entered frame «module».now index store)) host.old host.new }
     ensures hosted { IfOk result (λ value. IsHosted (datum value)) }
     ensures stays { Stays host.old host.new }
     ensures key { IfErr result IsKeySpelled }
 {
-    match clone_copy(&frame.copy) {
-        Ok(first) => match host.open_frame(frame, place) {
-            Ok(waiting) => {
-                let result = inside(host, room, module, instance, &first, args);
-                host.close_frame(&result, waiting);
-                result
-            }
-            Err(error) => Err(error),
-        },
+    match host.open_frame(frame) {
+        Ok(suspended) => {
+            let result = inside(host, room, module, instance);
+            host.close_frame(&result, suspended);
+            result
+        }
         Err(error) => Err(error),
     }
 }
 
-/// Runs a function in the frame that was opened for it.
+/// Runs the function of the frame that was opened for it.
 #[cycle(calls)]
 fn inside<G: Ground, A: Authority, W: Watch>(
     host: &mut Host<'_, G, A, W>,
     room: u32,
     module: &LinkedModule,
     instance: Instance<'_>,
-    first: &InstanceCopy,
-    args: Vec<ScVal>,
 ) -> Result<ScVal, HostErr>
     requires ready { MayRun host.old }
     requires path { HasRoom room host.old }
-    requires args { AreMade (datums args.items) }
-    requires starts { (index : ℕ) × (store : Store) × IsFresh instance «module».now index (length (datums args.items)) store }
-    ensures does { (e : Entered) → e.module_ ≡ «module».now → e.args ≡ datums args.items → Starts instance.entry e
-        → DoesFrom (copied first.now) result datum
-        (λ env. after (started (host_of env (opener_of env room) «module».now) e) (finished env)) host.old host.new }
+    requires args { AreMade (called_args host.old.ledger.frame.function) }
+    requires starts { (index : ℕ) × (store : Store)
+        × IsFresh instance «module».now index (length (called_args host.old.ledger.frame.function)) store }
+    ensures does { (e : Entered) → e.module_ ≡ «module».now → e.args ≡ called_args host.old.ledger.frame.function
+        → Starts instance.entry e
+        → RunsIn result datum (λ env. after (started (host_of env (opener_of env room) «module».now) e) (finished env))
+        host.old host.new }
     ensures hosted { IfOk result (λ value. IsHosted (datum value)) }
     ensures stays { StaysIn host.old host.new }
     ensures key { IfErr result IsKeySpelled }
 {
-    match begin(host, module, args) {
+    match begin(host, module) {
         Ok(words) => {
             let mut instance = instance;
             instance.start(words.as_slice());
             match run(host, room, module, instance) {
-                Ok(word) => end(host, first, word),
+                Ok(word) => end(host, word),
                 Err(error) => Err(error),
             }
         }
@@ -584,11 +579,7 @@ fn authorise<G: Ground, A: Authority, W: Watch>(
     match paid_id(host, contract) {
         Ok(id) => match create_function(host.allocator(), contract) {
             Ok(function) => {
-                let caller = contract_address(creator);
-                let met = host
-                    .marks
-                    .demand(path, caller, contract.deployer, &function);
-                tell_demanded(host, contract.deployer, &function, met);
+                let met = demand_create(host, path, creator, contract.deployer, &function);
                 let settled = settle(host, room, met);
                 granted(settled, id)
             }
@@ -650,14 +641,9 @@ fn construct<G: Ground, A: Authority, W: Watch>(
     if room == 0 {
         return Err(TOO_MANY_FRAMES);
     }
-    let copy = InstanceCopy {
-        code: contract.code,
-        storage: InstanceStorage::null(),
-    };
-    let frame = new_frame(host.allocator(), id, creator, copy);
-    match constructor_place(host.allocator(), args.as_slice(), path) {
-        Ok(place) => {
-            let returned = enter(host, room - 1, frame, place, module, args);
+    match constructor_frame(host.allocator(), id, creator, contract.code, args, path) {
+        Ok(frame) => {
+            let returned = enter(host, room - 1, frame, module);
             constructed(id, returned)
         }
         Err(error) => Err(error),
@@ -681,10 +667,11 @@ fn auth_row<G: Ground, A: Authority, W: Watch>(
     ensures key { IfErr result IsKeySpelled }
 {
     match auth_words(host, words) {
-        Ok(address) => match own_call(host) {
-            Ok(function) => demand_here(host, room, address, function),
-            Err(error) => Err(error),
-        },
+        Ok(address) => {
+            let met = demand_own(host, address);
+            let settled = settle(host, room, met);
+            authorised(settled)
+        }
         Err(error) => Err(error),
     }
 }
@@ -708,35 +695,15 @@ fn auth_for_args_row<G: Ground, A: Authority, W: Watch>(
 {
     match auth_for_args_words(host, words) {
         Ok(AuthArgs { address, args }) => match call_with(host, args) {
-            Ok(function) => demand_here(host, room, address, function),
+            Ok(function) => {
+                let met = demand_here(host, address, &function);
+                let settled = settle(host, room, met);
+                authorised(settled)
+            }
             Err(error) => Err(error),
         },
         Err(error) => Err(error),
     }
-}
-
-/// Void, if an address authorises a function in the running frame.
-#[cycle(calls)]
-fn demand_here<G: Ground, A: Authority, W: Watch>(
-    host: &mut Host<'_, G, A, W>,
-    room: u32,
-    address: ScAddress,
-    function: Function,
-) -> Result<Answer, HostErr>
-    requires ready { MayRun host.old }
-    requires path { HasRoom room host.old }
-    ensures does { DoesIn result answer_of
-        (λ env. requires_here env (opener_of env room) address function) host.old host.new }
-    ensures made { IsMadeIfOk result }
-    ensures stays { StaysIn host.old host.new }
-    ensures key { IfErr result IsKeySpelled }
-{
-    let caller = contract_address(host.ledger.frame.caller);
-    let path = host.place.path.as_slice();
-    let met = host.marks.demand(path, caller, address, &function);
-    tell_demanded(host, address, &function, met);
-    let settled = settle(host, room, met);
-    authorised(settled)
 }
 
 /// Ends a demand after the node that meets it, if one does, is used.

@@ -1,6 +1,6 @@
 //! Creates, but for the constructor's run.
 
-ghost use Rattle.std.specs.Prelude.{◌≡◌, ◌==◌, ◌++◌, [], ◌∷◌, length, is_some, IfOk, IfErr};
+ghost use Rattle.std.specs.Prelude.{◌≡◌, ◌==◌, ◌++◌, [], ◌∷◌, length, is_some, None, IfOk, IfErr};
 ghost use Rattle.std.specs.Option.{option_map, unwrap_or};
 ghost use Rattle.value_types.specs.Datum.{address as address_datum};
 ghost use Rattle.value_types.specs.Views.{datum, datums};
@@ -10,7 +10,7 @@ ghost use Rattle.host_spec.specs.Answers.{value};
 ghost use Rattle.host_spec.specs.Hosted.{IsHosted, AreHosted};
 ghost use Rattle.host_spec.specs.declared.error.HostErr.TheVariants as ends;
 ghost use Rattle.host_frame.specs.Answered.{answer_of};
-ghost use Rattle.host_frame.specs.Made.{IsAnswerMade};
+ghost use Rattle.host_frame.specs.Made.{AreMade, IsAnswerMade};
 ghost use Rattle.contract_storage.specs.Stored.{IsRead, IsLater, HasBounds};
 ghost use Rattle.call_spec.specs.World.{Env};
 ghost use Rattle.call_spec.specs.Creating.{function_of, CONSTRUCTOR};
@@ -22,18 +22,18 @@ ghost use Rattle.call_host.specs.Worlds.{DoesAround, MayRun, Stays};
 ghost use Rattle.call_host.specs.Creations.{creation_of, args_of, items_of, AreArgsHosted};
 ghost use Rattle.contract_call.specs.Made.{identifying, code_of, sized, instantiating, building, IsValued, IsConstructed};
 ghost use Rattle.contract_call.specs.Made.{unless_given};
-ghost use Rattle.call_host.specs.Placed.{IsNewPlace};
+ghost use Rattle.call_host.specs.Running.{IsFrameFor};
 
 use crate::errors::{NO_FUNCTION, NOT_VOID};
 use auth_trees::Authority;
 use budget_meter::Budget;
-use call_host::{Host, NewContract, Place, below, clone_args, new_place};
+use call_host::{Host, NewContract, below, clone_args, new_frame};
 use call_parts::{cached_module, find_code, make_instance, new_id, paid_module};
 use code_cache::{Cache, HeldModule};
 use contract_storage::{Storage, Watch};
 use entry_lookup::Ground;
 use host_frame::Answer;
-use host_ledger::{HostLedger, code_key, end_of, made_seq};
+use host_ledger::{Frame, HostLedger, InstanceCopy, InstanceStorage, code_key, end_of, made_seq};
 use host_spec::HostErr;
 use invoke_types::{CreateContractArgs, CreateContractArgsV2, Function, Preimage};
 use ledger_types::Settings;
@@ -256,17 +256,26 @@ pub(crate) fn given_args(alloc: Global, args: Option<Vec<ScVal>>) -> Vec<ScVal>
     }
 }
 
-/// The place of a constructor's frame, below the path of its create. Its only error is memory.
-pub(crate) fn constructor_place(
+/// Makes the frame of a constructor, below the path of its create. Its only error is memory.
+pub(crate) fn constructor_frame(
     alloc: Global,
-    args: &[ScVal],
+    id: Hash,
+    creator: Option<Hash>,
+    code: Hash,
+    args: Vec<ScVal>,
     path: Vec<u64>,
-) -> Result<Place, HostErr>
-    ensures ok { IfOk result (λ p. IsNewPlace p CONSTRUCTOR args.now (path.items ++ 1 ∷ [])) }
+) -> Result<Frame, HostErr>
+    requires { AreMade (datums args.items) }
+    ensures ok { IfOk result (λ f. IsFrameFor f id creator CONSTRUCTOR args.items
+        (record { code = code; storage = None }) (path.items ++ 1 ∷ [])) }
     ensures memory { IfErr result (λ e. e ≡ ends.NoMemory) }
 {
+    let copy = InstanceCopy {
+        code,
+        storage: InstanceStorage::null(),
+    };
     match below(path, 1) {
-        Ok(path) => new_place(alloc, b"__constructor", args, path),
+        Ok(path) => new_frame(alloc, id, creator, b"__constructor", args, copy, path),
         Err(error) => Err(error),
     }
 }

@@ -1,7 +1,6 @@
 //! Demands of authorisation, but for the runs of contracts that are asked.
 
 ghost use Rattle.std.specs.Prelude.{◌≡◌, IfOk, IfErr, slice_get};
-ghost use Rattle.std.specs.Option.{option_map};
 ghost use Rattle.value_types.specs.Datum.{void};
 ghost use Rattle.value_types.specs.Views.{datum, datums};
 ghost use Rattle.auth_types.specs.AuthEntry.{auth_entry_format};
@@ -10,7 +9,7 @@ ghost use Rattle.contract_storage.specs.Stored.{IsLater};
 ghost use Rattle.call_spec.specs.World.{World, Env};
 ghost use Rattle.call_spec.specs.Outcomes.{Says};
 ghost use Rattle.host_ledger.specs.Traced.{leaving};
-ghost use Rattle.host_ledger.specs.Worlds.{address_of, IsEnv, IsReady};
+ghost use Rattle.host_ledger.specs.Worlds.{called_name, IsEnv, IsReady};
 ghost use Rattle.host_ledger.specs.Spelled.{IsKeySpelled};
 ghost use Rattle.auth_parts.specs.Asked.{asks_first};
 ghost use Rattle.auth_parts.specs.Views.{asked, IsAskedHosted};
@@ -22,59 +21,27 @@ use crate::errors::DENIED;
 use auth_parts::{Asked, ask};
 use auth_trees::Authority;
 use auth_types::AuthEntry;
-use call_host::{Host, clone_args, clone_bytes};
+use call_host::{Host, clone_bytes, contract_function, name_of};
 use contract_storage::Watch;
 use entry_lookup::Ground;
 use host_frame::Answer;
 use host_ledger::HostLedger;
 use host_spec::HostErr;
-use invoke_types::{Function, InvokeContractArgs};
+use invoke_types::Function;
 use ledger_types::Verdicts;
-use value_types::{Blob, Bytes, Hash, Items, ScAddress, ScVal};
-
-/// The address of a contract, if there is one.
-pub(crate) fn contract_address(contract: Option<Hash>) -> Option<ScAddress>
-    ensures { result ≡ option_map address_of contract }
-{
-    match contract {
-        None => None,
-        Some(contract) => Some(ScAddress::Contract(contract)),
-    }
-}
+use value_types::{Hash, ScVal};
 
 /// The running frame's function with these arguments, as an authorisation names it. Its only error is memory.
 pub(crate) fn call_with<G: Ground, A: Authority, W: Watch>(
     host: &Host<'_, G, A, W>,
     args: Vec<ScVal>,
 ) -> Result<Function, HostErr>
-    ensures ok { IfOk result (λ f. f ≡ called host.now.ledger.frame.contract host.now.place.function.items (datums args.items)) }
+    ensures ok { IfOk result (λ f. f ≡ called host.now.ledger.frame.contract (called_name host.now.ledger.frame.function)
+        (datums args.items)) }
     ensures memory { IfErr result (λ e. e ≡ ends.NoMemory) }
 {
-    match clone_bytes(host.allocator(), host.place.function.as_slice()) {
-        Ok(function) => {
-            let content = Blob::from_vec(function);
-            let name = Bytes::from_blob(content);
-            let values = Items::from_vec(args);
-            Ok(Function::ContractFn(InvokeContractArgs {
-                contract: ScAddress::Contract(host.ledger.frame.contract),
-                function: name,
-                args: values,
-            }))
-        }
-        Err(error) => Err(error),
-    }
-}
-
-/// The running frame's function with its own arguments. Its only error is memory.
-pub(crate) fn own_call<G: Ground, A: Authority, W: Watch>(
-    host: &Host<'_, G, A, W>,
-) -> Result<Function, HostErr>
-    ensures ok { IfOk result (λ f. f ≡ called host.now.ledger.frame.contract host.now.place.function.items
-        (datums host.now.place.args.items)) }
-    ensures memory { IfErr result (λ e. e ≡ ends.NoMemory) }
-{
-    match clone_args(host.allocator(), host.place.args.as_slice()) {
-        Ok(args) => call_with(host, args),
+    match clone_bytes(host.allocator(), name_of(&host.ledger.frame.function)) {
+        Ok(name) => Ok(contract_function(host.ledger.frame.contract, name, args)),
         Err(error) => Err(error),
     }
 }

@@ -16,7 +16,7 @@ ghost use Rattle.call_spec.specs.WholeRuns.{calling, uploading, creating, done_u
 ghost use Rattle.call_host.specs.Worlds.{DoesAround, MayRun};
 ghost use Rattle.call_host.specs.Creations.{creation_of, AreArgsHosted};
 ghost use Rattle.contract_call.specs.Ended.{Ends, EndsRecorded};
-ghost use Rattle.call_host.specs.Placed.{HasRoom};
+ghost use Rattle.call_host.specs.Paths.{HasRoom};
 
 use crate::calls;
 use auth_trees::Authority;

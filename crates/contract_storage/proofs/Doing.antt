@@ -1,7 +1,7 @@
 -- What an allowed access does.
 use Rattle.std.specs.Prelude.{cond, nat_lt, nat_le, is_ok, IfSome}
 use Rattle.std.specs.FinMap.{get, insert}
-use Rattle.std.proofs.Common.{◌≡◌, ℕ, ◌-◌, ◌<◌, ◌^◌, Bool, true, false, ◌&&◌, List, [], ◌∷◌, ◌++◌, Option, Some, None, Result, Ok, Err, OnOk, OnErr, IfErr, refl, sym, ap, subst, ◌∙◌}
+use Rattle.std.proofs.Common.{◌≡◌, ℕ, ◌-◌, ◌<◌, ◌^◌, Bool, true, false, ◌&&◌, List, Option, Some, None, Result, Ok, Err, OnOk, OnErr, IfErr, refl, sym, ap, subst, ◌∙◌}
 use Rattle.xdr_spec.specs.Format.{number32}
 use Rattle.ledger_types.specs.Entry.{key_of, entry_format}
 use Rattle.ledger_types.specs.Key.{key_format}

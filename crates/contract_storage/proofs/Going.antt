@@ -1,6 +1,7 @@
 -- States of a storage one after another.
 use Rattle.std.proofs.Common.{◌≡◌, List, [], ◌∷◌, ◌++◌, refl, sym, ap, ap₂, subst, ◌∙◌}
 use Rattle.ledger_spec.specs.LedgerMap.{LedgerMap}
+use Rattle.contract_storage.specs.Layered.{IsMixed}
 use Rattle.contract_storage.specs.Stored.{Stored, with_entries, with_maps, with_snapshot, with_touched, IsClosed, IsHalfReleased, IsLater, IsReleased, IsRestored}
 
 -- a list that ends in one more element
@@ -44,6 +45,19 @@ goes_on start later done l r =
     let entries : done ≡ record start { map = later.map; touched = later.touched } = is ∙ ap (λ (x : Stored). record x { snapshots = start.snapshots }) l in
     (is, subst (λ (x : Stored). IsLater start x) (sym entries) refl)
 
+-- a release that ran out of memory
+pub goes_half_on : (start later done : Stored) → IsLater (with_snapshot start) later → IsHalfReleased later done
+    → (done ≡ record later { map = done.map; snapshots = start.snapshots }) × IsLater start done × IsMixed later.map start.map done.map
+goes_half_on start later done l half =
+    let s = same_end done.snapshots start.snapshots half.closed.0 start.map (sym half.closed.1 ∙ opened start later l) in
+    let is : done ≡ record later { map = done.map; snapshots = start.snapshots } =
+    half.same ∙ ap (λ (p : List LedgerMap). record later { map = done.map; snapshots = p }) s.front in
+    let entries : done ≡ record start { map = done.map; touched = later.touched } = is ∙ ap (λ (x : Stored). record x { map = done.map; snapshots = start.snapshots }) l in (
+      is,
+      subst (λ (x : Stored). IsLater start x) (sym entries) refl,
+      subst (λ (m : LedgerMap). IsMixed later.map m done.map) s.last half.mixed,
+    )
+
 -- ---- the maps alone are others
 
 abbrev pub HasMaps : Stored → Stored → Type 0
@@ -55,8 +69,9 @@ released old new is base map closed = record {
   closed = closed;
 }
 
-pub half_released : (old new : Stored) → HasMaps old new → new.base ≡ old.base → IsClosed old new → IsHalfReleased old new
-half_released old new is base closed = record {
+pub half_released : (old new : Stored) → HasMaps old new → new.base ≡ old.base → (closed : IsClosed old new) → IsMixed old.map closed.0 new.map → IsHalfReleased old new
+half_released old new is base closed mixed = record {
   same = is ∙ ap (λ (b : LedgerMap). record old { base = b; map = new.map; snapshots = new.snapshots }) base;
   closed = closed;
+  mixed = mixed;
 }

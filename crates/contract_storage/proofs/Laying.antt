@@ -1,7 +1,8 @@
 -- Changes over a ground, and back.
-use Rattle.std.specs.Prelude.{is_some, cond}
+use Rattle.std.specs.Prelude.{◌⊎◌, is_some, cond}
 use Rattle.std.specs.List.{AllByRecursion}
-use Rattle.std.specs.Map.{lookup}
+use Rattle.std.specs.List.Sorted.{IsStrictlySortedBy}
+use Rattle.std.specs.Map.{keys_of, lookup, set_value}
 use Rattle.std.specs.BTreeMap.{insert_entry, is_at}
 use Rattle.std.specs.Option.{option_map}
 use Rattle.std.specs.declared.cmp.Ordering.{Ordering}
@@ -9,16 +10,19 @@ use Rattle.std.specs.declared.cmp.Ordering.TheVariants.{Less, Equal, Greater}
 use Rattle.std.specs.Ordering.{nat_cmp, is_eq, eq_by_cmp, match_ordering}
 use Rattle.std.specs.Cmp.Lexicographic.{slice_cmp, nat_list_cmp_total}
 use Rattle.std.specs.FinMap.{get, insert, get-insert, get-remove, same_map, slice_cmp-IsAntisymmetric, nat_cmp-IsAntisymmetric, IsAntisymmetric}
-use Rattle.std.proofs.Common.{◌≡◌, ℕ, suc, ◌+◌, ◌≤◌, Bool, true, false, List, [], ◌∷◌, ◌++◌, length, take, Option, Some, None, refl, sym, ap, ap₂, subst, ◌∙◌, arith}
+use Rattle.std.proofs.Common.{◌≡◌, ℕ, suc, ◌+◌, ◌≤◌, Bool, true, false, List, [], ◌∷◌, ◌++◌, length, take, Option, Some, None, inl, refl, sym, ap, ap₂, subst, ◌∙◌, arith}
 use Rattle.std.proofs.lemmas.Cmp.{tied_itself}
+use Rattle.std.proofs.lemmas.Map.{lookup-none}
+use Rattle.std.proofs.lemmas.Map.Entries.{none_below_head}
+use Rattle.std.proofs.lemmas.Map.Keys.{sorted_tail}
 use Rattle.std.proofs.lemmas.List.{take-append-le}
 use Rattle.ledger_types.specs.Key.{key_format}
-use Rattle.ledger_types.specs.KeyOrder.{ranked_key, key_cmp}
+use Rattle.ledger_types.specs.KeyOrder.{ranked_key, key_cmp, key_total}
 use Rattle.ledger_types.specs.declared.key.LedgerKey.{LedgerKey}
 use Rattle.ledger_types.proofs.Lemmas.{key_ranked}
 use Rattle.ledger_spec.specs.declared.Kept.{Kept}
 use Rattle.ledger_spec.specs.LedgerMap.{LedgerMap, key_bytes}
-use Rattle.contract_storage.specs.Layered.{set_at, with_snapshot, with_write}
+use Rattle.contract_storage.specs.Layered.{set_at, with_snapshot, with_write, IsMixed}
 use Rattle.contract_storage.specs.Overlays.{kept_in, overlay_of, over_entry, laid, laid_all, over, map_at, maps_at, layered, or_same, with_saved, with_state, IsThere}
 use Rattle.contract_storage.specs.declared.layer.Shared.{Shared}
 use Rattle.contract_storage.specs.declared.layer.Overlay.{Overlay}
@@ -276,25 +280,20 @@ there_new k c es b =
 
 -- ---- the same with names for what the code has
 
-pub wrote_as : (g : LedgerMap) (es fs : List (LedgerKey × Overlay)) (ss ts : List (List (LedgerKey × Overlay))) (k named again : LedgerKey) (now : Option Shared) (c b : Overlay) (o : Option Overlay) → key_format.fits k
-    → named ≡ k → again ≡ k → c ≡ overlay_of now → b ≡ or_same o → o ≡ lookup (is_at (key_cmp named)) es
-    → fs ≡ insert_entry key_cmp es named c → ts ≡ with_saved ss (record { key = again; before = b })
+pub wrote_as : (g : LedgerMap) (es fs : List (LedgerKey × Overlay)) (ss ts : List (List (LedgerKey × Overlay))) (k : LedgerKey) (now : Option Shared) (c b : Overlay) → key_format.fits k
+    → c ≡ overlay_of now → b ≡ or_same (lookup (is_at (key_cmp k)) es) → fs ≡ insert_entry key_cmp es k c → ts ≡ with_saved ss (record { key = k; before = b })
     → layered g fs ts ≡ with_write (layered g es ss) (key_bytes k) (option_map kept_in now)
-wrote_as g es fs ss ts k named again now c b o fits same_named same is was had e i =
-    ap₂ (layered g)
-    (e ∙ ap₂ (insert_entry key_cmp es) same_named is)
-    (i ∙ ap₂ (λ (q : LedgerKey) (x : Overlay). with_saved ss (record { key = q; before = x })) same
-    (was ∙ ap or_same (had ∙ ap (λ (q : LedgerKey). lookup (is_at (key_cmp q)) es) same_named)))
+wrote_as g es fs ss ts k now c b fits is was e i =
+    ap₂ (layered g) (e ∙ ap (insert_entry key_cmp es k) is) (i ∙ ap (λ (x : Overlay). with_saved ss (record { key = k; before = x })) was)
     ∙ wrote g es ss k now fits
 
 -- a write that is undone at once
-pub unwrote_as : (g : LedgerMap) (es fs hs : List (LedgerKey × Overlay)) (ss ts : List (List (LedgerKey × Overlay))) (k named again : LedgerKey) (c b : Overlay) (o : Option Overlay) → named ≡ k → again ≡ k
-    → b ≡ or_same o → o ≡ lookup (is_at (key_cmp named)) es → fs ≡ insert_entry key_cmp es named c → hs ≡ insert_entry key_cmp fs again b → ts ≡ ss → layered g hs ts ≡ layered g es ss
-unwrote_as g es fs hs ss ts k named again c b o same_named same was had e i stays =
-    let first : over g fs ≡ laid g (over g es) k c = ap (over g) (e ∙ ap (λ (q : LedgerKey). insert_entry key_cmp es q c) same_named) ∙ over_inserted g es k c in
-    let before : b ≡ or_same (lookup (is_at (key_cmp k)) es) = was ∙ ap or_same (had ∙ ap (λ (q : LedgerKey). lookup (is_at (key_cmp q)) es) same_named) in
+pub unwrote_as : (g : LedgerMap) (es fs hs : List (LedgerKey × Overlay)) (ss ts : List (List (LedgerKey × Overlay))) (k : LedgerKey) (c b : Overlay)
+    → b ≡ or_same (lookup (is_at (key_cmp k)) es) → fs ≡ insert_entry key_cmp es k c → hs ≡ insert_entry key_cmp fs k b → ts ≡ ss → layered g hs ts ≡ layered g es ss
+unwrote_as g es fs hs ss ts k c b was e i stays =
+    let first : over g fs ≡ laid g (over g es) k c = ap (over g) e ∙ over_inserted g es k c in
     let back : over g hs ≡ over g es =
-    ap (over g) (i ∙ ap₂ (insert_entry key_cmp fs) same before) ∙ over_inserted g fs k (or_same (lookup (is_at (key_cmp k)) es))
+    ap (over g) (i ∙ ap (insert_entry key_cmp fs k) was) ∙ over_inserted g fs k (or_same (lookup (is_at (key_cmp k)) es))
     ∙ ap (λ (m : LedgerMap). laid g m k (or_same (lookup (is_at (key_cmp k)) es))) first ∙ undone g es k c in
     ap₂ (λ (m : LedgerMap) (xs : List (List (LedgerKey × Overlay))). record { base = g; map = m; snapshots = maps_at g m xs }) back stays
 
@@ -315,3 +314,31 @@ pub lookup_put : {X : Type 0} (q k : LedgerKey) (v : X) (es : List (LedgerKey ×
 lookup_put {X} q k v es =
     at_lookup q (insert_entry key_cmp es k v) ∙ at_inserted k v es (ranked_key q)
     ∙ ap (λ (o : Option X). cond (is_at (key_cmp q) k) (Some v) o) (sym (at_lookup q es))
+
+-- a value that is set at a key that is there is inserted
+pub set_inserts : {X : Type 0} (k : LedgerKey) (v w : X) (es : List (LedgerKey × X)) → IsStrictlySortedBy key_cmp (keys_of es) → Some w ≡ lookup (is_at (key_cmp k)) es
+    → set_value (is_at (key_cmp k)) es v ≡ insert_entry key_cmp es k v
+set_inserts k v w [] s h = absurd cc
+set_inserts {X} k v w (e ∷ es) s h =
+    elim (key_cmp k e.0) as (λ o. key_cmp k e.0 ≡ o → Some w ≡ cond (is_eq o) (Some e.1) (lookup (is_at (key_cmp k)) es)
+    → cond (is_eq o) ((e.0, v) ∷ es) (e ∷ set_value (is_at (key_cmp k)) es v) ≡ match_ordering o ((k, v) ∷ e ∷ es) ((e.0, v) ∷ es) (e ∷ insert_entry key_cmp es k v)) [
+      | Less ↦ λ p f. absurd (let none : Some w ≡ None = f ∙ lookup-none (is_at (key_cmp k)) es (none_below_head key_total k e es s p).1 in cc)
+      | Equal ↦ λ p f. refl
+      | Greater ↦ λ p f. ap (λ (l : List (LedgerKey × X)). e ∷ l) (set_inserts k v w es (sorted_tail key_cmp e.0 (keys_of es) s) f)
+    ] refl h
+
+-- ---- maps between two others
+
+-- If each key has an entry of one of two maps under the states, so it has with the first state less.
+pub mixed_less : (g now whole : LedgerMap) (n m : List (LedgerKey × Overlay)) (k : LedgerKey) (b : Overlay) → n ≡ (k, b) ∷ m → lookup (is_at (key_cmp k)) m ≡ None
+    → IsMixed now whole (laid_all g now n) → IsMixed now whole (laid_all g now m)
+mixed_less g now whole n m k b e none h q =
+    elim (order q (ranked_key k)) as (λ o. order q (ranked_key k) ≡ o → laid_entry (get g q) (get now q) (cond (is_eq o) (Some b) (at q m)) ≡ get (laid_all g now n) q
+    → (get (laid_all g now m) q ≡ get now q) ⊎ (get (laid_all g now m) q ≡ get whole q)) [
+      | Less ↦ λ p f. moved f
+      | Equal ↦ λ p f. inl (laid_gets g now m q ∙ ap (laid_entry (get g q) (get now q)) (at_same q (ranked_key k) m p ∙ sym (at_lookup k m) ∙ none))
+      | Greater ↦ λ p f. moved f
+    ] refl (sym (ap (λ (x : List (LedgerKey × Overlay)). get (laid_all g now x) q) e ∙ laid_gets g now ((k, b) ∷ m) q))
+  where
+    moved : laid_entry (get g q) (get now q) (at q m) ≡ get (laid_all g now n) q → (get (laid_all g now m) q ≡ get now q) ⊎ (get (laid_all g now m) q ≡ get whole q)
+    moved f = subst (λ (x : Option Kept). (x ≡ get now q) ⊎ (x ≡ get whole q)) (sym (laid_gets g now m q ∙ f)) (h q)

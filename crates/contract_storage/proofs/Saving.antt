@@ -1,5 +1,5 @@
 -- The states that snapshots save, where the code writes the newest one.
-use Rattle.std.specs.Prelude.{slice_set, slice_index_or, map}
+use Rattle.std.specs.Prelude.{slice_set, slice_index_or}
 use Rattle.std.specs.List.{AllByRecursion}
 use Rattle.std.proofs.Common.{◌≡◌, ℕ, zero, suc, ◌+◌, List, [], ◌∷◌, ◌++◌, length, Result, Ok, Err, OnOk, OnErr, refl, sym, ap, ap₂, subst, ◌∙◌, arith}
 use Rattle.ledger_types.specs.declared.key.LedgerKey.{LedgerKey}
@@ -14,10 +14,6 @@ use Rattle.contract_storage.proofs.Sound.{AreSaved, state_saved}
 pub on_ok : {A B : Type 0} {P Q : Type 0} (r : Result A B) → (P → Q) → OnOk r P → OnOk r Q
 on_ok (Ok x) f h = f h
 on_ok (Err e) f h = tt
-
-pub always : {A B : Type 0} {P : Type 0} (r : Result A B) → P → OnErr r P
-always (Ok x) p = tt
-always (Err e) p = p
 
 pub on_err : {A B : Type 0} {P Q : Type 0} (r : Result A B) → (P → Q) → OnErr r P → OnErr r Q
 on_err (Ok x) f h = tt

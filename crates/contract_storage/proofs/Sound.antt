@@ -12,7 +12,6 @@ use Rattle.ledger_types.specs.Key.{key_format}
 use Rattle.ledger_types.specs.KeyOrder.{ranked_key, key_cmp}
 use Rattle.ledger_types.specs.declared.key.LedgerKey.{LedgerKey}
 use Rattle.ledger_types.proofs.Lemmas.{key_ranked}
-use Rattle.ledger_spec.specs.declared.Kept.{Kept}
 use Rattle.ledger_spec.specs.LedgerMap.{LedgerMap, key_bytes, IsKeptAt, IsLedgerMap}
 use Rattle.ledger_spec.proofs.Lemmas.{kept_at}
 use Rattle.entry_lookup.specs.Found.{kept_of}
@@ -79,10 +78,6 @@ pub all_less : {X : Type 0} (P : X → Type 0) (xs : List X) (x : X) → AllByRe
 all_less P [] x h = (tt, h.0)
 all_less P (y ∷ xs) x h = let r = all_less P xs x h.1 in ((h.0, r.0), r.1)
 
-pub all_more : {X : Type 0} (P : X → Type 0) (xs : List X) (x : X) → AllByRecursion P xs → P x → AllByRecursion P (xs ++ x ∷ [])
-all_more P [] x h p = (p, tt)
-all_more P (y ∷ xs) x h p = (h.0, all_more P xs x h.1 p)
-
 abbrev pub States : Type 0
 States = List (LedgerKey × Overlay)
 
@@ -140,33 +135,29 @@ wrote_here es ss k now o s f kept e =
     }
 
 -- a layer stays sound after a write
-pub wrote_sound : (es fs : States) (ss ts : List States) (k named again : LedgerKey) (now : Option Shared) (c b : Overlay) (o : Option Overlay) → IsSound es ss
-    → key_format.fits k → IfSome now (λ kept. IsKeptAt (key_bytes k) (kept_in kept)) → named ≡ k → again ≡ k → c ≡ overlay_of now → b ≡ or_same o → o ≡ lookup (is_at (key_cmp named)) es
-    → fs ≡ insert_entry key_cmp es named c → ts ≡ with_saved ss (record { key = again; before = b }) → IsSound fs ts
-wrote_sound es fs ss ts k named again now c b o s f kept same_named same is was had e i =
-    let at : o ≡ lookup (is_at (key_cmp k)) es = had ∙ ap (λ (q : LedgerKey). lookup (is_at (key_cmp q)) es) same_named in
-    let entries : fs ≡ insert_entry key_cmp es k (overlay_of now) =
-    e ∙ ap (λ (q : LedgerKey). insert_entry key_cmp es q c) same_named ∙ ap (insert_entry key_cmp es k) is in
-    let saved : ts ≡ with_saved ss (record { key = k; before = or_same o }) =
-    i ∙ ap (λ (q : LedgerKey). with_saved ss (record { key = q; before = b })) same ∙ ap (λ (x : Overlay). with_saved ss (record { key = k; before = x })) was in
+pub wrote_sound : (es fs : States) (ss ts : List States) (k : LedgerKey) (now : Option Shared) (c b : Overlay) → IsSound es ss
+    → key_format.fits k → IfSome now (λ kept. IsKeptAt (key_bytes k) (kept_in kept)) → c ≡ overlay_of now → b ≡ or_same (lookup (is_at (key_cmp k)) es)
+    → fs ≡ insert_entry key_cmp es k c → ts ≡ with_saved ss (record { key = k; before = b }) → IsSound fs ts
+wrote_sound es fs ss ts k now c b s f kept is was e i =
+    let entries : fs ≡ insert_entry key_cmp es k (overlay_of now) = e ∙ ap (insert_entry key_cmp es k) is in
+    let saved : ts ≡ with_saved ss (record { key = k; before = or_same (lookup (is_at (key_cmp k)) es) }) =
+    i ∙ ap (λ (x : Overlay). with_saved ss (record { key = k; before = x })) was in
     subst (λ (x : States). IsSound x ts) (sym entries)
-    (subst (IsSound (insert_entry key_cmp es k (overlay_of now))) (sym saved) (wrote_here es ss k now o s f kept at))
+    (subst (IsSound (insert_entry key_cmp es k (overlay_of now))) (sym saved) (wrote_here es ss k now (lookup (is_at (key_cmp k)) es) s f kept refl))
 
 -- a write whose state could not be saved, and that is undone
-pub undone_sound : (es fs hs : States) (ss : List States) (k named again : LedgerKey) (now : Option Shared) (c b : Overlay) (o : Option Overlay) → IsSound es ss
-    → key_format.fits k → IfSome now (λ kept. IsKeptAt (key_bytes k) (kept_in kept)) → named ≡ k → again ≡ k → c ≡ overlay_of now → b ≡ or_same o → o ≡ lookup (is_at (key_cmp named)) es
-    → fs ≡ insert_entry key_cmp es named c → hs ≡ insert_entry key_cmp fs again b → IsSound hs ss
-undone_sound es fs hs ss k named again now c b o s f kept same_named same is was had e i =
-    let at : o ≡ lookup (is_at (key_cmp k)) es = had ∙ ap (λ (q : LedgerKey). lookup (is_at (key_cmp q)) es) same_named in
-    let entries : fs ≡ insert_entry key_cmp es k (overlay_of now) =
-    e ∙ ap (λ (q : LedgerKey). insert_entry key_cmp es q c) same_named ∙ ap (insert_entry key_cmp es k) is in
-    let back : hs ≡ insert_entry key_cmp fs k (or_same o) =
-    i ∙ ap (λ (q : LedgerKey). insert_entry key_cmp fs q b) same ∙ ap (insert_entry key_cmp fs k) was in
+pub undone_sound : (es fs hs : States) (ss : List States) (k : LedgerKey) (now : Option Shared) (c b : Overlay) → IsSound es ss
+    → key_format.fits k → IfSome now (λ kept. IsKeptAt (key_bytes k) (kept_in kept)) → c ≡ overlay_of now → b ≡ or_same (lookup (is_at (key_cmp k)) es)
+    → fs ≡ insert_entry key_cmp es k c → hs ≡ insert_entry key_cmp fs k b → IsSound hs ss
+undone_sound es fs hs ss k now c b s f kept is was e i =
+    let o = or_same (lookup (is_at (key_cmp k)) es) in
+    let entries : fs ≡ insert_entry key_cmp es k (overlay_of now) = e ∙ ap (insert_entry key_cmp es k) is in
+    let back : hs ≡ insert_entry key_cmp fs k o = i ∙ ap (insert_entry key_cmp fs k) was in
     let laid : AllByRecursion IsLaid fs = subst (AllByRecursion IsLaid) (sym entries) (laid_inserted k (overlay_of now) es (record { fits = f; held = held_now (key_bytes k) now kept }) s.laid) in
     subst (λ (x : States). IsSound x ss) (sym back) (record {
-      laid = laid_inserted k (or_same o) fs (record { fits = f; held = held_before es k o s.laid f at }) laid;
-      saved = saved_over es (insert_entry key_cmp fs k (or_same o)) ss
-          (λ x h. there_still k (or_same o) fs x (subst (λ (ys : States). IsThere ys x) (sym entries) (there_still k (overlay_of now) es x h))) s.saved;
+      laid = laid_inserted k o fs (record { fits = f; held = held_before es k (lookup (is_at (key_cmp k)) es) s.laid f refl }) laid;
+      saved = saved_over es (insert_entry key_cmp fs k o) ss
+          (λ x h. there_still k o fs x (subst (λ (ys : States). IsThere ys x) (sym entries) (there_still k (overlay_of now) es x h))) s.saved;
     })
 
 -- a layer stays sound where overlays were put back
@@ -187,6 +178,3 @@ put_back_laid es fs s t u e is h laid =
 
 pub put_back_there : (es fs : States) (u : Undo) → fs ≡ insert_entry key_cmp es u.key u.before → (e : LedgerKey × Overlay) → IsThere es e → IsThere fs e
 put_back_there es fs u is e h = subst (λ (x : States). IsThere x e) (sym is) (there_still u.key u.before es e h)
-
-pub last_saved : (es s t : States) (u : Undo) → s ≡ t ++ undone u ∷ [] → AreSaved es s → IsThere es (undone u)
-last_saved es s t u e h = (all_less (IsSaved es) t (undone u) (subst (AreSaved es) e h)).1.there

@@ -202,10 +202,6 @@ no_index k (t ∷ ts) e =
       | false ↦ λ h. ap (option_map suc) (no_index k ts h)
     ] e
 
--- the touch at a key's index has its access
-abbrev Has : Touch → List Touch → Touch → LedgerKey → ℕ → Type 0
-Has t ts x k n = x ≡ slice_index_or (t ∷ ts) n x → access_in k (t ∷ ts) ≡ Some x.access
-
 pub access_at : (k : LedgerKey) (ts : List Touch) (i : ℕ) (x : Touch) → index_in k ts ≡ Some i → x ≡ slice_index_or ts i x → access_in k ts ≡ Some x.access
 access_at k [] i x e p = cc
 access_at k (t ∷ ts) i x e p =

@@ -1,7 +1,7 @@
 -- A map of ledger entries under writes that can be undone (own).
-use Rattle.std.specs.Prelude.{ℕ, List, [], ◌∷◌, ◌++◌, Option, Some, None, refl}
+use Rattle.std.specs.Prelude.{◌≡◌, ◌⊎◌, ℕ, List, [], ◌∷◌, ◌++◌, Option, Some, None, refl}
 use Rattle.std.specs.Coded.{Coded, code_by, coded×, coded_list}
-use Rattle.std.specs.FinMap.{insert, remove}
+use Rattle.std.specs.FinMap.{get, insert, remove}
 use Rattle.ledger_spec.specs.declared.Kept.{Kept}
 use Rattle.ledger_spec.specs.LedgerMap.{LedgerMap}
 
@@ -29,3 +29,7 @@ with_write s bytes now = record s { map = set_at s.map bytes now }
 -- the same with one more open snapshot
 abbrev pub with_snapshot : Layered → Layered
 with_snapshot s = record s { snapshots = s.snapshots ++ s.map ∷ [] }
+
+-- each key has in the last map what it has in one of the others
+abbrev pub IsMixed : LedgerMap → LedgerMap → LedgerMap → Type 0
+IsMixed one other mixed = (bytes : List ℕ) → (get mixed bytes ≡ get one bytes) ⊎ (get mixed bytes ≡ get other bytes)

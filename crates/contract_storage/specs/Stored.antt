@@ -5,6 +5,7 @@ use Rattle.ledger_types.specs.declared.key.LedgerKey.{LedgerKey}
 use Rattle.ledger_types.specs.declared.header.Settings.{Settings}
 use Rattle.ledger_spec.specs.LedgerMap.{LedgerMap}
 use Rattle.ledger_spec.specs.LedgerFile.{are_settings}
+use Rattle.contract_storage.specs.Layered.{IsMixed}
 use Rattle.contract_storage.specs.Touched.{Known}
 use Rattle.contract_storage.specs.Watched.{Seen}
 use Rattle.contract_storage.specs.declared.touched.Touch.{Touch}
@@ -120,7 +121,8 @@ pub record IsReleased (old new : Stored) : Type 0 where
   pub same : new ≡ with_snapshots old new
   pub closed : IsClosed old new
 
--- The same if memory ran out: nothing is said of the entries.
+-- The same if memory ran out: the snapshot is closed, and each key has its entry before the call, or that at the snapshot.
 pub record IsHalfReleased (old new : Stored) : Type 0 where
   pub same : new ≡ with_maps old new
   pub closed : IsClosed old new
+  pub mixed : IsMixed old.map closed.0 new.map

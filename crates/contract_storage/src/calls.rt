@@ -61,20 +61,20 @@ impl<'a, G: Ground, W: Watch> Storage<'a, G, W> {
     }
 
     /// Puts an entry at its key.
-    pub fn put(&mut self, key: LedgerKey, entry: LedgerEntry) -> Result<(), StoErr>
-        requires key { key ≡ key_of_entry entry }
+    pub fn put(&mut self, key: &LedgerKey, entry: LedgerEntry) -> Result<(), StoErr>
+        requires key { key.now ≡ key_of_entry entry }
         requires fits { entry_format.fits entry }
         requires hashed { HasCodeHash entry.data }
         ensures { Does (put_act entry) result self.old self.new }
     {
-        if !self.allows(Access::Write, &key) {
+        if !self.allows(Access::Write, key) {
             return Err(StoErr::Undeclared);
         }
-        let Ok(noted) = self.note_key(Access::Write, &key) else {
+        let Ok(noted) = self.note_key(Access::Write, key) else {
             return Err(StoErr::NoMemory);
         };
-        let answer = self.put_allowed(&key, entry);
-        self.ended(noted, Access::Write, &key, answer)
+        let answer = self.put_allowed(key, entry);
+        self.ended(noted, Access::Write, key, answer)
     }
 
     /// Deletes the live entry at a key, if there is one.
@@ -88,30 +88,30 @@ impl<'a, G: Ground, W: Watch> Storage<'a, G, W> {
         let Ok(noted) = self.note_key(Access::Write, key) else {
             return Err(StoErr::NoMemory);
         };
-        let answer = self.del_allowed(key);
-        self.ended(noted, Access::Write, key, answer)
+        let deleted = self.del_allowed(key);
+        self.ended(noted, Access::Write, key, deleted)
     }
 
     /// Makes an entry with a given live-until ledger, unless the key has a live entry. Returns whether it made one.
     pub fn make(
         &mut self,
-        key: LedgerKey,
+        key: &LedgerKey,
         entry: LedgerEntry,
         live_until: u32,
     ) -> Result<bool, StoErr>
-        requires key { key ≡ key_of_entry entry }
+        requires key { key.now ≡ key_of_entry entry }
         requires fits { entry_format.fits entry }
         requires hashed { HasCodeHash entry.data }
         ensures { Does (make_act entry live_until) result self.old self.new }
     {
-        if !self.allows(Access::Write, &key) {
+        if !self.allows(Access::Write, key) {
             return Err(StoErr::Undeclared);
         }
-        let Ok(noted) = self.note_key(Access::Write, &key) else {
+        let Ok(noted) = self.note_key(Access::Write, key) else {
             return Err(StoErr::NoMemory);
         };
-        let answer = self.make_allowed(&key, entry, live_until);
-        self.ended(noted, Access::Write, &key, answer)
+        let answer = self.make_allowed(key, entry, live_until);
+        self.ended(noted, Access::Write, key, answer)
     }
 
     /// Extends the life of a live entry by `extend_to` ledgers from now, if at most `threshold` ledgers are left. A

@@ -1,16 +1,18 @@
 //! Writes over the entries of a ledger, and how to undo them.
 
-ghost use Rattle.std.specs.Prelude.{◌≡◌, ◌≤◌, ◌++◌, OnOk, OnErr, IfOk, IfErr, IfSome, Some, [], ◌∷◌, List, length};
+ghost use Rattle.std.specs.Prelude.{◌≡◌, ◌≤◌, ◌++◌, OnOk, OnErr, IfOk, IfErr, IfSome, Some, None, [], ◌∷◌, List, length};
+ghost use Rattle.std.specs.Prelude.{is_some, false};
 ghost use Rattle.std.specs.List.{AllByRecursion};
 ghost use Rattle.std.specs.Option.{option_map};
 ghost use Rattle.ledger_types.specs.KeyOrder.{key_cmp};
 ghost use Rattle.ledger_types.specs.Key.{key_format};
 ghost use Rattle.ledger_spec.specs.LedgerMap.{find as find_in, key_bytes, IsKeptAt};
 ghost use Rattle.entry_lookup.specs.Found.{kept_of};
-ghost use Rattle.std.specs.BTreeMap.{insert_entry};
+ghost use Rattle.std.specs.BTreeMap.{insert_entry, is_at};
+ghost use Rattle.std.specs.Map.{lookup};
 ghost use Rattle.ledger_spec.specs.LedgerMap.{LedgerMap};
 ghost use Rattle.ledger_types.specs.declared.key.LedgerKey.{LedgerKey as LedgerKey'};
-ghost use Rattle.contract_storage.specs.Layered.{with_snapshot, with_write};
+ghost use Rattle.contract_storage.specs.Layered.{with_snapshot, with_write, IsMixed};
 ghost use Rattle.contract_storage.specs.Overlays.{kept_in, laid_all, over as over_in, overlay_of, or_same, saved_in, undone};
 ghost use Rattle.contract_storage.specs.Overlays.{with_saved, with_state};
 ghost use Rattle.contract_storage.specs.Overlays.{IsLaid, IsSaved, IsThere};
@@ -23,6 +25,7 @@ use ledger_types::{LedgerEntry, LedgerKey};
 use std::alloc::{AllocFailed, Global};
 use std::collections::BTreeMap;
 use std::marker::Model;
+use std::mem::replace;
 use std::rc::Rc;
 use xdr_core::NoMemory;
 
@@ -142,25 +145,19 @@ impl<'a, G: Ground> Layer<'a, G> {
         }
     }
 
-    /// Writes an entry at a key, or removes the entry there. Running out of memory changes nothing.
+    /// Writes an entry at a key, or removes the entry there. It clones the key only for its first write, and for its first write
+    /// since the newest open snapshot. Running out of memory changes nothing.
     pub(crate) fn write(&mut self, key: &LedgerKey, now: Option<Shared>) -> Result<(), NoMemory>
         requires fits { key_format.fits key.now }
         requires kept { IfSome now (λ shared. IsKeptAt (key_bytes key.now) (kept_in shared)) }
         ensures ok { OnOk result (self.new ≡ with_write self.old (key_bytes key.now) (option_map kept_in now)) }
         ensures err { OnErr result (self.new ≡ self.old) }
     {
-        let named = key.clone()?;
-        let again = key.clone()?;
-        let overlay = overlay_of(now);
-        let before = self.over.insert(named, overlay)?;
-        let undo = Undo {
-            key: again,
-            before: or_same(before),
-        };
-        match save(&mut self.saved, undo) {
+        let before = lay(&mut self.over, key, overlay_of(now))?;
+        match save(&mut self.saved, key, before) {
             Ok(()) => Ok(()),
-            Err(undo) => {
-                put_back(&mut self.over, undo);
+            Err(before) => {
+                undo_write(&mut self.over, key, before);
                 Err(NoMemory)
             }
         }
@@ -189,10 +186,11 @@ impl<'a, G: Ground> Layer<'a, G> {
     }
 
     /// Closes the newest open snapshot. The writes since stay, and an older snapshot can undo them. It takes O(log n) time for
-    /// each key that was written since. If memory runs out, some of these keys have their states at the snapshot again.
+    /// each key that was written since. If memory runs out, some of these keys have their entries at the snapshot again.
     pub(crate) fn close(&mut self) -> Result<(), NoMemory>
         requires { 1 ≤ length self.old.snapshots }
-        ensures closed { (map : LedgerMap) × (self.old.snapshots ≡ self.new.snapshots ++ map ∷ []) }
+        ensures closed { (map : LedgerMap) × (self.old.snapshots ≡ self.new.snapshots ++ map ∷ [])
+            × OnErr result (IsMixed self.old.map map self.new.map) }
         ensures map { OnOk result (self.new.map ≡ self.old.map) }
         ensures base { self.new.base ≡ self.old.base }
     {
@@ -231,13 +229,41 @@ fn overlay_of(now: Option<Shared>) -> Overlay
     }
 }
 
-// Returns the state of a key before a write, given its overlay then.
-fn or_same(before: Option<Overlay>) -> Overlay
-    ensures { result ≡ or_same before }
+// Replaces the overlay of a key, and returns the one before. If the key has none, the new one comes back.
+fn replaced(
+    over: &mut BTreeMap<LedgerKey, Overlay>,
+    key: &LedgerKey,
+    overlay: Overlay,
+) -> Result<Overlay, Overlay>
+    ensures before { IfOk result (λ before. Some before ≡ lookup (is_at (key_cmp key.now)) over.old.entries) }
+    ensures ok { OnOk result (over.new.entries ≡ insert_entry key_cmp over.old.entries key.now overlay) }
+    ensures back { IfErr result (λ back. back ≡ overlay) }
+    ensures absent { OnErr result (lookup (is_at (key_cmp key.now)) over.old.entries ≡ None) }
+    ensures stays { OnErr result (over.new.entries ≡ over.old.entries) }
 {
-    match before {
-        None => Overlay::Same,
-        Some(overlay) => overlay,
+    match over.get_mut(key) {
+        Some(place) => Ok(replace(place, overlay)),
+        None => Err(overlay),
+    }
+}
+
+// Gives a key an overlay, and returns the state before. The key is cloned only if it had no overlay.
+fn lay(
+    over: &mut BTreeMap<LedgerKey, Overlay>,
+    key: &LedgerKey,
+    overlay: Overlay,
+) -> Result<Overlay, NoMemory>
+    ensures before { IfOk result (λ before. before ≡ or_same (lookup (is_at (key_cmp key.now)) over.old.entries)) }
+    ensures ok { OnOk result (over.new.entries ≡ insert_entry key_cmp over.old.entries key.now overlay) }
+    ensures stays { OnErr result (over.new.entries ≡ over.old.entries) }
+{
+    match replaced(over, key, overlay) {
+        Ok(before) => Ok(before),
+        Err(overlay) => {
+            let named = key.clone()?;
+            let _none = over.insert(named, overlay)?;
+            Ok(Overlay::Same)
+        }
     }
 }
 
@@ -258,18 +284,54 @@ fn found_of(shared: &Shared) -> Found<'_>
     }
 }
 
+// Undoes a write at once. The key has an overlay, so this takes no memory.
+fn undo_write(over: &mut BTreeMap<LedgerKey, Overlay>, key: &LedgerKey, before: Overlay)
+    requires { IsThere over.old.entries (key.now, before) }
+    ensures { over.new.entries ≡ insert_entry key_cmp over.old.entries key.now before }
+{
+    let written = replaced(over, key, before);
+    drop_overlay(written);
+}
+
+// Drops the overlay that was undone.
+fn drop_overlay(_written: Result<Overlay, Overlay>) {}
+
 // Gives the newest open snapshot the state that a key had before a write, unless it has one of the key. If memory runs out, the
 // state comes back.
-fn save(saved: &mut Vec<Saved>, undo: Undo) -> Result<(), Undo>
-    ensures ok { OnOk result (saved_in saved.new.items ≡ with_saved (saved_in saved.old.items) undo) }
-    ensures err { IfErr result (λ back. back ≡ undo) }
+fn save(saved: &mut Vec<Saved>, key: &LedgerKey, before: Overlay) -> Result<(), Overlay>
+    ensures ok { OnOk result (saved_in saved.new.items
+        ≡ with_saved (saved_in saved.old.items) (record { key = key.now; before = before })) }
+    ensures err { IfErr result (λ back. back ≡ before) }
     ensures stays { OnErr result (saved_in saved.new.items ≡ saved_in saved.old.items) }
 {
     let open = saved.len();
     if open == 0 {
         return Ok(());
     }
-    keep_first(&mut saved[open - 1].states, undo)
+    keep_clone(&mut saved[open - 1].states, key, before)
+}
+
+// Keeps the state of a key, unless there is one of the key. The key is cloned only if its state is kept. If memory runs out, the
+// state comes back.
+fn keep_clone(
+    states: &mut BTreeMap<LedgerKey, Overlay>,
+    key: &LedgerKey,
+    before: Overlay,
+) -> Result<(), Overlay>
+    ensures ok { OnOk result (states.new.entries ≡ with_state states.old.entries (record { key = key.now; before = before })) }
+    ensures err { IfErr result (λ back. back ≡ before) }
+    ensures stays { OnErr result (states.new.entries ≡ states.old.entries) }
+{
+    if states.contains_key(key) {
+        return Ok(());
+    }
+    let Ok(key) = key.clone() else {
+        return Err(before);
+    };
+    match keep(states, Undo { key, before }) {
+        Ok(()) => Ok(()),
+        Err(Undo { before, .. }) => Err(before),
+    }
 }
 
 // Keeps the state of a key, unless there is one of the key. If memory runs out, the state comes back.
@@ -281,6 +343,16 @@ fn keep_first(states: &mut BTreeMap<LedgerKey, Overlay>, undo: Undo) -> Result<(
     if states.contains_key(&undo.key) {
         return Ok(());
     }
+    keep(states, undo)
+}
+
+// Keeps the state of a key that has none. If memory runs out, the state comes back.
+fn keep(states: &mut BTreeMap<LedgerKey, Overlay>, undo: Undo) -> Result<(), Undo>
+    requires { is_some (lookup (is_at (key_cmp undo.key)) states.old.entries) ≡ false }
+    ensures ok { OnOk result (states.new.entries ≡ with_state states.old.entries undo) }
+    ensures err { IfErr result (λ back. back ≡ undo) }
+    ensures stays { OnErr result (states.new.entries ≡ states.old.entries) }
+{
     let Undo { key, before } = undo;
     match states.insert(key, before) {
         Ok(_) => Ok(()),
@@ -305,6 +377,8 @@ fn merge(
     ensures sound { (es : List (LedgerKey' × Overlay')) → AllByRecursion (IsSaved es) older.old.entries
         → AllByRecursion (IsSaved es) newest.old.entries → AllByRecursion (IsSaved es) older.new.entries
         × AllByRecursion (IsSaved es) newest.new.entries × IfErr result (λ undo. IsSaved es (undone undo)) }
+    ensures mixed { IfErr result (λ undo. (base now : LedgerMap)
+        → IsMixed now (laid_all base now newest.old.entries) (laid_all base now (undone undo ∷ newest.new.entries))) }
 {
     while let Some((key, before)) = newest.pop_first() {
         keep_first(older, Undo { key, before })?;

@@ -16,7 +16,7 @@ mod watch;
 
 pub use access::{Access, StoErr};
 pub use changes::Change;
-pub use laws::{later_is_later, release_goes_on, restore_goes_back};
+pub use laws::{half_release_goes_on, later_is_later, release_goes_on, restore_goes_back};
 pub use storage::Storage;
 pub use touched::Touch;
 pub use watch::{End, Met, Moment, NoWatch, Outcome, Watch};

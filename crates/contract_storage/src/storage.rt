@@ -418,8 +418,8 @@ impl<'a, G: Ground, W: Watch> Storage<'a, G, W> {
     }
 
     /// Closes the newest open snapshot, and keeps the writes since, in O(log n) for each key that was written since. An older
-    /// snapshot that is open can still undo them. If memory runs out, the snapshot is closed, and the entries are unspecified;
-    /// older snapshots can still be restored.
+    /// snapshot that is open can still undo them. If memory runs out, the snapshot is closed, and each key has its entry before
+    /// the call, or that at the snapshot. Older snapshots can still be restored.
     pub fn release(&mut self) -> Result<(), NoMemory>
         requires { 1 ≤ length self.old.snapshots }
         ensures ok { OnOk result (IsReleased self.old self.new) }

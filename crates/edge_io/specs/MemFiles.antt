@@ -1,5 +1,6 @@
 -- The content of files in memory, and which of their calls fail (own).
-use Rattle.std.specs.Prelude.{◌≡◌, ℕ, ◌<◌, ◌+◌, ◌-◌, ◌^◌, List, [], Contains, Some, None, slice_index}
+use Rattle.std.specs.Prelude.{◌≡◌, ℕ, ◌<◌, ◌+◌, ◌-◌, ◌^◌, List, [], ◌++◌, length, take, drop, min, Contains, Some, None}
+use Rattle.std.specs.Prelude.{slice_index}
 use Rattle.std.specs.FinMap.{get}
 use Rattle.edge_io.specs.Contents.{Contents}
 use Rattle.edge_io.specs.Counts.{raised}
@@ -37,6 +38,12 @@ FailsNext m = Contains (failing_of m) (calls_of m)
 -- no file has this name
 abbrev pub IsMissing : MemFiles → List ℕ → Type 0
 IsMissing m name = get (files_of m.stored.items) name ≡ None
+
+-- a piece of n bytes: all of the file's bytes from the offset on, as far as the buffer and the size of a piece allow; behind them
+-- the buffer is as before
+pub record CopiesPiece (bytes : List ℕ) (at most : ℕ) (old new : List ℕ) (n : ℕ) : Type 0 where
+  pub count : n ≡ min (length bytes - at) (min (length old) most)
+  pub buffer : new ≡ take n (drop at bytes) ++ drop n old
 
 -- the list of failing calls and the size of a piece stay, and the next call has the next number
 pub record CountsCall (old new : MemFiles) : Type 0 where

@@ -1,10 +1,11 @@
 //! Files in memory.
 
-ghost use Rattle.std.specs.Prelude.{◌≡◌, ℕ, ◌+◌, ◌-◌, ◌<◌, ◌≤◌, ◌^◌, ◌↔◌, [], ◌++◌, Some, None, refl, List, length, take};
+ghost use Rattle.std.specs.Prelude.{◌≡◌, ℕ, ◌+◌, ◌-◌, ◌<◌, ◌≤◌, ◌^◌, ◌↔◌, [], ◌++◌, Some, None, refl, List, length, take, max};
 ghost use Rattle.std.specs.Prelude.{option_map, IfSome, IfOk, IsOk, IsErr, IsErrOf, OnOk, OnErr, ◌⊎◌};
 ghost use Rattle.std.specs.FinMap as map;
-ghost use Rattle.edge_io.specs.Contents.{IsPiece, IsThere, Reads, Stores, put};
+ghost use Rattle.edge_io.specs.Contents.{IsPiece, IsThere, OnContent, Reads, Stores, put};
 ghost use Rattle.edge_io.specs.Counts.{ChangesOnlyCount, OnFailed, RaisesOnly, Rose, UnlessFailed};
+ghost use Rattle.edge_io.specs.MemFiles.{CopiesPiece};
 ghost use Rattle.edge_io.specs.Stored.{files_of};
 
 use crate::turns::{is_listed, raise};
@@ -66,7 +67,7 @@ impl MemFiles {
 
     /// Lets each piece have at most so many bytes, but one in any case.
     pub fn cut(&mut self, most: usize)
-        ensures most { most_of self.new ≡ most - 1 + 1 }
+        ensures most { most_of self.new ≡ max most 1 }
         ensures contents { contents_of self.new ≡ contents_of self.old }
         ensures same { IsSameBesides self.old self.new }
     {
@@ -116,8 +117,9 @@ impl Files for MemFiles {
         ensures kept { OnOk result ((k : ℕ) → faults_of self.new k ≡ faults_of self.old k) }
         ensures counted { CountsCall self.old self.new }
 
-        // A piece has at most as many bytes as `cut` lets it have.
-        ensures cut { IfOk result (λ n. n ≤ most_of self.old) }
+        // A piece has all bytes from the offset on that fit into the buffer, but at most as many as `cut` lets it have.
+        ensures copied { IfOk result (λ n. OnContent (contents_of self.old) name.now (λ bytes.
+            CopiesPiece bytes at (most_of self.old) buf.old buf.new n)) }
     {
         if is_listed(&mut self.calls, &self.failing) {
             raise(&mut self.counts, file);
@@ -176,8 +178,8 @@ fn find_bytes<'a>(stored: &'a [Stored], name: &Word) -> Option<&'a [u8]>
 /// Copies the bytes from an offset, as many as fit but at most so many beyond the first, and returns their number.
 fn copy_from(bytes: &[u8], at: usize, beyond: usize, buf: &mut [u8]) -> usize
     ensures within { result ≤ length buf.new }
-    ensures cut { result ≤ beyond + 1 }
     ensures piece { IsPiece bytes.now at buf.new result }
+    ensures copied { CopiesPiece bytes.now at (beyond + 1) buf.old buf.new result }
 {
     if at >= bytes.len() {
         return 0;

@@ -284,17 +284,6 @@ rows_after rows count sorted each full counted few = record {
   counted = counted;
 }
 
--- rows whose entries are the same
-pub rows_same : (rows others : Rows) (count : ℕ) → AreRows rows count → pairs_of (joined others) ≡ pairs_of (joined rows) → AllByRecursion HasEntry others → AreRows others count
-rows_same rows others count is e full = record {
-  entries = subst AreEntries (sym e) is.entries;
-  full = full;
-  counted = omega (arith, is.counted, length_pairs (joined rows), length_pairs (joined others), ap length e);
-}
-
-pub map_same : (rows others : Rows) → pairs_of (joined others) ≡ pairs_of (joined rows) → map_of (joined others) ≡ map_of (joined rows)
-map_same rows others e = ap (λ (ps : List Pair). map_from ps) e
-
 -- ---- the last key
 
 less_from : (o : Ordering) → is_lt o ≡ true → o ≡ Less

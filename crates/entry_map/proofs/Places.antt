@@ -76,10 +76,6 @@ nothing_after (r ∷ []) zero e = ap (λ (s : List Boxed). s ++ []) (drop_length
 nothing_after (r ∷ s ∷ rows) zero e = absurd (omega arith)
 nothing_after (r ∷ rows) (suc i) e = nothing_after rows i (omega arith)
 
-pub no_rows : (rows : Rows) → length rows ≤ 0 → rows ≡ []
-no_rows [] e = refl
-no_rows (r ∷ rows) e = absurd (omega arith)
-
 -- ---- a row that changes
 
 -- one row is another list, which differs from it between two indices
@@ -103,11 +99,6 @@ pub full_set : (rows : Rows) (i : ℕ) (row : List Boxed) → AllByRecursion Has
 full_set [] i row f h = tt
 full_set (r ∷ rows) zero row f h = (h, f.1)
 full_set (r ∷ rows) (suc i) row f h = (f.0, full_set rows i row f.1 h)
-
-pub full_at : (rows : Rows) (i : ℕ) → AllByRecursion HasEntry rows → i < length rows → HasEntry (get_or rows i [])
-full_at [] i f lt = absurd (omega arith)
-full_at (r ∷ rows) zero f lt = f.0
-full_at (r ∷ rows) (suc i) f lt = full_at rows i f.1 (omega arith)
 
 pub full_back : (rows : Rows) (i : ℕ) → AllByRecursion HasEntry (remove rows i) → HasEntry (get_or rows i []) → i < length rows → AllByRecursion HasEntry rows
 full_back [] i f h lt = tt

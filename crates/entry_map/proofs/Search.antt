@@ -7,7 +7,7 @@ use Rattle.std.specs.Ordering.{is_lt}
 use Rattle.std.proofs.Common.{◌≡◌, ℕ, zero, suc, get_or, take, drop, ◌+◌, ◌-◌, ◌<◌, ◌≤◌, true, false, List, [], ◌∷◌, ◌++◌, length, Some, refl, sym, ap, subst, ◌∙◌, append_assoc, arith}
 use Rattle.std.proofs.lemmas.List.{append-nil, take-append-drop}
 use Rattle.entry_map.specs.Entries.{Boxed, own_key, pairs_of, AreSorted}
-use Rattle.entry_map.specs.Rows.{joined, before, after, ends_below, HasEntry, AreBelow, AreAbove, IsFoundIn, IsGapIn, IsFoundAt, IsGapAt}
+use Rattle.entry_map.specs.Rows.{joined, before, after, ends_below, HasEntry, AreBelow, AreAbove, IsGapIn, IsGapAt}
 use Rattle.entry_map.proofs.Sorted.{order, all_append, sorted_left, sorted_right, high_side, with_below, with_above, through_not_less}
 use Rattle.entry_map.proofs.Places.{Rows, joined_split, drop_cons, take_snoc, before_start, before_from, after_from, after_end, plus_one}
 
@@ -92,24 +92,12 @@ pub index_high : (q : List ℕ) (row : List Boxed) (i : ℕ) (d : Boxed) → i <
 index_high q row i d lt s greater =
     subst (AreAbove q) (sym (drop_cons row i d lt)) (with_above q (take i row) (get_or row i d) (drop (suc i) row) (middle_sorted row i d lt s) greater)
 
-drop_all : (row : List Boxed) (i : ℕ) → length row ≤ i → drop i row ≡ []
-drop_all [] zero le = refl
-drop_all [] (suc i) le = refl
-drop_all (x ∷ row) zero le = absurd (omega arith)
-drop_all (x ∷ row) (suc i) le = drop_all row i (omega arith)
-
-pub all_above_end : (q : List ℕ) (row : List Boxed) (i : ℕ) → length row ≤ i → AreAbove q (drop i row)
-all_above_end q row i le = subst (AreAbove q) (sym (drop_all row i le)) tt
-
 -- ---- a place in rows
 
 pub row_sorted : (rows : Rows) (i : ℕ) → i < length rows → AreSorted (pairs_of (joined rows)) → AreSorted (pairs_of (get_or rows i []))
 row_sorted [] i lt s = absurd (omega arith)
 row_sorted (r ∷ rows) zero lt s = sorted_left r (joined rows) s
 row_sorted (r ∷ rows) (suc i) lt s = row_sorted rows i (omega arith) (sorted_right r (joined rows) s)
-
-pub placed_entry : (q : List ℕ) (rows : Rows) (i k : ℕ) → i < length rows → IsFoundIn q (get_or rows i []) k → IsFoundAt q rows (record { row = i; index = k })
-placed_entry q rows i k lt found = record { place = record { row = lt; index = found.within }; same = found.same }
 
 pub placed_gap : (q : List ℕ) (rows : Rows) (i k : ℕ) → i < length rows → AreBelow q (before rows i 0) → AreAbove q (after rows (suc i) 0) → IsGapIn q (get_or rows i []) k
     → IsGapAt q rows (record { row = i; index = k })
@@ -120,12 +108,3 @@ placed_gap q rows i k lt low high gap = record {
   above = subst (AreAbove q) (sym (after_from rows i k lt))
       (all_append (λ (e : Boxed). order q (own_key e) ≡ Less) (drop k (get_or rows i [])) (after rows (suc i) 0) gap.above high);
 }
-
-gap_of_none : (q : List ℕ) (i : ℕ) → IsGapAt q [] (record { row = i; index = 0 })
-gap_of_none q i = record { gap = record { row = λ some. absurd (omega arith); index = omega arith }; below = tt; above = tt }
-
-pub placed_nowhere : (q : List ℕ) (rows : Rows) (i : ℕ) → length rows ≤ i → (0 < length rows → i < length rows) → IsGapAt q rows (record { row = i; index = 0 })
-placed_nowhere q [] i le within = gap_of_none q i
-placed_nowhere q (r ∷ rows) i le within =
-    let lt : i < length (r ∷ rows) = within (omega arith) in
-    absurd (omega arith)

@@ -78,9 +78,6 @@ module _ {V : Type 0} (files files2 : Contents) (f g : ℕ → ℕ) (steady stea
   same_option : option2 ≡ option
   same_option = ap (λ (k : Unchanged). k.option) left.0
 
-  same_name : name2 ≡ name
-  same_name = ap (λ (k : Unchanged). k.name) left.0
-
   same_start : start2 ≡ f option
   same_start = ap (λ (k : Unchanged). k.start) left.0 ∙ starts
 

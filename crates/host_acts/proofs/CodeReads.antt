@@ -8,7 +8,6 @@ use Rattle.ledger_types.specs.declared.entry.LedgerEntry.{LedgerEntry}
 use Rattle.ledger_spec.specs.LedgerMap.{LedgerMap}
 use Rattle.ledger_spec.specs.Seen.{Seen, live, absent, archived, seen}
 use Rattle.host_spec.specs.declared.error.HostErr.{HostErr}
-use Rattle.host_spec.specs.declared.error.HostErr.TheVariants as ends
 use Rattle.contract_storage.specs.Stored.{Stored}
 use Rattle.contract_storage.specs.Touched.{admits}
 use Rattle.contract_storage.specs.Acts.{Left, Reads, get_act, got}

@@ -9,7 +9,6 @@ use Rattle.ledger_spec.specs.LedgerMap.{LedgerMap, key_bytes}
 use Rattle.ledger_spec.specs.Seen.{Seen, live, absent, archived, seen}
 use Rattle.ledger_spec.specs.Changes.{delete_seen, asked_life, extend_seen, extend_live, backward}
 use Rattle.ledger_spec.specs.declared.Kept.{Kept}
-use Rattle.call_spec.specs.Maps.{set_at}
 use Rattle.host_spec.specs.declared.error.HostErr.{HostErr}
 use Rattle.host_spec.specs.declared.error.HostErr.TheVariants as ends
 use Rattle.host_spec.specs.Answers.{Answer, value}
@@ -18,20 +17,16 @@ use Rattle.value_types.specs.declared.hash.Hash.{Hash}
 use Rattle.ledger_types.specs.declared.durability.Durability.{Durability}
 use Rattle.host_frame.specs.Answered.{answer_of}
 use Rattle.host_frame.specs.declared.answer.Answer.{Answer as Answer'}
-use Rattle.contract_storage.specs.Layered.{set_at as set_at'}
 use Rattle.contract_storage.specs.Stored.{Stored, IsRead, with_touched}
 use Rattle.contract_storage.specs.Touched.{Known, admits, noted}
-use Rattle.contract_storage.specs.Footprint.{declares}
 use Rattle.contract_storage.specs.Acts.{Call, Left, Does, Reads, left, noting, has_act, had, get_act, got, del_act, changed, extend_act, extended, refusal}
 use Rattle.contract_storage.specs.declared.access.Access.TheVariants as kinds
 use Rattle.contract_storage.specs.declared.access.StoErr.{StoErr}
 use Rattle.contract_storage.specs.declared.access.StoErr.TheVariants as err
-use Rattle.call_spec.specs.Footprint.{Footprint}
 use Rattle.call_spec.specs.World.{AccessKind, Read, Extend, Write, Access, World, Env, made_seq}
 use Rattle.call_spec.specs.Errors.{NO_ENTRY, INVALID_STORAGE_INPUT}
 use Rattle.call_spec.specs.Acts.{Act, Out, Good, Bad, Archived, Undeclared, fails, with_frame}
 use Rattle.call_spec.specs.Accesses.{Effect, access, access_of, judged, by_seen, noted as noted', effected}
-use Rattle.call_spec.specs.Footprints.{by_footprint}
 use Rattle.call_spec.specs.Outcomes.{Leaves, Says, quiet, trace_of}
 use Rattle.call_spec.specs.Keys.{data_key}
 use Rattle.call_spec.specs.Rules.{nothing}
@@ -41,19 +36,6 @@ use Rattle.host_acts.specs.Served.{Serves}
 use Rattle.host_acts.proofs.Composing.{later_read}
 use Rattle.host_acts.proofs.Tracing.{retold, tells_access, tells_still, afterwards}
 use Rattle.host_acts.specs.Accessed.{end_of, named, Accesses, Pays, opens}
-
--- ---- the definitions that stand twice
-
--- A write of a map at a key is the same in both crates.
-pub same_set : (map : LedgerMap) (key : LedgerKey) (now : Option Kept) → set_at' map (key_bytes key) now ≡ set_at map key now
-same_set map key None = refl
-same_set map key (Some kept) = refl
-
--- What two lists declare is the judge of their footprint.
-pub same_judge : (footprint : Footprint) (kind : AccessKind) (key : LedgerKey) → declares footprint.read_only footprint.read_write (kind_of kind) key ≡ by_footprint footprint kind (key_bytes key)
-same_judge footprint Read key = refl
-same_judge footprint Extend key = refl
-same_judge footprint Write key = refl
 
 -- ---- answers for results
 

@@ -144,10 +144,10 @@ paid_spent q size before after h e is w map j =
 
 -- ---- the calls of the program
 
-pub put_refused_at : (e : StoErr) (entry : LedgerEntry) (key again : LedgerKey) (x : HostErr) (old new : Stored) (meter : Meter) → key ≡ key_of entry → again ≡ key → x ≡ end_of again e → entry_format.fits entry
+pub put_refused_at : (e : StoErr) (entry : LedgerEntry) (key : LedgerKey) (x : HostErr) (old new : Stored) (meter : Meter) → key ≡ key_of entry → x ≡ end_of key e → entry_format.fits entry
     → Does (put_act entry) (Err e) old new → (let none : Result Answer' HostErr = Err x in Pays none (λ env. access env Write key (puts env entry nothing)) old new meter meter)
-put_refused_at e entry key again x old new meter k same is fits h =
-    subst (λ (y : HostErr). let none : Result Answer' HostErr = Err y in Pays none (λ env. access env Write key (puts env entry nothing)) old new meter meter) (sym (is ∙ ap (λ (a : LedgerKey). end_of a e) (same ∙ k)))
+put_refused_at e entry key x old new meter k is fits h =
+    subst (λ (y : HostErr). let none : Result Answer' HostErr = Err y in Pays none (λ env. access env Write key (puts env entry nothing)) old new meter meter) (sym (is ∙ ap (λ (a : LedgerKey). end_of a e) k))
     (subst (λ (at : LedgerKey). let none : Result Answer' HostErr = Err (end_of (key_of entry) e) in Pays none (λ env. access env Write at (puts env entry nothing)) old new meter meter) (sym k)
     (put_refused e entry old new meter (key_of_fits entry fits) h))
 

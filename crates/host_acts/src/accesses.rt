@@ -19,7 +19,7 @@ ghost use Rattle.host_acts.specs.Accessed.{Accesses, Pays, opens, end_of};
 ghost use Rattle.host_acts.specs.Spelled.{IsKeySpelled};
 
 use crate::errors::NO_ENTRY;
-use crate::values::{clone_key, clone_value};
+use crate::values::clone_value;
 use budget_meter::{Budget, Kind};
 use contract_storage::{StoErr, Storage, Watch};
 use entry_lookup::Ground;
@@ -187,9 +187,8 @@ pub(crate) fn put<G: Ground, W: Watch>(
     ensures key { IfErr result IsKeySpelled }
 {
     let size = size_of(&entry);
-    let again = clone_key(&key)?;
-    match storage.put(key, entry) {
+    match storage.put(&key, entry) {
         Ok(()) => paid(budget, size),
-        Err(error) => Err(end_of(again, error)),
+        Err(error) => Err(end_of(key, error)),
     }
 }

@@ -22,7 +22,7 @@ ghost use Rattle.host_acts.specs.Spelled.{IsKeySpelled};
 
 use crate::accesses::{del, extend, is_backward, put};
 use crate::errors::INVALID_STORAGE_INPUT;
-use crate::keys::{data_key, hold_contract};
+use crate::keys::data_key;
 use crate::values::clone_value;
 use budget_meter::Budget;
 use contract_storage::{Storage, Watch};
@@ -30,7 +30,7 @@ use entry_lookup::Ground;
 use host_frame::Answer;
 use host_spec::{HostErr, ValueErr};
 use ledger_types::{ContractDataEntry, Durability, LedgerEntry, LedgerEntryData};
-use value_types::{Hash, ScAddress, ScVal};
+use value_types::{Hash, ScAddress, ScVal, contract_fits};
 
 /// The entry of a contract's data.
 #[tactic(auto, using(crate::proofs::DataKeys::same_scval, crate::proofs::DataKeys::data_entry_fits))]
@@ -48,7 +48,7 @@ fn data_entry(
     ensures hashed { IfOk result (λ e. HasCodeHash e.data) }
     ensures memory { IfErr result (λ e. e ≡ errs.NoMemory) }
 {
-    hold_contract(contract);
+    contract_fits(contract);
     let key = clone_value(key)?;
     let val = clone_value(val)?;
     Ok(LedgerEntry {

@@ -16,14 +16,13 @@ ghost use Rattle.host_acts.specs.Answered.{IsMadeIfOk};
 ghost use Rattle.host_acts.specs.Spelled.{IsKeySpelled};
 
 use crate::event_list::Events;
-use crate::keys::hold_hash;
 use crate::values::{clone_value, clone_values};
 use budget_meter::{Budget, Kind};
 use host_frame::{Answer, charge};
 use host_spec::{HostErr, ValueErr};
 use invoke_types::{ContractEvent, ContractEventType};
 use std::alloc::Global;
-use value_types::{Blob, Hash, Items, ScVal, ScVals};
+use value_types::{Blob, Hash, Items, ScVal, ScVals, hash_fits};
 use value_xdr::Xdr;
 
 /// Makes an event of a contract.
@@ -40,7 +39,7 @@ pub fn event_of(
     ensures fits { IfOk result (λ e. event_format.fits e) }
     ensures memory { IfErr result (λ e. e ≡ errs.NoMemory) }
 {
-    hold_hash(contract);
+    hash_fits(contract);
     let topics = clone_values(alloc, topics)?;
     let data = clone_value(content)?;
     Ok(ContractEvent {
@@ -130,9 +129,9 @@ pub fn emit_update(
     ensures later { (more : List _) × (events.new ≡ events.old ++ more) }
     ensures key { IfErr result IsKeySpelled }
 {
-    hold_hash(contract);
-    hold_hash(old);
-    hold_hash(new);
+    hash_fits(contract);
+    hash_fits(old);
+    hash_fits(new);
     let event = update_event(alloc, contract, old, new)?;
     emit(events, budget, event)
 }

@@ -20,13 +20,12 @@ ghost use Rattle.host_acts.specs.Answered.{IsMadeIfOk};
 ghost use Rattle.host_acts.specs.Spelled.{IsKeySpelled};
 
 use crate::errors::OTHER_SIZE;
-use crate::keys::hold_hash;
 use budget_meter::{Budget, Kind};
 use host_frame::{Answer, charge};
 use host_spec::{HostErr, ValueErr};
 use invoke_types::{Preimage, contract_id, contract_id_lengths};
 use std::alloc::Global;
-use value_types::{Hash, ScAddress, ScVal};
+use value_types::{Hash, ScAddress, ScVal, hash_fits};
 
 /// The hash with these bytes, if there are 32.
 pub fn hash_of(bytes: &[u8]) -> Result<Hash, HostErr>
@@ -47,11 +46,11 @@ fn hold_address(address: ScAddress)
     ensures { address_format.fits address }
 {
     match address {
-        ScAddress::Account(account) => hold_hash(account.0),
-        ScAddress::Contract(hash) => hold_hash(hash),
-        ScAddress::MuxedAccount { ed25519, .. } => hold_hash(ed25519),
-        ScAddress::ClaimableBalance(hash) => hold_hash(hash),
-        ScAddress::LiquidityPool(hash) => hold_hash(hash),
+        ScAddress::Account(account) => hash_fits(account.0),
+        ScAddress::Contract(hash) => hash_fits(hash),
+        ScAddress::MuxedAccount { ed25519, .. } => hash_fits(ed25519),
+        ScAddress::ClaimableBalance(hash) => hash_fits(hash),
+        ScAddress::LiquidityPool(hash) => hash_fits(hash),
     }
 }
 
@@ -61,16 +60,16 @@ fn payload_size(network: Hash, deployer: ScAddress, salt: Hash) -> u64
     requires { as_plain deployer ≡ Some deployer }
     ensures { result ≡ length (contract_id_payload network (Preimage.FromAddress deployer salt)) }
 {
-    hold_hash(network);
-    hold_hash(salt);
+    hash_fits(network);
+    hash_fits(salt);
     contract_id_lengths();
     match deployer {
         ScAddress::Account(account) => {
-            hold_hash(account.0);
+            hash_fits(account.0);
             112
         }
         ScAddress::Contract(hash) => {
-            hold_hash(hash);
+            hash_fits(hash);
             108
         }
         _ => unreachable!(),
@@ -100,7 +99,7 @@ fn id_answer(
     ensures memory { IfErr result (λ e. e ≡ errs.NoMemory) }
 {
     hold_address(deployer);
-    hold_hash(salt);
+    hash_fits(salt);
     let preimage = Preimage::FromAddress {
         address: deployer,
         salt,

@@ -1,33 +1,15 @@
 //! The keys of what a contract has in the ledger.
 
 ghost use Rattle.std.specs.Prelude.{◌≡◌, IfOk, IfErr};
-ghost use Rattle.value_types.specs.Hash.{hash_format};
 ghost use Rattle.value_types.specs.Views.{datum};
 ghost use Rattle.host_spec.specs.Hosted.{IsHosted};
 ghost use Rattle.host_spec.specs.declared.error.ValueErr.TheVariants as errs;
 ghost use Rattle.ledger_types.specs.Key.{key_format};
 ghost use Rattle.call_spec.specs.Keys.{data_key as data_key_at, instance_key as instance_key_of, code_key as code_key_of};
-ghost use Rattle.value_types.specs.Address.{address_format};
 
 use host_spec::ValueErr;
 use ledger_types::{Durability, LedgerKey};
-use value_types::{Hash, ScAddress, ScVal};
-
-/// Says that a hash has a spelling.
-#[tactic(auto, unfolding(value_types::specs::Hash::hash_format))]
-pub(crate) fn hold_hash(hash: Hash)
-    ensures { hash_format.fits hash }
-{
-    let _ = hash;
-}
-
-/// Says that the address of a contract has a spelling.
-#[tactic(auto, unfolding(value_types::specs::Address::address_format, value_types::specs::Hash::hash_format))]
-pub(crate) fn hold_contract(contract: Hash)
-    ensures { address_format.fits (ScAddress.Contract contract) }
-{
-    let _ = contract;
-}
+use value_types::{Hash, ScAddress, ScVal, contract_fits, hash_fits};
 
 /// The key of a contract's data.
 #[tactic(auto, using(crate::proofs::DataKeys::same_scval, crate::proofs::DataKeys::data_key_fits))]
@@ -37,7 +19,7 @@ pub fn data_key(contract: Hash, key: &ScVal, durability: Durability) -> Result<L
     ensures fits { IfOk result (λ k. key_format.fits k) }
     ensures memory { IfErr result (λ e. e ≡ errs.NoMemory) }
 {
-    hold_contract(contract);
+    contract_fits(contract);
     let key = key.clone()?;
     Ok(LedgerKey::ContractData {
         contract: ScAddress::Contract(contract),
@@ -52,7 +34,7 @@ pub fn instance_key(contract: Hash) -> LedgerKey
     ensures key { result ≡ instance_key_of contract }
     ensures fits { key_format.fits result }
 {
-    hold_contract(contract);
+    contract_fits(contract);
     LedgerKey::ContractData {
         contract: ScAddress::Contract(contract),
         key: ScVal::LedgerKeyContractInstance,
@@ -66,6 +48,6 @@ pub fn code_key(code: Hash) -> LedgerKey
     ensures key { result ≡ code_key_of code }
     ensures fits { key_format.fits result }
 {
-    hold_hash(code);
+    hash_fits(code);
     LedgerKey::ContractCode(code)
 }

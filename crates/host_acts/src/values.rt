@@ -1,10 +1,9 @@
-//! Values and keys cloned.
+//! Values cloned.
 
 ghost use Rattle.std.specs.Prelude.{◌≡◌, IfOk, IfErr};
 ghost use Rattle.host_spec.specs.declared.error.ValueErr.TheVariants as errs;
 
 use host_spec::ValueErr;
-use ledger_types::LedgerKey;
 use std::alloc::Global;
 use value_types::ScVal;
 
@@ -22,12 +21,4 @@ pub fn clone_values(alloc: Global, values: &[ScVal]) -> Result<Vec<ScVal>, Value
     ensures memory { IfErr result (λ e. e ≡ errs.NoMemory) }
 {
     Ok(values.to_vec(alloc)?)
-}
-
-/// Clones a key. Its only error is memory.
-pub(crate) fn clone_key(key: &LedgerKey) -> Result<LedgerKey, ValueErr>
-    ensures ok { IfOk result (λ k. k ≡ key.now) }
-    ensures memory { IfErr result (λ e. e ≡ errs.NoMemory) }
-{
-    Ok(key.clone()?)
 }

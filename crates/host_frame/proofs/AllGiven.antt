@@ -1,12 +1,9 @@
 -- Laws of words that are given one after another.
-use Rattle.std.proofs.Common.{◌≡◌, ℕ, zero, suc, ◌+◌, ◌<◌, ◌≤◌, List, [], ◌∷◌, ◌++◌, length, get_or, drop, Ok, Err, refl, sym, subst, ap, ◌∙◌, arith, append_assoc}
-use Rattle.std.specs.Prelude.{Result, IsErrAnd}
+use Rattle.std.proofs.Common.{◌≡◌, ℕ, zero, suc, ◌+◌, ◌<◌, ◌≤◌, List, [], ◌∷◌, ◌++◌, length, get_or, drop, refl, sym, ap, ◌∙◌, arith, append_assoc}
 use Rattle.value_types.specs.Datum.{Datum}
 use Rattle.value_types.specs.Views.{datum, datums}
 use Rattle.value_types.specs.declared.value.ScVal.{ScVal}
-use Rattle.host_spec.specs.declared.error.ValueErr.{ValueErr}
-use Rattle.host_spec.specs.declared.error.ValueErr.TheVariants as errs
-use Rattle.host_spec.specs.Acts.{State, Out, Good, Failed, Spent, Act, then_do, gives, Says}
+use Rattle.host_spec.specs.Acts.{State, Out, Good, Failed, Spent, Act, then_do, gives}
 use Rattle.host_spec.specs.Answers.{value, given}
 use Rattle.host_spec.specs.VecRows.{all_given}
 
@@ -17,20 +14,6 @@ given_after words ds w = then_do (all_given ds w) (λ more. gives (words ++ more
 -- one more word after some words
 abbrev pub given_next : List ℕ → Datum → Act (List ℕ)
 given_next words d w = then_do (given (value d) w) (λ word. gives (words ++ word ∷ []))
-
-pub none_before : (ds : List Datum) (w : State) → all_given ds w ≡ given_after [] ds w
-none_before ds w = same (all_given ds w) where
-  same : (x : Out (List ℕ)) → x ≡ then_do x (λ more. gives ([] ++ more))
-  same (Good ws u) = refl
-  same (Failed e u) = refl
-  same (Spent u) = refl
-
-append_none : (words : List ℕ) → words ++ [] ≡ words
-append_none [] = refl
-append_none (x ∷ words) = ap (λ (y : List ℕ). x ∷ y) (append_none words)
-
-pub none_left : (words : List ℕ) (w : State) → given_after words [] w ≡ Good words w
-none_left words w = rw (append_none words) refl
 
 regrouped : (words : List ℕ) (word : ℕ) (y : Out (List ℕ)) → then_do (then_do y (λ more. gives (word ∷ more))) (λ more. gives (words ++ more)) ≡ then_do y (λ more. gives ((words ++ word ∷ []) ++ more))
 regrouped words word (Good ws u) = ap (λ (z : List ℕ). Good z u) (sym (append_assoc words (word ∷ []) ws))
@@ -49,26 +32,6 @@ next_good words new ds (Spent v) u h = absurd cc
 -- a word that is given is before the words that are left
 pub after_next : (words new : List ℕ) (d : Datum) (ds : List Datum) (w u : State) → given_next words d w ≡ Good new u → given_after words (d ∷ ds) w ≡ given_after new ds u
 after_next words new d ds w u h = next_good words new ds (given (value d) w) u h
-
-next_failed : (words : List ℕ) (ds : List Datum) (x : Out ℕ) (u : State) (e : ValueErr) (A B : Type 0) (f : A → List ℕ) (g : B → List ℕ)
-    → (let q : Result A ValueErr = Err e in Says q f (then_do x (λ word. gives (words ++ word ∷ []))) u)
-    → let r : Result B ValueErr = Err e in Says r g (then_do (then_do x (λ word v. then_do (all_given ds v) (λ more. gives (word ∷ more)))) (λ more. gives (words ++ more))) u
-next_failed words ds (Good word v) u (errs.Failed e) A B f g h = absurd cc
-next_failed words ds (Good word v) u errs.Spent A B f g h = absurd cc
-next_failed words ds (Good word v) u errs.NoMemory A B f g h = tt
-next_failed words ds (Failed x v) u (errs.Failed e) A B f g h = cc
-next_failed words ds (Failed x v) u errs.Spent A B f g h = absurd cc
-next_failed words ds (Failed x v) u errs.NoMemory A B f g h = tt
-next_failed words ds (Spent v) u (errs.Failed e) A B f g h = absurd cc
-next_failed words ds (Spent v) u errs.Spent A B f g h = cc
-next_failed words ds (Spent v) u errs.NoMemory A B f g h = tt
-
--- what ends a word ends all that are left
-pub ends_next : {A B : Type 0} (f : A → List ℕ) (g : B → List ℕ) (words : List ℕ) (d : Datum) (ds : List Datum) (w u : State) (r : Result B ValueErr) (e : ValueErr)
-    → IsErrAnd r (λ y. y ≡ e) → (let q : Result A ValueErr = Err e in Says q f (given_next words d w) u) → Says r g (given_after words (d ∷ ds) w) u
-ends_next f g words d ds w u (Ok b) e h k = absurd h
-ends_next {A} {B} f g words d ds w u (Err y) e h k =
-    subst (λ (z : ValueErr). let r : Result B ValueErr = Err z in Says r g (given_after words (d ∷ ds) w) u) (sym h) (next_failed words ds (given (value d) w) u e A B f g k)
 
 -- the value at an index, and those after it
 pub left_at : (vs : List ScVal) (i j : ℕ) (v : ScVal) → j ≡ i + 1 → i < length vs → v ≡ get_or vs i v → datums (drop i vs) ≡ datum v ∷ datums (drop j vs)

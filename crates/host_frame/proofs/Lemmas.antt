@@ -1,5 +1,5 @@
 -- The lemmas that other crates cite.
-pub use Rattle.host_frame.proofs.Acting.{capped_is, charged_good, charged_spent, shown_too_large, then_exit}
+pub use Rattle.host_frame.proofs.Acting.{charged_good, charged_spent, shown_too_large, then_exit}
 pub use Rattle.host_frame.proofs.Decoding.{entered_hosted, spelled_bounded, spelled_shallow}
 pub use Rattle.host_frame.proofs.Fitting.{few_spelled, hosted_fits, shallow_fits, spelled_bytes}
 pub use Rattle.host_frame.proofs.KeyLaws.{between, first_of, greater_than, key_made, less_of, second_of, val_made, value_gap}

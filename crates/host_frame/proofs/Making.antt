@@ -334,9 +334,6 @@ few_values vs h = let few = few_items (datums vs) h in omega (arith, few, datums
 pub values_are_made : (vs : List ScVal) → IsHosted (vec (items_of (datums vs))) → AreMade (datums vs)
 values_are_made vs h = items_made (datums vs) h.made
 
-pub entries_are_made : (es : List Entry) → IsHosted (map_datum (members_of (datum_pairs es))) → ArePairsMade (datum_pairs es)
-entries_are_made es h = members_made (datum_pairs es) h.made
-
 -- the item at an index
 pub item_made : (vs : List ScVal) (i : ℕ) (v : ScVal) → AreMade (datums vs) → i < length vs → v ≡ get_or vs i v → IsMade (datum v)
 item_made [] i v a lt is = absurd (omega arith)

@@ -7,7 +7,6 @@ ghost use Rattle.value_types.specs.Datum.{string as string_datum, symbol as symb
 ghost use Rattle.host_spec.specs.Answers.{value as given_value, object as given_object};
 ghost use Rattle.host_spec.specs.Hosted.{IsMade, is_symbol};
 ghost use Rattle.host_spec.specs.Words.{object_tag};
-ghost use Rattle.xdr_spec.specs.Format.{IsBytes};
 ghost use Rattle.value_xdr.specs.Bytes.{IsBounded};
 ghost use Rattle.tagged_val.specs.Scalars.{is_scalar};
 ghost use Rattle.host_frame.specs.Answered.{answer_of};
@@ -15,13 +14,7 @@ ghost use Rattle.host_frame.specs.Made.{IsAnswerMade, AreMade};
 
 use crate::answer::Answer;
 use value_types::{Blob, Entries, Entry, ScVal, ScVals};
-
-/// Says that what a slice holds are bytes.
-fn hold_bytes(slice: &[u8])
-    ensures { IsBytes slice.now }
-{
-    let _ = slice;
-}
+use value_xdr::hold_bytes;
 
 impl Answer {
     /// Answers void.

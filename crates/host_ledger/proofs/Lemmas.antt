@@ -5,4 +5,3 @@ pub use Rattle.host_acts.proofs.Lemmas.{noted_still, put_done, put_spelled, put_
 pub use Rattle.host_acts.proofs.Lemmas.{retold, same_declared, same_map, serves_later, since, tells_access, tells_equal}
 pub use Rattle.host_acts.proofs.Lemmas.{tells_still, touched_after}
 pub use Rattle.host_ledger.proofs.Rows.{row}
-pub use Rattle.host_ledger.proofs.Steps.{ready_after}

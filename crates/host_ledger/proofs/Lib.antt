@@ -4,5 +4,4 @@ mod Naming
 mod Rows
 mod Stepping
 mod Steps
-mod Storing
 mod Updating

@@ -30,10 +30,7 @@ row r ks rule words shown old s m c e runs made later held = record {
     storage = later;
     events = ([], grind (arith, common_steps));
     objects = refl;
-    shown = refl;
-    contract = refl;
-    caller = refl;
-    code = refl;
+    frame = refl;
     copy = held;
   };
 }

@@ -5,27 +5,25 @@ use Rattle.host_interface.specs.declared.import.HostImport.{HostImport}
 use Rattle.host_interface.specs.declared.kinds.ArgKind.{ArgKind}
 use Rattle.host_spec.specs.Acts as values
 use Rattle.host_spec.specs.Answers.{given}
-use Rattle.host_spec.specs.Ends.{host_end}
 use Rattle.host_spec.specs.Indices.{arguments_of}
 use Rattle.host_spec.specs.ValueFunctions.{value_function}
 use Rattle.host_spec.specs.declared.error.HostErr.{HostErr}
-use Rattle.host_spec.specs.declared.error.ValueErr.{ValueErr}
-use Rattle.host_spec.specs.declared.error.ValueErr.TheVariants as errs
 use Rattle.object_store.specs.Shown.{AreIndices}
 use Rattle.host_frame.specs.Answered.{answer_of}
 use Rattle.host_frame.specs.declared.answer.Answer.{Answer as Answer'}
 use Rattle.contract_storage.specs.Stored.{Stored, HasBounds, IsLater}
 use Rattle.call_spec.specs.World.{Access, World, Env, next_seq}
-use Rattle.call_spec.specs.Acts.{lift, lifted, with_state}
+use Rattle.call_spec.specs.Acts.{lift}
 use Rattle.call_spec.specs.Frames.{Opener}
 use Rattle.call_spec.specs.HostFunctions.{world_rule, either}
 use Rattle.call_spec.specs.Outcomes.{Leaves, quiet, Says}
 use Rattle.host_acts.specs.Traced.{Tells, leaving}
 use Rattle.call_spec.specs.Rules.{Rule, answered, call_of}
-use Rattle.host_ledger.specs.Worlds.{IsHeld, world_at, IsReady, Stays, Shows}
+use Rattle.host_ledger.specs.Worlds.{IsHeld, world_at, at_start, IsReady, Stays, Shows}
 use Rattle.host_ledger.specs.Answered.{Answers}
 use Rattle.host_ledger.specs.Called.{Calls, Left}
 use Rattle.host_ledger.specs.Rows.{SaysBy, AnswersRow}
+use Rattle.host_ledger.specs.declared.state.Frame.{Frame}
 use Rattle.host_ledger.specs.declared.state.HostLedger.{HostLedger}
 use Rattle.host_acts.proofs.Lemmas.{afterwards, ends_then, goes_then}
 
@@ -76,23 +74,6 @@ just_four (a ∷ b ∷ c ∷ d ∷ e ∷ ws) h k = absurd (omega arith)
 pub answers_as : {G V : Type 0} (r : Result Answer' HostErr) (i : HostImport) (ws vs : List ℕ) (old new : HostLedger G V) → ws ≡ vs → AnswersRow r i vs old new → AnswersRow r i ws old new
 answers_as r i ws vs old new e h = subst (λ (x : List ℕ). AnswersRow r i x old new) (sym e) h
 
--- ---- what is shown
-
--- a call over values that returned, as an act that is lifted
-pub lift_ok : (n : ℕ) (out : values.Out ℕ) (s : values.State) (w : World) → (let r : Result ℕ ValueErr = Ok n in values.Says r (λ n. n) out s)
-    → let q : Result ℕ HostErr = Ok n in Says q (λ n. n) (lifted w out) (quiet w (λ trace. record (with_state s w) { trace = trace }))
-lift_ok n out s w h =
-    subst (λ (o : values.Out ℕ). let q : Result ℕ HostErr = Ok n in Says q (λ n. n) (lifted w o) (quiet w (λ trace. record (with_state s w) { trace = trace }))) (sym h) (refl, refl)
-
--- a call over values that ended otherwise
-pub lift_err : (e : ValueErr) (out : values.Out ℕ) (s : values.State) (w : World) → (let r : Result ℕ ValueErr = Err e in values.Says r (λ n. n) out s)
-    → let q : Result ℕ HostErr = Err (host_end e) in Says q (λ n. n) (lifted w out) (quiet w (λ trace. record (with_state s w) { trace = trace }))
-lift_err (errs.Failed x) out s w h =
-    subst (λ (o : values.Out ℕ). let q : Result ℕ HostErr = Err (host_end (errs.Failed x)) in Says q (λ n. n) (lifted w o) (quiet w (λ trace. record (with_state s w) { trace = trace }))) (sym h) (refl, refl)
-lift_err errs.Spent out s w h =
-    subst (λ (o : values.Out ℕ). let q : Result ℕ HostErr = Err (host_end errs.Spent) in Says q (λ n. n) (lifted w o) (quiet w (λ trace. record (with_state s w) { trace = trace }))) (sym h) (refl, refl, refl, refl)
-lift_err errs.NoMemory out s w h = tt
-
 -- ---- calls
 
 row_ends : (ks : List ArgKind) (o : Option (Rule ks)) (other : Option (List ℕ → values.Act ℕ)) (words : List ℕ) (w : World) (left : Leaves) (e : HostErr)
@@ -111,7 +92,7 @@ ready_after old new ready stays = record {
   bounds = subst (λ (h : _). HasBounds (next_seq h) h.settings) (sym stays.header) ready.bounds;
   number = ap (λ (s : Stored). s.n) stays.storage ∙ ready.number ∙ ap next_seq (sym stays.header);
   lives = ap (λ (s : Stored). s.lives) stays.storage ∙ ready.lives ∙ ap (λ (h : _). h.settings) (sym stays.header);
-  indices = subst (λ (o : _). AreIndices o new.frame.shown) (sym stays.objects) (subst (λ (p : _). AreIndices old.objects p) (sym stays.shown) ready.indices);
+  indices = subst (λ (o : _). AreIndices o new.frame.shown) (sym stays.objects) (subst (λ (f : Frame). AreIndices old.objects f.shown) (sym stays.frame) ready.indices);
   copy = stays.copy ready.copy;
 }
 
@@ -120,9 +101,7 @@ left_after old new stays = record {
   header = stays.header;
   storage = stays.storage;
   events = stays.events;
-  contract = stays.contract;
-  caller = stays.caller;
-  code = stays.code;
+  frame = ap at_start stays.frame;
 }
 
 -- a function that ends without an answer, and the call of it
@@ -141,7 +120,7 @@ ready_shown old new ready shows indices = record {
   number = ap (λ (s : Stored). s.n) shows.storage ∙ ready.number ∙ ap next_seq (sym shows.header);
   lives = ap (λ (s : Stored). s.lives) shows.storage ∙ ready.lives ∙ ap (λ (h : _). h.settings) (sym shows.header);
   indices = indices;
-  copy = subst (λ (c : _). IsHeld c.storage) (sym shows.copy) ready.copy;
+  copy = subst (λ (f : Frame). IsHeld f.copy.storage) (sym shows.frame) ready.copy;
 }
 
 left_shown : {G V : Type 0} (old middle new : HostLedger G V) → Left old middle → Shows middle new → Left old new
@@ -149,9 +128,7 @@ left_shown old middle new left shows = record {
   header = shows.header ∙ left.header;
   storage = subst (λ (s : Stored). IsLater old.storage s) (sym shows.storage) left.storage;
   events = (left.events.0, shows.events ∙ left.events.1);
-  contract = shows.contract ∙ left.contract;
-  caller = shows.caller ∙ left.caller;
-  code = shows.code ∙ left.code;
+  frame = ap at_start shows.frame ∙ left.frame;
 }
 
 -- a function that answers, and the word of its answer

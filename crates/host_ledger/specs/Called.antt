@@ -9,7 +9,7 @@ use Rattle.call_spec.specs.World.{Access, World, Env}
 use Rattle.call_spec.specs.Frames.{Opener}
 use Rattle.call_spec.specs.HostFunctions.{host_function}
 use Rattle.call_spec.specs.Outcomes.{Says}
-use Rattle.host_ledger.specs.Worlds.{world_at, IsEnv, IsReady}
+use Rattle.host_ledger.specs.Worlds.{world_at, at_start, IsEnv, IsReady}
 use Rattle.host_acts.specs.Traced.{leaving}
 use Rattle.host_ledger.specs.declared.state.HostLedger.{HostLedger}
 
@@ -44,14 +44,12 @@ abbrev pub IsNamedCall : Option HostImport → List ℕ → Type 0
 IsNamedCall None words = ⊥
 IsNamedCall (Some i) words = IsLedgerCall i words
 
--- What a call leaves: writes and events were only added, and the frame is still the frame of this contract.
+-- What a call leaves: writes and events were only added, and the frame is the one that started so.
 pub record Left {G V : Type 0} (old new : HostLedger G V) : Type 0 where
   pub header : new.header.now ≡ old.header.now
   pub storage : IsLater old.storage new.storage
   pub events : (more : List _) × (new.events ≡ old.events ++ more)
-  pub contract : new.frame.contract ≡ old.frame.contract
-  pub caller : new.frame.caller ≡ old.frame.caller
-  pub code : new.frame.code ≡ old.frame.code
+  pub frame : at_start new.frame ≡ at_start old.frame
 
 -- A call does what the function does with these words, in each environment and world of the state, whatever its accesses were so
 -- far.

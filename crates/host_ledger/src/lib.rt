@@ -4,8 +4,8 @@
 //!
 //! `HostLedger` has what a transaction's run changes: storage, events, budget and values, and the running frame. `world_at` shows
 //! it as a world of call_spec. What the state does not hold is left open and quantified: the accesses so far, the authorisations
-//! that were used, the open contracts, and the frame's other fields (its function and arguments, path and linear memory). `IsEnv`
-//! says which environments fit the state: those with its header that its storage serves (`Serves` of host_acts).
+//! that were used, the open contracts, and the frame's linear memory. `IsEnv` says which environments fit the state: those with
+//! its header that its storage serves (`Serves` of host_acts).
 //!
 //! How a row is written
 //!
@@ -58,5 +58,5 @@ pub use host_acts::{Events, clone_values, code_key, end_of, instance_key, size_o
 pub use ids::get_contract_id;
 pub use instance::extend_current_contract_instance_and_code_ttl;
 pub use instance_storage::InstanceStorage;
-pub use state::{HostLedger, InstanceCopy, Running};
+pub use state::{Frame, HostLedger, InstanceCopy};
 pub use updates::update_current_contract_wasm;

@@ -1,9 +1,9 @@
 -- The size and the depth of an instance after a put.
-use Rattle.std.proofs.Common.{◌≡◌, ℕ, zero, suc, ◌+◌, ◌-◌, ◌<◌, ◌≤◌, max, min, Bool, true, false, ◌&&◌, nat_le, List, [], ◌∷◌, length, ◌++◌, slice_index_or, refl, sym, ap, subst, arith, length-append, ◌∙◌}
+use Rattle.std.proofs.Common.{◌≡◌, ℕ, zero, suc, ◌+◌, ◌-◌, ◌<◌, ◌≤◌, max, Bool, true, ◌&&◌, nat_le, List, [], ◌∷◌, length, ◌++◌, slice_index_or, refl, sym, ap, arith, length-append, ◌∙◌}
 use Rattle.std.specs.List.{insert, remove}
 use Rattle.std.proofs.Math.ListN.{set}
 use Rattle.std.proofs.lemmas.Bool.Decides.{nat_tests}
-use Rattle.value_types.specs.Datum.{Datum, map, members_of}
+use Rattle.value_types.specs.Datum.{map, members_of}
 use Rattle.value_types.specs.Depth.{depth_of, members_depth}
 use Rattle.value_types.specs.Executable.{executable_format, type_format}
 use Rattle.value_types.specs.Hash.{hash_format}

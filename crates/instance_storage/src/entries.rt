@@ -4,7 +4,6 @@ ghost use Rattle.std.specs.Prelude.{◌≡◌, ◌<◌, ◌≤◌, ◌+◌, ◌&
 ghost use Rattle.std.specs.List.{insert, remove};
 ghost use Rattle.value_types.specs.Datum.{members_of, map};
 ghost use Rattle.value_types.specs.Depth.{depth_of};
-ghost use Rattle.value_types.specs.Hash.{hash_format};
 ghost use Rattle.value_types.specs.Views.{datum, datum_pair};
 ghost use Rattle.xdr_core.specs.Sizes.{capped};
 ghost use Rattle.host_spec.specs.Hosted.{IsHosted, IsMade};
@@ -16,14 +15,6 @@ use xdr_core::add_sizes;
 
 /// The bytes of the XDR of an instance that does not count its entries.
 pub(crate) const INSTANCE_BYTES: u64 = 48;
-
-/// Says that a hash has a spelling.
-#[tactic(auto, unfolding(value_types::specs::Hash::hash_format))]
-pub(crate) fn hold_hash(hash: Hash)
-    ensures { hash_format.fits hash }
-{
-    let _ = hash;
-}
 
 /// The bytes of the XDR of entries of this size with one more entry, or `u64::MAX` if there are more.
 #[tactic(auto, using(crate::proofs::Measuring::grown_is), unfolding(host_spec::specs::Hosted::size_of))]

@@ -9,13 +9,11 @@ ghost use Rattle.host_spec.specs.MapRows.{value_at as value_in, without};
 ghost use Rattle.host_frame.specs.KeyIndex.{IsThere, IsGap};
 ghost use Rattle.instance_storage.specs.Held.{IsHeld, members_size, Puts, PutsIn};
 
-use crate::entries::{
-    grown, hold_hash, insert_at, is_within_limits, overwrite, remove_at, size_at,
-};
+use crate::entries::{grown, insert_at, is_within_limits, overwrite, remove_at, size_at};
 use host_frame::{index_of, size_of};
 use std::alloc::{AllocError, Global};
 use std::marker::Model;
-use value_types::{Entries, Entry, Hash, ScVal};
+use value_types::{Entries, Entry, Hash, ScVal, hash_fits};
 
 /// Instance storage: null, or entries whose keys rise. Contracts see it as an option of a list of pairs.
 #[derive(Drop)]
@@ -89,7 +87,7 @@ fn put_over(
     requires val { IsMade (datum entry.val) }
     ensures { PutsIn result code (datum entry.key) (datum entry.val) entries }
 {
-    hold_hash(code);
+    hash_fits(code);
     let size = grown(size - size_at(&entries, index), &entry);
     if !is_within_limits(size, &entry) {
         return Err((entries, Unput::TooLarge));
@@ -116,7 +114,7 @@ fn put_between(
     requires val { IsMade (datum entry.val) }
     ensures { PutsIn result code (datum entry.key) (datum entry.val) entries }
 {
-    hold_hash(code);
+    hash_fits(code);
     let size = grown(size, &entry);
     if !is_within_limits(size, &entry) {
         return Err((entries, Unput::TooLarge));

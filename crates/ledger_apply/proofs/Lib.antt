@@ -1,22 +1,2 @@
-mod Back
-mod Besides
 mod Crosses
-mod Cutting
-mod Firsts
-mod Jobs
-mod Lasting
-mod Leading
-pub mod Lemmas
-mod Lists
-mod Merging
-mod Moved
-mod Noting
-mod Raising
-mod Searching
-mod SidesListed
-mod Spelling
-mod Staging
 mod Steps
-mod Telling
-mod Waiting
-mod Written

@@ -5,8 +5,8 @@ use Rattle.stage_runs.specs.Transactions.{Envelope, Effect, Step}
 use Rattle.stage_runs.specs.declared.Extension.{Extension}
 use Rattle.stage_runs.specs.Runs.{RunState, after, is_written, put_all_in, run_transaction}
 use Rattle.ledger_parts.specs.Shown.{shown_step}
-use Rattle.ledger_apply.specs.State.{running_in}
-use Rattle.ledger_apply.specs.declared.running.ClusterRun.{ClusterRun}
+use Rattle.set_steps.specs.State.{running_in}
+use Rattle.set_steps.specs.declared.running.ClusterRun.{ClusterRun}
 
 -- The pending extensions of written keys were put in, and the effect is that on what is shown then.
 pub one_run : (step : Step) (shown : LedgerMap → LedgerMap) (tx : Envelope) (own now seen : LedgerMap) (running : ClusterRun) (pending : List Extension) (effect : Effect)

@@ -1,15 +1,4 @@
-pub mod Reports
-pub mod Pending
-pub mod State
-pub mod Spelled
-pub mod Stages
 pub mod Refused
 pub mod Final
-pub mod Job
-pub mod Search
-pub mod Logged
-pub mod LoggedLists
-pub mod Lives
-pub mod Sides
 pub use Rattle.tx_apply.specs.Done
 pub use Rattle.tx_apply.specs.contracts.envelope.TxDone

@@ -6,18 +6,16 @@ ghost use Rattle.stage_runs.specs.Runs.{run_all as run_all_in, run_cluster as ru
 ghost use Rattle.apply_spec.specs.Enforced.{enforced};
 ghost use Rattle.ledger_parts.specs.Notes.{noted_in, shown_note};
 ghost use Rattle.ledger_parts.specs.Shown.{shown_step};
-ghost use Rattle.ledger_apply.specs.LoggedLists.{written_sides, AddsLists};
-ghost use Rattle.ledger_apply.specs.State.{running_in, done_in, IsKeyed};
-ghost use Rattle.ledger_apply.specs.Spelled.{AreEnvelopes};
+ghost use Rattle.set_steps.specs.LoggedLists.{written_sides, AddsLists};
+ghost use Rattle.set_steps.specs.State.{running_in, done_in, IsKeyed};
+ghost use Rattle.set_steps.specs.Spelled.{AreEnvelopes};
 
-use crate::pending::Pending;
-use crate::reports::Reports;
-use crate::running::{ClusterDone, ClusterRun};
 use crate::step::run_next;
 use change_log::Changes;
 use code_cache::Cache;
 use ledger_parts::Entries;
 use ledger_types::{Header, Verdicts};
+use set_steps::{ClusterDone, ClusterRun, Pending, Reports};
 use std::alloc::Global;
 use tx_xdr::Envelope;
 use xdr_core::NoMemory;

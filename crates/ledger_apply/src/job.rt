@@ -3,34 +3,22 @@
 ghost use Rattle.std.specs.Prelude.{IfOk, IsTrue};
 ghost use Rattle.ledger_spec.specs.LedgerFile.{are_settings, has_next};
 ghost use Rattle.apply_spec.specs.Enforced.{enforced};
-ghost use Rattle.ledger_apply.specs.State.{done_in, IsKeyed};
-ghost use Rattle.ledger_apply.specs.Spelled.{AreEnvelopes};
-ghost use Rattle.ledger_apply.specs.Job.{IsRun, IsRunOn};
+ghost use Rattle.set_steps.specs.State.{done_in, IsKeyed};
+ghost use Rattle.set_steps.specs.Spelled.{AreEnvelopes};
+ghost use Rattle.set_steps.specs.Job.{IsRun, IsRunOn};
 
 use crate::cluster::run_cluster;
-use crate::moving::read_keys_of;
-use crate::running::ClusterDone;
 use change_log::Changes;
 use code_cache::Cache;
 use edge_io::Gate;
 use entry_map::EntryMap;
 use ledger_parts::{OnPart, Part};
 use ledger_types::{Header, Verdicts};
+use set_steps::{ClusterDone, Job, read_keys_of};
 use std::alloc::Global;
 use tx_xdr::Envelope;
 use worker_runs::Work;
 use xdr_core::NoMemory;
-
-/// A cluster with the entries that it declares read-write, and room for what it leaves.
-#[derive(Drop)]
-pub struct Job<'a> {
-    pub envelopes: &'a [Envelope],
-    pub own: EntryMap,
-    /// `Err(NoMemory)` until the cluster has run, and if memory ran out in its run.
-    pub done: Result<ClusterDone, NoMemory>,
-    /// What each of its transactions changed, if a log is kept.
-    pub log: Vec<Changes>,
-}
 
 /// What the workers of a stage share: the entries that no cluster of the stage declares read-write, the codes among them, what
 /// all transactions run under, the gate, the index of the stage in its set, and whether a log is kept.

@@ -1,6 +1,6 @@
 //! Applies transaction sets.
 
-ghost use Rattle.std.specs.Prelude.{◌≡◌, ◌≤◌, ◌<◌, ◌^◌, ◌++◌, true, false, All, Ok, IfOk, IfErr, OnOk, IsTrue, length, map};
+ghost use Rattle.std.specs.Prelude.{◌≡◌, ◌≤◌, true, false, All, Ok, IfOk, IfErr, OnOk, IsTrue, length, map};
 ghost use Rattle.std.specs.List.{AllByRecursion};
 ghost use Rattle.xdr_spec.specs.Format.{optional};
 ghost use Rattle.invoke_types.specs.Success.{success_format};
@@ -18,34 +18,28 @@ ghost use Rattle.change_log.specs.Play.{played};
 ghost use Rattle.apply_spec.specs.Enforced.{enforced};
 ghost use Rattle.apply_spec.specs.Outputs.{results_of, preimages_of};
 ghost use Rattle.apply_spec.specs.Runs.{run_set, new_header};
-ghost use Rattle.ledger_apply.specs.Logged.{logged_over, logged_set};
-ghost use Rattle.ledger_apply.specs.LoggedLists.{written_sides, list_if, AreStageLogs, IsStageLog};
-ghost use Rattle.ledger_apply.specs.State.{between};
-ghost use Rattle.ledger_apply.specs.Stages.{stage_of, clusters_of, IsSpelled};
-ghost use Rattle.ledger_apply.specs.Final.{run_stages_over};
+ghost use Rattle.set_steps.specs.Logged.{logged_set};
+ghost use Rattle.set_steps.specs.LoggedLists.{written_sides, AreStageLogs, IsStageLog};
+ghost use Rattle.set_steps.specs.State.{between};
+ghost use Rattle.set_steps.specs.Stages.{stage_of, clusters_of, IsSpelled};
+ghost use Rattle.ledger_apply.specs.Final.{IsApplied, IsLogged, CanBeWritten};
 ghost use Rattle.ledger_apply.specs.Refused.{IsConflictUnlessMemory};
 
-use crate::conflict::first_conflict;
 use crate::error::ApplyErr;
-use crate::reports::Reports;
 use crate::stage::{run_component, run_stage};
-use crate::stages::{SetStage, stages_of};
-use crate::workers::Workers;
 use change_log::{Log, LoggedStage};
 use edge_io::Gate;
 use entry_map::EntryMap;
 use invoke_types::SuccessPreimage;
 use ledger_file::Ledger;
 use ledger_types::{Header, Verdicts};
+use set_steps::{Reports, SetStage, Workers, first_conflict, log_of, push_stage, stages_of};
 use std::alloc::Global;
 use std::thread::Threads;
 use tx_results::ResultSet;
 use tx_xdr::TxSet;
 use value_types::Items;
 use xdr_core::NoMemory;
-
-/// As many stages as a log can hold.
-const MOST_STAGES: usize = 4_294_967_295;
 
 /// The ledger after a set, and the results and success preimages in the set's order.
 #[derive(Drop)]
@@ -96,19 +90,6 @@ fn run_one<R: Threads + Sync, T: Gate + Sync>(
     }
 }
 
-/// Adds the log of a stage, if there is one.
-fn push_stage(log: &mut Vec<LoggedStage>, stage: Option<LoggedStage>) -> Result<(), NoMemory>
-    ensures { OnOk result (log.new.items ≡ log.old.items ++ list_if stage) }
-{
-    match stage {
-        None => Ok(()),
-        Some(stage) => {
-            log.push(stage)?;
-            Ok(())
-        }
-    }
-}
-
 /// Runs stages in their order. Returns their logs, if a log is kept.
 fn run_stages<R: Threads + Sync, T: Gate + Sync>(
     workers: &Workers<'_, R, T>,
@@ -140,31 +121,19 @@ fn run_stages<R: Threads + Sync, T: Gate + Sync>(
     Ok(log)
 }
 
-/// Puts a log together. A log of more than 2^32 - 1 stages is out of memory.
-fn log_of(
-    old_seq: u32,
-    old_close_time: u64,
-    new_close_time: u64,
-    stages: Vec<LoggedStage>,
-) -> Result<Log, NoMemory>
-    ensures log { IfOk result (λ log. log ≡ record {
-      old_seq = old_seq;
-      old_close_time = old_close_time;
-      new_close_time = new_close_time;
-      stages = stages.items;
-    }) }
-    ensures few { IfOk result (λ _. length stages.items < 2 ^ 32) }
-    ensures numbers { (old_seq < 2 ^ 32) × (old_close_time < 2 ^ 64) × (new_close_time < 2 ^ 64) }
+/// Puts together what a set makes of a ledger. `header` is that of the new ledger. It takes no memory.
+fn applied_of(header: Header, entries: EntryMap, reports: Reports) -> Applied
+    ensures ledger { result.ledger ≡ record { header = header; entries = entries } }
+    ensures results { result.results.pairs ≡ map (λ r. r.result) reports }
+    ensures successes { result.successes ≡ map (λ r. r.success) reports }
+    ensures written { CanBeWritten result }
 {
-    if stages.len() > MOST_STAGES {
-        return Err(NoMemory);
+    let (results, successes) = reports.into_parts();
+    Applied {
+        ledger: Ledger { header, entries },
+        results,
+        successes,
     }
-    Ok(Log {
-        old_seq,
-        old_close_time,
-        new_close_time,
-        stages: Items::from_vec(stages),
-    })
 }
 
 /// Runs the stages of a set over a ledger, and makes the new ledger's header and the log. The log has no stages if none is kept.
@@ -180,25 +149,10 @@ fn run_on<R: Threads + Sync, T: Gate + Sync>(
     requires settings { IsTrue (are_settings ledger.header.settings) }
     requires next { IsTrue (has_next ledger.header) }
     requires free { AllByRecursion HasNoConflict (clusters_of stages.now) }
-    ensures header { IfOk result (λ a. a.0.ledger.header ≡ new_header ledger.header close_time) }
-    ensures entries { IfOk result (λ a. a.0.ledger.entries ≡ (run_stages_over ledger.header verdicts.now ledger.entries
-        (clusters_of stages.now) close_time).entries) }
-    ensures results { IfOk result (λ a. a.0.results.pairs ≡ results_of
-        (run_stages_over ledger.header verdicts.now ledger.entries (clusters_of stages.now) close_time)) }
-    ensures successes { IfOk result (λ a. a.0.successes ≡ preimages_of
-        (run_stages_over ledger.header verdicts.now ledger.entries (clusters_of stages.now) close_time)) }
-    ensures spelled { IfOk result (λ a. result_set_format.fits a.0.results) }
-    ensures successes_spelled { IfOk result (λ a. All (λ s. (optional success_format).fits s) a.0.successes) }
-    ensures each { IfOk result (λ a. length a.0.successes ≡ length a.0.results.pairs) }
-    ensures preimages { IfOk result (λ a. HavePreimages a.0.results.pairs a.0.successes) }
-
-    // What is known of a log, if one is kept.
-    ensures log { IfOk result (λ a. workers.now.logs ≡ true
-        → a.1 ≡ logged_over ledger.header verdicts.now ledger.entries (clusters_of stages.now) close_time) }
-    ensures log_spelled { IfOk result (λ a. log_format.fits a.1) }
+    ensures applied { IfOk result (λ a. IsApplied ledger verdicts.now (clusters_of stages.now) close_time a.0) }
+    ensures written { IfOk result (λ a. CanBeWritten a.0) }
     ensures map { IfOk result (λ a. IsLedgerMap a.0.ledger.entries) }
-    ensures forwards { IfOk result (λ a. workers.now.logs ≡ true
-        → played false a.1 ledger.header ledger.entries ≡ Ok (a.0.ledger.header, a.0.ledger.entries)) }
+    ensures log { IfOk result (λ a. IsLogged workers.now.logs ledger verdicts.now (clusters_of stages.now) close_time a.0 a.1) }
 {
     let Ledger {
         header,
@@ -221,18 +175,11 @@ fn run_on<R: Threads + Sync, T: Gate + Sync>(
     // What is known of `entries` as a map of a ledger comes from a call.
     let _count = entries.len();
     let log = log_of(header.seq, header.close_time, close_time, logged)?;
-    let (results, successes) = reports.into_parts();
-    let applied = Applied {
-        ledger: Ledger {
-            header: Header {
-                seq: header.seq + 1,
-                ..running
-            },
-            entries,
-        },
-        results,
-        successes,
+    let made = Header {
+        seq: header.seq + 1,
+        ..running
     };
+    let applied = applied_of(made, entries, reports);
     Ok((applied, log))
 }
 
@@ -257,26 +204,11 @@ fn apply_with<'a, R: Threads + Sync, T: Gate + Sync>(
     ensures conflict { IfErr result (IsConflictUnlessMemory (map clusters_in (stages_of_set set.now)) ledger) }
     ensures free { IfOk result (λ _. AllByRecursion HasNoConflict (map clusters_in (stages_of_set set.now))) }
 
-    ensures header { IfOk result (λ a. a.0.ledger.header ≡ new_header ledger.header close_time) }
-    ensures entries { IfOk result (λ a. a.0.ledger.entries
-        ≡ (run_set ledger.header verdicts.now ledger.entries set.now close_time).entries) }
-    ensures results { IfOk result (λ a. a.0.results.pairs ≡ results_of
-        (run_set ledger.header verdicts.now ledger.entries set.now close_time)) }
-    ensures successes { IfOk result (λ a. a.0.successes ≡ preimages_of
-        (run_set ledger.header verdicts.now ledger.entries set.now close_time)) }
-
-    // The results and the success preimages can be written.
-    ensures spelled { IfOk result (λ a. result_set_format.fits a.0.results) }
-    ensures successes_spelled { IfOk result (λ a. All (λ s. (optional success_format).fits s) a.0.successes) }
-    ensures each { IfOk result (λ a. length a.0.successes ≡ length a.0.results.pairs) }
-    ensures preimages { IfOk result (λ a. HavePreimages a.0.results.pairs a.0.successes) }
-
-    // What is known of a log, if one is kept.
-    ensures log { IfOk result (λ a. logs ≡ true → a.1 ≡ logged_set ledger.header verdicts.now ledger.entries set.now close_time) }
-    ensures log_spelled { IfOk result (λ a. log_format.fits a.1) }
+    ensures applied { IfOk result (λ a. IsApplied ledger verdicts.now (map clusters_in (stages_of_set set.now)) close_time a.0) }
+    ensures written { IfOk result (λ a. CanBeWritten a.0) }
     ensures map { IfOk result (λ a. IsLedgerMap a.0.ledger.entries) }
-    ensures forwards { IfOk result (λ a. logs ≡ true
-        → played false a.1 ledger.header ledger.entries ≡ Ok (a.0.ledger.header, a.0.ledger.entries)) }
+    ensures log { IfOk result (λ a. IsLogged logs ledger verdicts.now (map clusters_in (stages_of_set set.now)) close_time
+        a.0 a.1) }
 {
     let stages = stages_of(alloc, set)?;
     let workers = Workers {

@@ -1,54 +1,27 @@
 //! Runs one transaction in its cluster.
 
-ghost use Rattle.std.specs.Prelude.{◌≡◌, ◌∷◌, [], not, IfOk, OnOk, IsTrue, filter};
+ghost use Rattle.std.specs.Prelude.{◌≡◌, ◌∷◌, [], IfOk, OnOk, IsTrue};
 ghost use Rattle.ledger_spec.specs.LedgerFile.{are_settings, has_next};
 ghost use Rattle.tx_xdr.specs.Envelope.{envelope_format};
-ghost use Rattle.stage_runs.specs.Runs.{after as after_in, is_written, put_all_in, run_transaction as run_transaction_in};
+ghost use Rattle.stage_runs.specs.Runs.{after as after_in, run_transaction as run_transaction_in};
 ghost use Rattle.apply_spec.specs.Enforced.{enforced};
 ghost use Rattle.tx_apply.specs.Done.{effect_of, IsWithin};
 ghost use Rattle.ledger_parts.specs.Notes.{shown_note};
 ghost use Rattle.ledger_parts.specs.Shown.{shown_step};
-ghost use Rattle.ledger_apply.specs.Lives.{AreKeyed, AreLives};
-ghost use Rattle.ledger_apply.specs.LoggedLists.{written_sides, AddsLists};
-ghost use Rattle.ledger_apply.specs.Sides.{AddsList, IsMade};
-ghost use Rattle.ledger_apply.specs.State.{running_in};
+ghost use Rattle.set_steps.specs.Lives.{AreKeyed};
+ghost use Rattle.set_steps.specs.LoggedLists.{written_sides, AddsLists};
+ghost use Rattle.set_steps.specs.Sides.{AddsList, IsMade};
+ghost use Rattle.set_steps.specs.State.{running_in};
 
-use crate::entries::change_all;
-use crate::lives::Life;
-use crate::pending::Pending;
-use crate::running::ClusterRun;
-use crate::sides::changes_log;
 use change_log::Changes;
 use code_cache::Cache;
 use ledger_parts::Entries;
 use ledger_types::{Header, Verdicts};
+use set_steps::{ClusterRun, Life, change_all, changes_log, put_written};
 use std::alloc::Global;
-use tx_apply::{TxDone, enforce, read_write_of};
+use tx_apply::{TxDone, enforce};
 use tx_xdr::Envelope;
 use xdr_core::NoMemory;
-
-/// Puts in the pending extensions of the keys that a transaction declares read-write. Returns the lives before, where there were
-/// any.
-fn put_written<E: Entries>(
-    alloc: Global,
-    entries: &mut E,
-    pending: &mut Pending,
-    envelope: &Envelope,
-) -> Result<Vec<Life>, NoMemory>
-    requires { envelope_format.fits envelope.now }
-    ensures entries { OnOk result (E.own entries.new ≡ put_all_in (E.own entries.old)
-        (filter (is_written envelope.now) pending.old)) }
-    ensures pending { OnOk result (pending.new ≡ filter (λ e. not (is_written envelope.now e)) pending.old) }
-    ensures shown { OnOk result (E.shown entries.new ≡ E.shown entries.old) }
-    ensures lives { IfOk result (λ lives. AreLives (E.map entries.old) (E.map entries.new) lives.items) }
-{
-    let keys = read_write_of(envelope.transaction());
-    let mut lives = Vec::new(alloc);
-    for key in keys {
-        pending.put_in(alloc, entries, key, &mut lives)?;
-    }
-    Ok(lives)
-}
 
 /// Adds what a transaction is going to change to the log, if one is kept.
 fn push_list<E: Entries>(

@@ -3,9 +3,8 @@ use Rattle.std.specs.declared.cmp.Ordering.{Ordering}
 use Rattle.std.specs.Ordering.{nat_cmp}
 use Rattle.std.specs.Cmp.Lexicographic.{slice_cmp}
 use Rattle.std.specs.FinMap.{empty, entries, entries_sorted, entries-from_sorted, empty_of_len, from_sorted, is_sorted, len, len-entries, same_entries_map}
-use Rattle.std.proofs.Common.{◌≡◌, ℕ, zero, suc, ◌+◌, ◌<◌, ◌≤◌, T, List, [], ◌∷◌, ◌++◌, length, take, drop, get_or, map, Some, None, Option, refl, sym, ap, subst, ◌∙◌, arith, add-one}
-use Rattle.std.specs.List.{AllByRecursion}
-use Rattle.std.proofs.lemmas.List.{take_more, map-append, length-map, length-take-le, take_all, drop_all}
+use Rattle.std.proofs.Common.{◌≡◌, ℕ, suc, ◌+◌, ◌<◌, ◌≤◌, T, List, [], ◌∷◌, ◌++◌, length, take, drop, get_or, map, Some, None, Option, refl, sym, ap, subst, ◌∙◌, arith, add-one}
+use Rattle.std.proofs.lemmas.List.{take_more, map-append, length-map, length-take-le, take_all}
 use Rattle.std.proofs.Math.Seq.{drop-cons}
 use Rattle.ledger_types.specs.declared.record.LedgerRecord.{LedgerRecord}
 use Rattle.ledger_spec.specs.declared.Kept.{Kept}
@@ -18,12 +17,6 @@ use Rattle.ledger_file.specs.Records.{pair_of, IsFaultUnlessMemory, IsFirstUnles
 use Rattle.ledger_file.specs.declared.error.LedgerErr.{LedgerErr}
 use Rattle.ledger_file.specs.declared.error.LedgerErr.TheVariants.{Refused, NoMemory}
 use Rattle.ledger_file.proofs.Keys.{last_key-push}
-
--- what a field of all members says of one
-pub at_place : {A : Type 0} (P : A → Type 0) (xs : List A) (n : ℕ) (x : A) → AllByRecursion P xs → n < length xs → x ≡ get_or xs n x → P x
-at_place P [] n x h lt e = absurd (omega arith)
-at_place P (y ∷ ys) zero x h lt e = subst P (sym e) h.0
-at_place P (y ∷ ys) (suc n) x h lt e = at_place P ys n x h.1 (omega arith) e
 
 -- the entries of the first n records
 abbrev pub made : List LedgerRecord → ℕ → List (List ℕ × Kept)
@@ -93,14 +86,6 @@ len_made all n le = length-map (take n all) pair_of ∙ length-take-le n all le
 
 take_whole : (all : List LedgerRecord) → take (length all) all ≡ all
 take_whole all = take_all (length all) all (omega arith)
-
-drop_whole : (all : List LedgerRecord) → drop (length all) all ≡ []
-drop_whole all = drop_all (length all) all (omega arith)
-
-pub all_good : (all : List LedgerRecord) (n : ℕ) (es : List (List ℕ × Kept)) → Judged all n es → n ≡ length all → first_fault 0 None all ≡ None
-all_good all n es j whole =
-    j.fault-is ∙ ap (λ (k : ℕ). first_fault k (last_key (made all k)) (drop k all)) whole
-    ∙ ap (first_fault (length all) (last_key (made all (length all)))) (drop_whole all)
 
 pub all_made : (all : List LedgerRecord) (n : ℕ) (m : LedgerMap) → Judged all n (entries m) → n ≡ length all → m ≡ map_of all
 all_made all n m j whole =

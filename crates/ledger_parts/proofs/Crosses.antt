@@ -13,7 +13,6 @@ use Rattle.value_types.proofs.numbers.UInt256Parts.TheSendSync as u256
 use Rattle.value_types.proofs.numbers.Int256Parts.TheSendSync as i256
 use Rattle.value_types.proofs.value.Entries.TheLaws.TheKnot.{crosses as value_crosses}
 use Rattle.value_types.specs.contracts.value.ScVal as ScVal
-use Rattle.std.proofs.MapsCrossing.{crosses as map_crosses}
 use Rattle.value_types.proofs.account_id.AccountId.TheSendSync as account
 use Rattle.value_types.proofs.bytes.Bytes.TheSendSync as bytes
 use Rattle.value_types.proofs.hash.Hash.TheSendSync as hash
@@ -27,8 +26,6 @@ use Rattle.ledger_types.specs.contracts.key.LedgerKey as LedgerKey
 use Rattle.ledger_spec.specs.contracts.Kept as Kept
 use Rattle.entry_map.specs.contracts.stored.StoredEntry as StoredEntry
 use Rattle.entry_map.specs.contracts.map.EntryMap as EntryMap
-use Rattle.ledger_parts.specs.contracts.key_set.KeySet as KeySet
-use Rattle.ledger_parts.specs.contracts.part.Part as Part
 
 pub value_sync : IsSync (ScVal.the_field).row
 value_sync = search (
@@ -119,15 +116,3 @@ map_sync = search (stored_sync, heap_crosses, sendable) depth 20 fits 5000
 
 pub map_send : IsSend (EntryMap.the_field).row
 map_send = search (stored_send, heap_crosses, sendable) depth 20 fits 5000
-
-pub set_sync : IsSync (KeySet.the_field).row
-set_sync = search (key_sync, map_crosses, sendable) depth 20 fits 5000
-
-pub set_send : IsSend (KeySet.the_field).row
-set_send = search (key_send, map_crosses, sendable) depth 20 fits 5000
-
-pub part_sync : IsSync (Part.the_field).row
-part_sync = search (map_sync, set_sync, sendable) depth 20 fits 5000
-
-pub part_send : IsSend (Part.the_field).row
-part_send = search (map_send, set_send, sendable) depth 20 fits 5000

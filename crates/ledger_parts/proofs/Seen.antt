@@ -1,10 +1,7 @@
 -- A cluster that sees its own entries over what is lent, and parts that are cut one after the other.
-use Rattle.std.specs.Ordering.{nat_cmp, eq_by_cmp}
-use Rattle.std.specs.Cmp.Lexicographic.{slice_cmp, nat_list_cmp_total}
-use Rattle.std.specs.FinMap.{get, find, entries, retain_keys, get-entries, get-from_entries, slice_cmp-IsAntisymmetric, nat_cmp-IsAntisymmetric}
-use Rattle.std.specs.FinMap.Entries.{find-where_key}
+use Rattle.std.specs.FinMap.{get, entries, retain_keys}
 use Rattle.std.specs.List.{AllByRecursion}
-use Rattle.std.proofs.Common.{◌≡◌, Bool, true, false, not, ◌||◌, cond, List, [], ◌∷◌, ◌++◌, filter, Option, Some, None, refl, sym, ap, ap₂, ◌∙◌}
+use Rattle.std.proofs.Common.{◌≡◌, Bool, true, false, not, ◌||◌, cond, List, [], ◌∷◌, Option, None, refl, sym, ap, ap₂, ◌∙◌}
 use Rattle.stage_runs.specs.Maps.{Bytes, Kept, LedgerMap, laid_over}
 use Rattle.stage_runs.specs.Transactions.{Envelope, Effect, Step, declares, IsFramed}
 use Rattle.stage_runs.specs.Runs.{Cluster, Stage, RunState, before, after, start, run_transaction, run_all, run_clusters, run_stage, ended, writes_in, declares_in, AreApart, HasNoConflict}

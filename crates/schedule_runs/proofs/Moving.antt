@@ -1,12 +1,10 @@
 -- The moves of lanes.
 use Rattle.std.specs.List.{fold}
-use Rattle.std.proofs.Common.{◌≡◌, ◌<◌, ◌≤◌, ◌+◌, ℕ, zero, suc, List, [], ◌∷◌, ◌++◌, length, get_or, set, take, drop, map, refl, sym, ap, ◌∙◌, arith}
-use Rattle.std.proofs.lemmas.List.{drop_all, drop_more, take_more, map-set, length-map}
+use Rattle.std.proofs.Common.{◌≡◌, ◌<◌, ◌≤◌, ◌+◌, ℕ, zero, suc, List, [], ◌∷◌, ◌++◌, length, get_or, set, take, map, refl, sym, ap, ◌∙◌, arith}
+use Rattle.std.proofs.lemmas.List.{map-set, length-map}
 use Rattle.std.proofs.lemmas.List.Sums.{fold_more}
 use Rattle.stage_runs.specs.Maps.{LedgerMap}
 use Rattle.stage_runs.specs.Transactions.{Envelope, Step}
-use Rattle.stage_runs.specs.declared.Extension.{Extension}
-use Rattle.stage_runs.specs.Runs.{Cluster, Reported, RunState, run_transaction}
 use Rattle.stage_runs.specs.Orders.{Lane, Scheduled, first_moves, with_first, move, move_next}
 use Rattle.schedule_runs.specs.Lanes as code
 use Rattle.schedule_runs.specs.declared.lane.Lane as declared
@@ -14,31 +12,6 @@ use Rattle.schedule_runs.specs.declared.lane.Lane as declared
 -- lanes on a map
 abbrev pub on : LedgerMap → List Lane → Scheduled
 on entries lanes = record { entries = entries; lanes = lanes }
-
--- a lane after so many transactions of its cluster
-abbrev pub lane_at : Cluster → ℕ → List Extension → List Reported → Lane
-lane_at cluster next pending results = record { ran = take next cluster; left = drop next cluster; pending = pending; results = results }
-
-abbrev pub state : LedgerMap → List Extension → List Reported → RunState
-state entries pending results = record { entries = entries; pending = pending; results = results }
-
--- the next transaction of a lane runs
-pub lane_moves : (step : Step) (entries after : LedgerMap) (cluster : Cluster) (next : ℕ) (tx : Envelope) (pending later : List Extension) (results more : List Reported)
-    → next < length cluster → tx ≡ get_or cluster next tx → state after later more ≡ run_transaction step (state entries pending results) tx
-    → on after (lane_at cluster (next + 1) later more ∷ []) ≡ first_moves step entries (lane_at cluster next pending results) [] (drop next cluster)
-lane_moves step entries after cluster next tx pending later results more lt is run =
-    let left : drop next cluster ≡ tx ∷ drop (next + 1) cluster = drop_more cluster next tx lt ∙ ap (λ t. t ∷ drop (next + 1) cluster) (sym is) in
-    let ran : take (next + 1) cluster ≡ take next cluster ++ tx ∷ [] = take_more cluster next tx lt ∙ ap (λ t. take next cluster ++ t ∷ []) (sym is) in
-    let moved : on after (lane_at cluster (next + 1) later more ∷ []) ≡ first_moves step entries (lane_at cluster next pending results) [] (tx ∷ drop (next + 1) cluster) =
-    ap (λ (r : List Envelope). on after (record { ran = r; left = drop (next + 1) cluster; pending = later; results = more } ∷ [])) ran
-    ∙ ap (λ (s : RunState). on s.entries (record { ran = take next cluster ++ tx ∷ []; left = drop (next + 1) cluster; pending = s.pending; results = s.results } ∷ [])) run in
-    moved ∙ ap (λ (l : List Envelope). first_moves step entries (lane_at cluster next pending results) [] l) (sym left)
-
--- a lane without a transaction that is left stays as it is
-pub lane_rests : (step : Step) (entries : LedgerMap) (cluster : Cluster) (next : ℕ) (pending : List Extension) (results : List Reported) → length cluster ≤ next
-    → on entries (lane_at cluster next pending results ∷ []) ≡ first_moves step entries (lane_at cluster next pending results) [] (drop next cluster)
-lane_rests step entries cluster next pending results le =
-    ap (λ (l : List Envelope). first_moves step entries (lane_at cluster next pending results) [] l) (sym (drop_all next cluster le))
 
 -- other lanes behind the first one stay as they are
 first_before : (step : Step) (entries : LedgerMap) (lane : Lane) (lanes : List Lane) (left : List Envelope)

@@ -1,46 +1,23 @@
 -- Stages by their schedules, one after the other.
 use Rattle.std.specs.List.{AllByRecursion}
-use Rattle.std.proofs.Common.{◌≡◌, ◌&&◌, ◌<◌, ◌≤◌, ◌+◌, ◌-◌, ℕ, suc, Bool, true, false, cond, List, [], ◌∷◌, length, take, get_or, drop, map, Option, Some, None, refl, sym, ap, subst, ◌∙◌, arith}
-use Rattle.std.proofs.lemmas.List.{drop_more}
-use Rattle.std.proofs.lemmas.Bool.{le-leb, lt-leb}
+use Rattle.std.proofs.Common.{◌≡◌, ◌&&◌, ◌≤◌, ◌-◌, ℕ, suc, Bool, true, false, cond, List, [], ◌∷◌, length, take, map, Option, Some, None, refl, sym, ap, subst, ◌∙◌, arith}
+use Rattle.std.proofs.lemmas.Bool.{le-leb}
 use Rattle.std.proofs.lemmas.Option.{none-some}
 use Rattle.stage_runs.specs.Transactions.{Step, IsFramed}
-use Rattle.stage_runs.specs.Runs.{Stage, RunState, HasNoConflict, run_clusters, run_stage, run_set, start, ended}
+use Rattle.stage_runs.specs.Runs.{Stage, RunState, HasNoConflict, run_clusters, run_stage, run_set, start}
 use Rattle.stage_runs.specs.Orders.{first_of, is_complete, runs_each}
-use Rattle.stage_runs.specs.Sets.{Planned, IsPlanned, run_scheduled, stopped, stopped_in_order}
+use Rattle.stage_runs.specs.Sets.{IsPlanned, stopped, stopped_in_order}
 use Rattle.stage_runs.proofs.Lemmas.{stopped_order}
 use Rattle.tx_xdr.specs.Stages.{stages_of}
 use Rattle.tx_xdr.specs.declared.set.TxSet.{TxSet}
-use Rattle.ledger_apply.specs.declared.stages.SetStage.{SetStage}
-use Rattle.ledger_apply.specs.Stages.{clusters_of, stage_of}
-use Rattle.ledger_apply.proofs.Lemmas.{clusters_listed}
+use Rattle.set_steps.specs.declared.stages.SetStage.{SetStage}
+use Rattle.set_steps.specs.Stages.{clusters_of, stage_of}
+use Rattle.set_steps.proofs.Lemmas.{clusters_listed}
 use Rattle.apply_spec.specs.Enforced.{enforced}
 use Rattle.apply_spec.specs.Runs as apply
 use Rattle.apply_spec.proofs.Lemmas.{step_framed}
 use Rattle.schedule_runs.specs.Laws.{WholeLaw}
 use Rattle.schedule_runs.specs.Plans.{first_incomplete_from, planned_of, stages_in, steps_of}
-
--- the next stage with its schedule, and those behind it
-pub planned_next : {A : Type 0} (f : A → Stage) (stages : List A) (orders : List (List ℕ)) (index : ℕ) (stage : A) (order : List ℕ)
-    → index < length stages → stage ≡ get_or stages index stage → index < length orders → order ≡ get_or orders index order
-    → planned_of (map f (drop index stages)) (drop index orders)
-    ≡ record { stage = f stage; schedule = order } ∷ planned_of (map f (drop (index + 1) stages)) (drop (index + 1) orders)
-planned_next f stages orders index stage order lt is lt2 is2 =
-    ap (λ ss. planned_of (map f ss) (drop index orders)) (drop_more stages index stage lt ∙ ap (λ s. s ∷ drop (index + 1) stages) (sym is))
-    ∙ ap (λ os. planned_of (f stage ∷ map f (drop (index + 1) stages)) os) (drop_more orders index order lt2 ∙ ap (λ o. o ∷ drop (index + 1) orders) (sym is2))
-
--- a schedule that the steps reach the end of
-pub stopped_later : (step : Step) (k : ℕ) (running : RunState) (stage : Stage) (order : List ℕ) (planned : List Planned) → length order ≤ k
-    → stopped step k running (record { stage = stage; schedule = order } ∷ planned)
-    ≡ stopped step (k - length order) (ended (run_scheduled step running stage order)) planned
-stopped_later step k running stage order planned le =
-    ap (λ (b : Bool). cond b (stopped step (k - length order) (ended (run_scheduled step running stage order)) planned) (run_scheduled step running stage (take k order))) (le-leb (length order) k le)
-
--- a schedule that the steps stop in
-pub stopped_here : (step : Step) (k : ℕ) (running : RunState) (stage : Stage) (order : List ℕ) (planned : List Planned) → k < length order
-    → stopped step k running (record { stage = stage; schedule = order } ∷ planned) ≡ run_scheduled step running stage (take k order)
-stopped_here step k running stage order planned lt =
-    ap (λ (b : Bool). cond b (stopped step (k - length order) (ended (run_scheduled step running stage order)) planned) (run_scheduled step running stage (take k order))) (lt-leb (length order) k lt)
 
 -- ---- complete schedules
 

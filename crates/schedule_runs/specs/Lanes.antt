@@ -4,7 +4,7 @@ use Rattle.ledger_spec.specs.LedgerMap.{LedgerMap}
 use Rattle.stage_runs.specs.Transactions.{Envelope}
 use Rattle.stage_runs.specs.Runs.{Stage}
 use Rattle.stage_runs.specs.Orders as orders
-use Rattle.ledger_apply.specs.Spelled.{AreEnvelopes}
+use Rattle.set_steps.specs.Spelled.{AreEnvelopes}
 use Rattle.schedule_runs.specs.declared.lane.Lane.{Lane}
 
 -- the transactions that are left

@@ -2,8 +2,8 @@
 use Rattle.std.specs.Prelude.{◌≡◌, List}
 use Rattle.ledger_spec.specs.LedgerMap.{LedgerMap}
 use Rattle.stage_runs.specs.Runs.{Reported, RunState}
-use Rattle.ledger_apply.specs.State.{pending_of, reports_of}
-use Rattle.ledger_apply.specs.declared.running.ClusterDone.{ClusterDone}
+use Rattle.set_steps.specs.State.{pending_of, reports_of}
+use Rattle.set_steps.specs.declared.running.ClusterDone.{ClusterDone}
 
 -- the entries, and what the clusters of a stage leave beside them
 abbrev pub left_by : LedgerMap → List ClusterDone → RunState

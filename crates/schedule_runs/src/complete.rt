@@ -4,14 +4,14 @@ ghost use Rattle.std.specs.Prelude.{◌≡◌, All, length, IfOk, IfSome, is_som
 ghost use Rattle.std.specs.List.{list_all};
 ghost use Rattle.stage_runs.specs.Orders.{is_complete as is_complete_in};
 ghost use Rattle.stage_runs.specs.Runs.{clusters_in as clusters_of_stage};
-ghost use Rattle.ledger_apply.specs.Stages.{clusters_of, stage_of, IsSpelled};
+ghost use Rattle.set_steps.specs.Stages.{clusters_of, stage_of, IsSpelled};
 ghost use Rattle.schedule_runs.specs.Lanes.{clusters_in};
 ghost use Rattle.schedule_runs.specs.Complete.{counts_from, have_lengths as have_lengths_in};
 ghost use Rattle.schedule_runs.specs.Plans.{first_incomplete as first_incomplete_in};
 
 use crate::Order;
 use crate::lane::{Lane, lanes_of};
-use ledger_apply::SetStage;
+use set_steps::SetStage;
 use std::alloc::Global;
 use xdr_core::NoMemory;
 

@@ -5,13 +5,14 @@ ghost use Rattle.ledger_spec.specs.LedgerFile.{are_settings, has_next};
 ghost use Rattle.stage_runs.specs.Orders.{first_moves, lane_of};
 ghost use Rattle.stage_runs.specs.Runs.{clusters_in as clusters_of_stage};
 ghost use Rattle.apply_spec.specs.Enforced.{enforced};
-ghost use Rattle.ledger_apply.specs.Spelled.{AreEnvelopes, IsCluster};
-ghost use Rattle.ledger_apply.specs.Stages.{stage_of, IsSpelled};
+ghost use Rattle.set_steps.specs.Spelled.{AreEnvelopes, IsCluster};
+ghost use Rattle.set_steps.specs.Stages.{stage_of, IsSpelled};
 ghost use Rattle.schedule_runs.specs.Lanes.{lane_in, left_in, on_lane, clusters_in, IsLane};
 
-use ledger_apply::{ClusterRun, Pending, Reports, SetStage, run_transaction};
+use ledger_apply::run_transaction;
 use ledger_file::Ledger;
 use ledger_types::{Header, Verdicts};
+use set_steps::{ClusterRun, Pending, Reports, SetStage};
 use std::alloc::Global;
 use std::mem;
 use tx_xdr::{Cluster, Envelope};

@@ -5,13 +5,13 @@ ghost use Rattle.std.specs.List.{fold, flat_map};
 ghost use Rattle.ledger_spec.specs.LedgerFile.{are_settings, has_next};
 ghost use Rattle.stage_runs.specs.Orders.{move_next};
 ghost use Rattle.apply_spec.specs.Enforced.{enforced};
-ghost use Rattle.ledger_apply.specs.State.{pending_of, reports_of, IsKeyed};
+ghost use Rattle.set_steps.specs.State.{pending_of, reports_of, IsKeyed};
 ghost use Rattle.schedule_runs.specs.Lanes.{lane_in, on_lanes, IsLane};
 
 use crate::lane::{Lane, run_next};
-use ledger_apply::{ClusterDone, ClusterRun};
 use ledger_file::Ledger;
 use ledger_types::{Header, Verdicts};
+use set_steps::{ClusterDone, ClusterRun};
 use std::alloc::Global;
 use xdr_core::NoMemory;
 

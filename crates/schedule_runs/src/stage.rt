@@ -6,15 +6,15 @@ ghost use Rattle.stage_runs.specs.Orders.{interleaved, collected};
 ghost use Rattle.stage_runs.specs.Runs.{RunState, clusters_in as clusters_of_stage, ended};
 ghost use Rattle.stage_runs.specs.Sets.{run_scheduled};
 ghost use Rattle.apply_spec.specs.Enforced.{enforced};
-ghost use Rattle.ledger_apply.specs.State.{between, pending_of, reports_of, IsKeyed};
-ghost use Rattle.ledger_apply.specs.Stages.{stage_of, IsSpelled};
+ghost use Rattle.set_steps.specs.State.{between, pending_of, reports_of, IsKeyed};
+ghost use Rattle.set_steps.specs.Stages.{stage_of, IsSpelled};
 ghost use Rattle.schedule_runs.specs.Stopped.{IsAt, left_by};
 
 use crate::lane::lanes_of;
 use crate::order::{close, run_order};
-use ledger_apply::{ClusterDone, Reports, SetStage, end_stage};
 use ledger_file::Ledger;
 use ledger_types::{Header, Verdicts};
+use set_steps::{ClusterDone, Reports, SetStage, end_stage};
 use std::alloc::Global;
 use xdr_core::NoMemory;
 

@@ -32,13 +32,6 @@ some_of test (k ∷ keys) h =
     (λ here. (key_bytes k, left_true (bytes_eq (key_bytes k) (key_bytes k)) (has_bytes keys (key_bytes k)) ((bytes_eq-Decides (key_bytes k) (key_bytes k)).1 refl), here))
     (λ there. let rest = some_of test keys there in (rest.0, right_true (bytes_eq rest.0 (key_bytes k)) (has_bytes keys rest.0) rest.1, rest.2))
 
-is_some_of : (test : Bytes → Bool) (keys : List LedgerKey) (q : Bytes) → has_bytes keys q ≡ true → test q ≡ true → some_key test keys ≡ true
-is_some_of test [] q h t = absurd cc
-is_some_of test (k ∷ keys) q h t =
-    one_true (bytes_eq q (key_bytes k)) (has_bytes keys q) h
-    (λ same. left_true (test (key_bytes k)) (some_key test keys) (ap test (sym ((bytes_eq-Decides q (key_bytes k)).0 same)) ∙ t))
-    (λ there. right_true (test (key_bytes k)) (some_key test keys) (is_some_of test keys q there t))
-
 -- ---- a transaction that meets no key of a cluster
 
 abbrev by_write : Cluster → Envelope → Bool

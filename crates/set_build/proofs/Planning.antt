@@ -144,9 +144,6 @@ module _ (max : ℕ) (some : 0 < max) (envelopes : List Envelope) where
       (last_next (so_far n).last place tx max last new (subst (IsRight max (so_far n).last tx) (sym same) (place_right max (so_far n).last tx some)) begins
       (subst (λ (m : Named). Follows last place m new) names keys) counts ranked)
 
-  pub planned_none : ArePlanned max envelopes 0 []
-  planned_none = record { count = refl; each = λ k tx lt at. absurd (omega arith) }
-
   pub planned_more : (n : ℕ) (tx : Envelope) (places : List Place) (place : Place) → n < length envelopes → tx ≡ get_or envelopes n tx → place ≡ place_in max (so_far n).last tx
       → ArePlanned max envelopes n places → ArePlanned max envelopes (n + 1) (places ++ place ∷ [])
   planned_more n tx places place lt is same h = record { count = length_push places place ∙ ap (λ (m : ℕ). m + 1) h.count; each = each }

@@ -92,9 +92,6 @@ Puts pair there old new = (q : Pair) → new q ≡ cond (is_pair pair q) there (
 some_is : {A : Type 0} (x y : A) → Some x ≡ Some y → x ≡ y
 some_is x y e = cc
 
-pub ranks_none : (has : Pair → Bool) → ((p : Pair) → has p ≡ false) → Ranks [] has
-ranks_none has none p = (λ h. never h (none p), λ at. absurd cc)
-
 pub ranks_push : (counts : List ℕ) (old new : Pair → Bool) → Ranks counts old → Puts (1, length counts) true old new → Ranks (counts ++ 1 ∷ []) new
 ranks_push counts old new h puts p = (to, from)
   where

@@ -6,14 +6,14 @@ use Rattle.std.proofs.lemmas.List.Sums.{sum_by_push}
 use Rattle.std.proofs.lemmas.List.Elements.{All-from_recursion, recursion_from_All, All-nil, All-push, All-set, All-get_or, All-from_get_or}
 use Rattle.xdr_spec.specs.Format.{list, optional, zeros}
 use Rattle.value_types.specs.Hash.{hash_format, hash_of}
-use Rattle.tx_xdr.specs.Envelope.{envelope_format, transaction_in}
+use Rattle.tx_xdr.specs.Envelope.{envelope_format, envelopes_format, transaction_in}
 use Rattle.tx_xdr.specs.Set.{cluster_format, stage_format, phase_format, set_format}
 use Rattle.tx_xdr.proofs.Lemmas.{transaction_in_fits}
 use Rattle.stage_runs.specs.Transactions.{Envelope}
 use Rattle.stage_runs.proofs.Lemmas.{declared_spelled}
 use Rattle.stage_runs.specs.Runs.{Cluster, Stage}
 use Rattle.stage_plan.specs.Spelled.{DeclaresSpelled}
-use Rattle.set_build.specs.Built.{Building, put, placed, start, building, ended, place_in, built_stages, stage_with, built_set, envelopes_format}
+use Rattle.set_build.specs.Built.{Building, put, placed, start, building, ended, place_in, built_stages, stage_with, built_set}
 use Rattle.set_build.specs.Placed.{cluster_count}
 use Rattle.set_build.specs.declared.place.Place.{Place}
 use Rattle.set_build.specs.declared.place.Place.TheVariants.{NewStage, NewCluster, InCluster}

@@ -2,9 +2,8 @@
 use Rattle.std.specs.Prelude.{◌≡◌, ◌||◌, ℕ, suc, Bool, List, [], ◌∷◌, ◌++◌, None, map, length, get_or, set, nat_lt, nat_le}
 use Rattle.std.specs.Prelude.{if◌then◌else◌}
 use Rattle.std.specs.List.{fold, list_any, list_all, position_or_len}
-use Rattle.xdr_spec.specs.Format.{Format, list, zeros}
+use Rattle.xdr_spec.specs.Format.{zeros}
 use Rattle.value_types.specs.Hash.{hash_of}
-use Rattle.tx_xdr.specs.Envelope.{envelope_format}
 use Rattle.tx_xdr.specs.declared.set.Stage as sets
 use Rattle.tx_xdr.specs.declared.set.Phase.TheVariants.{Parallel}
 use Rattle.tx_xdr.specs.declared.set.TxSet.{TxSet}
@@ -92,7 +91,3 @@ IsInStages set = (stages : List sets.Stage) × (set ≡ set_with stages)
 -- the built set
 abbrev pub built_set : ℕ → List Envelope → TxSet
 built_set max envelopes = set_with (map stage_with (built_stages max envelopes))
-
--- the list of envelopes that a set is built from, as XDR has it
-abbrev pub envelopes_format : Format (List Envelope)
-envelopes_format = list 4294967295 envelope_format

@@ -2,8 +2,9 @@
 
 ghost use Rattle.std.specs.Prelude.{◌≡◌, ◌<◌, ◌≤◌, IfOk, length};
 ghost use Rattle.std.specs.List.{AllByRecursion};
+ghost use Rattle.tx_xdr.specs.Envelope.{envelopes_format};
 ghost use Rattle.tx_xdr.specs.Set.{set_format};
-ghost use Rattle.set_build.specs.Built.{built_set, envelopes_format, set_with, IsInStages};
+ghost use Rattle.set_build.specs.Built.{built_set, set_with, IsInStages};
 ghost use Rattle.set_build.specs.Placed.{stages_in, cluster_count, IsSound, IsArranged};
 ghost use Rattle.set_build.specs.Laws.{MeetsLaw, BuiltLaw, HasNone};
 

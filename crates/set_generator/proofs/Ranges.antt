@@ -1,19 +1,9 @@
 -- Sums that are reduced twice, and lists that are filtered.
 use Rattle.std.specs.List.{range_with_len, AllByRecursion}
-use Rattle.std.proofs.Common.{◌≡◌, ℕ, zero, suc, ◌+◌, ◌*◌, ◌/◌, ◌%◌, ◌<◌, ◌≤◌, Bool, true, false, cond, eqb, List, [], ◌∷◌, ◌++◌, map, filter, refl, sym, ap, ◌∙◌, arith}
+use Rattle.std.proofs.Common.{◌≡◌, ℕ, zero, suc, ◌+◌, ◌<◌, ◌≤◌, Bool, true, false, cond, eqb, List, [], ◌∷◌, ◌++◌, map, filter, refl, ap, ◌∙◌, arith}
 use Rattle.std.proofs.lemmas.Bool.{eqb-true}
 use Rattle.std.proofs.lemmas.List.{map-append, append-nil}
 use Rattle.std.proofs.lemmas.List.Elements.{filter-append}
-use Rattle.std.proofs.Math.Nat.{add-mul-mod_self_right, mod-add-div'}
-
--- a sum of which one part is reduced already
-pub wrapped : (x c m : ℕ) → (x % m + c) % m ≡ (x + c) % m
-wrapped x c m =
-    sym (add-mul-mod_self_right (x % m + c) (x / m) m)
-    ∙ ap (λ (n : ℕ). n % m) (regroup (x % m) c (x / m * m) ∙ ap (λ (n : ℕ). n + c) (mod-add-div' x m))
-  where
-    regroup : (a b d : ℕ) → a + b + d ≡ a + d + b
-    regroup a b d = omega arith
 
 -- what holds of each number of a range
 pub each_in_range : (P : ℕ → Type 0) (g : ℕ → ℕ) (a n : ℕ) → ((j : ℕ) → a ≤ j → j < a + n → P (g j)) → AllByRecursion P (map g (range_with_len a n))

@@ -19,9 +19,9 @@ use Rattle.stage_runs.specs.declared.Extension.{Extension}
 use Rattle.stage_runs.specs.Transactions.{Envelope, Step, declared_by}
 use Rattle.stage_runs.specs.Runs.{Cluster, Stage, Reported, RunState, clusters_in, put_all_in, put_in, run_clusters, run_set, start}
 use Rattle.stage_runs.proofs.Lemmas.{declared_spelled}
-use Rattle.ledger_apply.specs.Stages.{clusters_of, stage_of}
-use Rattle.ledger_apply.specs.State.{between}
-use Rattle.ledger_apply.specs.declared.stages.SetStage.{SetStage}
+use Rattle.set_steps.specs.Stages.{clusters_of, stage_of}
+use Rattle.set_steps.specs.State.{between}
+use Rattle.set_steps.specs.declared.stages.SetStage.{SetStage}
 use Rattle.set_place.specs.Places.{Met, met_at, met_in_cluster, met_in_stage}
 use Rattle.set_place.specs.declared.place.Place.{Place}
 

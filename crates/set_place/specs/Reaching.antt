@@ -4,8 +4,8 @@ use Rattle.ledger_spec.specs.LedgerMap.{LedgerMap, key_bytes}
 use Rattle.ledger_types.specs.Key.{key_format}
 use Rattle.stage_runs.specs.Conflicts.{IsFirstConflict}
 use Rattle.stage_runs.specs.Runs.{Reported, RunState, Stage}
-use Rattle.ledger_apply.specs.State.{pending_of, reports_of}
-use Rattle.ledger_apply.specs.declared.running.ClusterDone.{ClusterDone}
+use Rattle.set_steps.specs.State.{pending_of, reports_of}
+use Rattle.set_steps.specs.declared.running.ClusterDone.{ClusterDone}
 use Rattle.set_place.specs.Places.{Met, met_on}
 use Rattle.set_place.specs.declared.error.PlaceErr.{PlaceErr}
 use Rattle.set_place.specs.declared.error.PlaceErr.TheVariants.{Conflict, NoMemory}

@@ -3,7 +3,7 @@
 ghost use Rattle.std.specs.Prelude.{◌≡◌};
 ghost use Rattle.set_place.specs.declared.error.PlaceErr.TheVariants.{NoMemory as OutOfMemory};
 
-use ledger_apply::SetConflict;
+use set_steps::SetConflict;
 use xdr_core::NoMemory;
 
 /// Why a place of a set was not reached.

@@ -12,9 +12,9 @@ ghost use Rattle.set_place.specs.Reaching.{met_of, IsRefused};
 
 use crate::stage::reach_in_stages;
 use crate::{Place, PlaceErr};
-use ledger_apply::{first_in_turn, stages_of};
 use ledger_file::Ledger;
 use ledger_types::{Header, Verdicts};
+use set_steps::{first_in_turn, stages_of};
 use std::alloc::Global;
 use tx_xdr::{Envelope, TxSet};
 

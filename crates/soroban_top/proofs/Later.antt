@@ -11,8 +11,7 @@ use Rattle.ledger_types.specs.declared.verdicts.Verdicts.{Verdicts}
 use Rattle.schedule_runs.specs.Plans.{first_incomplete}
 use Rattle.schedule_runs.specs.Schedule.{schedule_format}
 use Rattle.schedule_runs.specs.declared.schedule.Schedule.{Schedule}
-use Rattle.set_build.specs.Built.{envelopes_format}
-use Rattle.tx_xdr.specs.Envelope.{envelope_format}
+use Rattle.tx_xdr.specs.Envelope.{envelope_format, envelopes_format}
 use Rattle.tx_xdr.specs.Set.{set_format}
 use Rattle.tx_xdr.specs.declared.envelope.Envelope.{Envelope}
 use Rattle.tx_xdr.specs.declared.set.TxSet.{TxSet}

@@ -13,10 +13,9 @@ use Rattle.ledger_spec.specs.declared.LedgerWhy.TheVariants as ledger_why
 use Rattle.ledger_types.specs.Verdicts.{verdicts_format, verdicts_lawful}
 use Rattle.ledger_types.specs.declared.header.Header.{Header}
 use Rattle.ledger_types.specs.declared.verdicts.Verdicts.{Verdicts}
-use Rattle.set_build.specs.Built.{envelopes_format}
 use Rattle.tx_results.specs.Report.{report_bytes}
 use Rattle.tx_results.specs.declared.results.TransactionResultPair.{TransactionResultPair}
-use Rattle.tx_xdr.specs.Envelope.{envelope_format}
+use Rattle.tx_xdr.specs.Envelope.{envelope_format, envelopes_format}
 use Rattle.tx_xdr.specs.declared.envelope.Envelope.{Envelope}
 use Rattle.xdr_spec.specs.Format.{list}
 use Rattle.xdr_spec.proofs.Lemmas.{spells_decoded}

@@ -20,9 +20,8 @@ use Rattle.module_vet.specs.declared.Sizes.{Sizes}
 use Rattle.schedule_runs.specs.Plans.{first_incomplete}
 use Rattle.schedule_runs.specs.Schedule.{schedule_format}
 use Rattle.schedule_runs.specs.declared.schedule.Schedule.{Schedule}
-use Rattle.set_build.specs.Built.{envelopes_format}
 use Rattle.tx_xdr.specs.Set.{set_format}
-use Rattle.tx_xdr.specs.Envelope.{envelope_format}
+use Rattle.tx_xdr.specs.Envelope.{envelope_format, envelopes_format}
 use Rattle.tx_xdr.specs.declared.set.TxSet.{TxSet}
 use Rattle.value_types.specs.Formats.{scval_format}
 use Rattle.xdr_spec.specs.Decoded.{decoded}

@@ -1,7 +1,7 @@
 -- The status that is due of a list of envelopes, of what its file spells, and the set that is stored.
 use Rattle.std.proofs.Common.{refl}
 use Rattle.xdr_spec.proofs.Lemmas.{spells_decoded}
-use Rattle.set_build.specs.Built.{envelopes_format}
+use Rattle.tx_xdr.specs.Envelope.{envelopes_format}
 use Rattle.command_io.specs.Inputs.{list_in}
 use Rattle.command_io.proofs.Lemmas.{envelopes_lawful}
 use Rattle.command_io.specs.Product.{file}

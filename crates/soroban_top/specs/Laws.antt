@@ -44,7 +44,6 @@ use Rattle.module_vet.specs.declared.Sizes.{Sizes}
 use Rattle.schedule_runs.specs.Plans.{first_incomplete, run_stopped, steps_of}
 use Rattle.schedule_runs.specs.Schedule.{schedule_format}
 use Rattle.schedule_runs.specs.declared.schedule.Schedule.{Schedule}
-use Rattle.set_build.specs.Built.{envelopes_format}
 use Rattle.set_generator.specs.GeneratedLedger.{generated_entries, generated_header}
 use Rattle.set_generator.specs.GeneratedSet.{generated_set}
 use Rattle.stage_runs.specs.Conflicts.{IsFirstConflict}
@@ -52,7 +51,7 @@ use Rattle.stage_runs.specs.Maps.{AgreeOn}
 use Rattle.stage_runs.specs.Runs.{HasNoConflict}
 use Rattle.stage_runs.specs.Transactions.{declares}
 use Rattle.tx_xdr.specs.Set.{set_format}
-use Rattle.tx_xdr.specs.Envelope.{envelope_format, transaction_in}
+use Rattle.tx_xdr.specs.Envelope.{envelope_format, envelopes_format, transaction_in}
 use Rattle.tx_xdr.specs.Stages.{stages_of}
 use Rattle.tx_xdr.specs.declared.envelope.Envelope.{Envelope}
 use Rattle.tx_xdr.specs.declared.set.TxSet.{TxSet}

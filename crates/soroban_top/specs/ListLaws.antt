@@ -11,7 +11,7 @@ use Rattle.ledger_types.specs.File.{file_format}
 use Rattle.ledger_types.specs.Verdicts.{verdicts_format}
 use Rattle.ledger_types.specs.declared.header.Header.{Header}
 use Rattle.ledger_types.specs.declared.verdicts.Verdicts.{Verdicts}
-use Rattle.set_build.specs.Built.{envelopes_format}
+use Rattle.tx_xdr.specs.Envelope.{envelopes_format}
 use Rattle.tx_xdr.specs.declared.envelope.Envelope.{Envelope}
 use Rattle.xdr_spec.specs.Format.{IsBytes}
 use Rattle.xdr_spec.specs.Refusal.{Refuses, Spells}

@@ -2,7 +2,7 @@
 
 ghost use Rattle.std.specs.Prelude.{◌≡◌, ◌≤◌, IfOk, IfErr, IfSome};
 ghost use Rattle.command_words.specs.declared.request.Request.TheVariants.{Build as Asked};
-ghost use Rattle.set_build.specs.Built.{envelopes_format};
+ghost use Rattle.tx_xdr.specs.Envelope.{envelopes_format};
 ghost use Rattle.command_io.specs.Counts.{HasCause, NoLower, SameCounts};
 ghost use Rattle.command_io.specs.Product.{file};
 ghost use Rattle.command_io.specs.Steps.{Gives, GivesExactly, UnlessFault, status_of};

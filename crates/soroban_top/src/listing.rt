@@ -4,7 +4,7 @@ ghost use Rattle.std.specs.Prelude.{◌≡◌, ◌≤◌, ◌++◌, IfErr, IfOk,
 ghost use Rattle.command_words.specs.declared.request.Request.TheVariants.{ApplyList as Asked};
 ghost use Rattle.ledger_spec.specs.LedgerFile.{are_settings, has_next};
 ghost use Rattle.ledger_types.specs.Header.{header_format};
-ghost use Rattle.set_build.specs.Built.{envelopes_format};
+ghost use Rattle.tx_xdr.specs.Envelope.{envelopes_format};
 ghost use Rattle.command_io.specs.Counts.{HasCause, NoLower, SameCounts};
 ghost use Rattle.command_io.specs.Seen.{seen};
 ghost use Rattle.command_io.specs.Steps.{Gives, GivesExactly, UnlessFault, status_of};

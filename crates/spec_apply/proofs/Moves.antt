@@ -200,10 +200,6 @@ same_change m key after e = change_none m key after ((same_decided (find m key) 
 
 -- ---- extensions
 
--- an extension of an absent key changes nothing
-pub raised_none : (m : LedgerMap) (key : LedgerKey) (live_until : ℕ) → find m key ≡ None → raise m key live_until ≡ m
-raised_none m key live_until e = ap (λ (o : Option Kept). raised o m key live_until) e
-
 -- nor does one to a ledger up to which the entry lives already
 pub raised_low : (m : LedgerMap) (key : LedgerKey) (live_until : ℕ) (kept : Kept) → find m key ≡ Some kept → live_until ≤ kept.live_until
     → raise m key live_until ≡ m
@@ -212,14 +208,6 @@ raised_low m key live_until kept e low =
     ap (λ (o : Option Kept). raised o m key live_until) e
     ∙ ap (λ (n : ℕ). insert m (key_bytes key) (record kept { live_until = n })) life
     ∙ change_none m key (Some kept) e
-
--- another one is a change
-pub raised_high : (m : LedgerMap) (key : LedgerKey) (live_until : ℕ) (kept : Kept) → find m key ≡ Some kept → kept.live_until < live_until
-    → raise m key live_until ≡ set_at m key (Some (record { entry = kept.entry; live_until = live_until }))
-raised_high m key live_until kept e high =
-    let life : max kept.live_until live_until ≡ live_until = omega (arith, high) in
-    ap (λ (o : Option Kept). raised o m key live_until) e
-    ∙ ap (λ (n : ℕ). insert m (key_bytes key) (record { entry = kept.entry; live_until = n })) life
 
 -- the entry with a longer life may stand at its key
 pub lasting_kept : (m : LedgerMap) (key : LedgerKey) (live_until : ℕ) (kept : Kept) → IsLedgerMap m → find m key ≡ Some kept → live_until < 2 ^ 32

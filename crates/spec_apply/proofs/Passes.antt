@@ -16,7 +16,7 @@ use Rattle.stage_runs.specs.Runs.{Reported, RunState, start, after, ended}
 use Rattle.apply_spec.specs.ListRuns.{listed, run_listed, run_each, agrees, is_kept, count_kept}
 use Rattle.apply_spec.proofs.Lemmas.{kept_run}
 use Rattle.ledger_apply.specs.Done.{effect_of}
-use Rattle.ledger_apply.specs.State.{between}
+use Rattle.set_steps.specs.State.{between}
 use Rattle.spec_apply.specs.declared.job.Job.{Job}
 use Rattle.spec_apply.specs.declared.pass.Pass.{Pass}
 use Rattle.spec_apply.specs.declared.run.Run.{Run}

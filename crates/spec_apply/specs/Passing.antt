@@ -6,7 +6,7 @@ use Rattle.tx_xdr.specs.declared.envelope.Envelope.{Envelope}
 use Rattle.stage_runs.specs.Maps.{LedgerMap}
 use Rattle.stage_runs.specs.Runs.{RunState}
 use Rattle.apply_spec.specs.ListRuns.{listed, run_listed, run_each, is_kept, count_kept}
-use Rattle.ledger_apply.specs.State.{between}
+use Rattle.set_steps.specs.State.{between}
 use Rattle.spec_apply.specs.declared.pass.Pass.{Pass}
 use Rattle.spec_apply.specs.Moved.{AreMoved}
 

@@ -8,9 +8,11 @@ ghost use Rattle.tx_xdr.specs.Envelope.{envelope_format};
 ghost use Rattle.tx_results.specs.Report.{HavePreimages};
 ghost use Rattle.tx_results.specs.Results.{result_set_format};
 ghost use Rattle.worker_runs.specs.Worked.{IsWorked};
-ghost use Rattle.apply_spec.specs.ListRuns.{run_list, kept_count};
+ghost use Rattle.stage_runs.specs.Runs.{start};
+ghost use Rattle.apply_spec.specs.ListRuns.{listed, run_each, run_list, count_kept, kept_count};
 ghost use Rattle.apply_spec.specs.Outputs.{results_of, preimages_of};
 ghost use Rattle.apply_spec.specs.Runs.{new_header};
+ghost use Rattle.spec_apply.specs.Passing.{state_of};
 ghost use Rattle.spec_apply.specs.Runs.{IsWorkedOn, IsDoneJob, envelope_of};
 
 use crate::codes::codes_of;
@@ -21,9 +23,9 @@ use code_cache::Cache;
 use edge_io::Gate;
 use entry_map::EntryMap;
 use invoke_types::SuccessPreimage;
-use ledger_apply::{Reports, Workers};
 use ledger_file::Ledger;
 use ledger_types::{Header, Verdicts};
+use set_steps::{Reports, Workers};
 use std::alloc::Global;
 use std::collections::BTreeMap;
 use std::thread::Threads;
@@ -106,6 +108,60 @@ fn run_on_opening<'a, R: Threads + Sync, T: Gate + Sync>(
     Ok(jobs)
 }
 
+/// Runs the envelopes of a list over the entries of a ledger: all of them on these entries first, and then in order. `header` is
+/// that of the old ledger, with the close time of the new one.
+fn pass_over<R: Threads + Sync, T: Gate + Sync>(
+    workers: &Workers<'_, R, T>,
+    alloc: Global,
+    entries: EntryMap,
+    header: &Header,
+    verdicts: &Verdicts,
+    list: &[Envelope],
+) -> Result<Pass, NoMemory>
+    requires fits { All (λ envelope. envelope_format.fits envelope) list.now }
+    requires few { length list.now ≤ 4294967295 }
+    requires settings { IsTrue (are_settings header.now.settings) }
+    requires next { IsTrue (has_next header.now) }
+    ensures state { IfOk result (λ pass. state_of pass ≡ run_each (listed header.now verdicts.now) (start entries) list.now) }
+    ensures kept { IfOk result (λ pass. pass.kept ≡ count_kept header.now verdicts.now entries (start entries) list.now) }
+{
+    let jobs = run_on_opening(workers, alloc, &entries, header, verdicts, list)?;
+    let mut pass = Pass {
+        entries,
+        moved: BTreeMap::new(alloc),
+        reports: Reports::new(alloc),
+        kept: 0,
+    };
+    run_in_order(alloc, &mut pass, header, verdicts, jobs)?;
+    Ok(pass)
+}
+
+/// Puts together what a list makes of a ledger. `header` is that of the new ledger. It takes no memory.
+fn listed_of(header: Header, pass: Pass) -> Listed
+    ensures ledger { result.ledger ≡ record { header = header; entries = pass.entries } }
+    ensures results { result.results.pairs ≡ results_of (state_of pass) }
+    ensures successes { result.successes ≡ preimages_of (state_of pass) }
+    ensures kept { result.kept ≡ pass.kept }
+    ensures spelled { result_set_format.fits result.results }
+    ensures successes_spelled { All (λ s. (optional success_format).fits s) result.successes }
+    ensures each { length result.successes ≡ length result.results.pairs }
+    ensures preimages { HavePreimages result.results.pairs result.successes }
+{
+    let Pass {
+        entries,
+        moved: _,
+        reports,
+        kept,
+    } = pass;
+    let (results, successes) = reports.into_parts();
+    Listed {
+        ledger: Ledger { header, entries },
+        results,
+        successes,
+        kept,
+    }
+}
+
 /// Applies a list of envelopes to a ledger, one after the other. Their declared footprints are not trusted: each envelope runs
 /// with the footprint that its run needs on the ledger as it is then. Its changes and extensions are put in at once.
 ///
@@ -157,31 +213,10 @@ pub fn apply_list<R: Threads + Sync, T: Gate + Sync>(
         close_time,
         ..header
     };
-    let jobs = run_on_opening(&workers, alloc, &entries, &running, verdicts, list)?;
-    let mut pass = Pass {
-        entries,
-        moved: BTreeMap::new(alloc),
-        reports: Reports::new(alloc),
-        kept: 0,
+    let pass = pass_over(&workers, alloc, entries, &running, verdicts, list)?;
+    let made = Header {
+        seq: header.seq + 1,
+        ..running
     };
-    run_in_order(alloc, &mut pass, &running, verdicts, jobs)?;
-    let Pass {
-        entries,
-        moved: _,
-        reports,
-        kept,
-    } = pass;
-    let (results, successes) = reports.into_parts();
-    Ok(Listed {
-        ledger: Ledger {
-            header: Header {
-                seq: header.seq + 1,
-                ..running
-            },
-            entries,
-        },
-        results,
-        successes,
-        kept,
-    })
+    Ok(listed_of(made, pass))
 }

@@ -10,7 +10,8 @@ ghost use Rattle.spec_apply.specs.Passing.{state_of};
 
 use crate::moved::{Moved, change, extend};
 use entry_map::EntryMap;
-use ledger_apply::{Reports, TxDone};
+use ledger_apply::TxDone;
+use set_steps::Reports;
 use stage_runs::{Change, Extension};
 use std::alloc::Global;
 use xdr_core::NoMemory;

@@ -1,5 +1,5 @@
 -- Codes by their hashes, and codes in the order of their hashes.
-use Rattle.std.proofs.Common.{◌≡◌, ◌<◌, ◌+◌, ℕ, suc, Bool, true, false, List, [], ◌∷◌, ◌++◌, Option, Some, None, Ordering, All, cond, is_some, length, get_or, slice_get, take, refl, sym, subst, ap, ap₂, ◌∙◌, arith, append_assoc}
+use Rattle.std.proofs.Common.{◌≡◌, ◌<◌, ◌+◌, ℕ, Bool, true, false, List, [], ◌∷◌, ◌++◌, Option, Some, None, Ordering, All, cond, is_some, length, get_or, slice_get, take, refl, sym, subst, ap, ap₂, ◌∙◌, arith, append_assoc}
 use Rattle.std.specs.Borrow.{Bor}
 use Rattle.std.specs.List.{AllByRecursion, flat_map}
 use Rattle.std.proofs.lemmas.Grind.{flat_map-append}
@@ -10,19 +10,18 @@ use Rattle.std.specs.FinMap.{slice_cmp-IsAntisymmetric, nat_cmp-IsAntisymmetric}
 use Rattle.std.specs.Map.{keys_of}
 use Rattle.std.specs.BTreeMap.{insert_entry, is_at, get, Updates}
 use Rattle.std.specs.List.Sorted.{IsStrictlySortedBy}
-use Rattle.std.proofs.lemmas.List.{get_or-map, length-map, map-append, take_more, append-nil}
+use Rattle.std.proofs.lemmas.List.{get_or-map, length-map, take_more, append-nil}
 use Rattle.std.proofs.lemmas.List.Elements.{All-nil, All-cons, All-append, All-from_recursion}
 use Rattle.std.proofs.lemmas.Map.Keys.{Less-from_sorted}
 use Rattle.std.proofs.lemmas.Map.Entries.{place_from_lookup}
 use Rattle.std.proofs.lemmas.Option.{get_or_from_slice_get, slice_get_within}
-use Rattle.std.proofs.Math.Seq.{take-suc}
 use Rattle.ledger_types.specs.declared.key.LedgerKey.{LedgerKey}
 use Rattle.ledger_spec.specs.LedgerMap.{LedgerMap}
 use Rattle.value_types.specs.Hash.{hash_of}
 use Rattle.value_types.specs.declared.hash.Hash.{Hash}
 use Rattle.code_cache.specs.declared.cache.Code.{Code}
 use Rattle.code_cache.specs.Cached.{AreRising, IsAt}
-use Rattle.stage_codes.specs.Found.{HasCode, IsCodeIn, IsShared, Codes, has_hash, codes_of, AreFound, IsThere, KeepsHashes, Adds, AddsOnly, AreOf}
+use Rattle.stage_codes.specs.Found.{HasCode, IsCodeIn, IsShared, Codes, codes_of, AreFound, IsThere, KeepsHashes, Adds, AddsOnly, AreOf}
 
 abbrev by_hash : List ℕ → List ℕ → Ordering
 by_hash = slice_cmp nat_cmp
@@ -66,10 +65,6 @@ pub found_codes : (entries : LedgerMap) (pairs : List Pair) → AreFound entries
 found_codes entries [] all = tt
 found_codes entries (p ∷ pairs) all = (all.0, found_codes entries pairs all.1)
 
--- the codes of one pair more
-pub codes_grow : (pairs : List Pair) (i : ℕ) (d : Pair) → i < length pairs → codes_of (take i pairs) ++ code_of_pair (get_or pairs i d) ∷ [] ≡ codes_of (take (suc i) pairs)
-codes_grow pairs i d within = sym (ap codes_of (take-suc pairs i d within) ∙ map-append code_of_pair (take i pairs) (get_or pairs i d ∷ []))
-
 pub all_codes : (entries : LedgerMap) (pairs : List Pair) → AreFound entries pairs → All (IsCodeIn entries) (codes_of pairs)
 all_codes entries pairs all = All-from_recursion (IsCodeIn entries) (codes_of pairs) (found_codes entries pairs all)
 
@@ -94,9 +89,6 @@ has_cond false code o has = has
 
 pub insert_keeps : (old new : Codes) (hash : List ℕ) (code : Bor (List ℕ)) → Updates by_hash old new hash (Some code) → KeepsHashes old new
 insert_keeps old new hash code updates q has = ap is_some (updates.0 q) ∙ has_cond (is_at (by_hash hash) q) code (get by_hash old q) has
-
-pub insert_has : (old new : Codes) (hash : List ℕ) (code : Bor (List ℕ)) → Updates by_hash old new hash (Some code) → has_hash new hash ≡ true
-insert_has old new hash code updates = ap is_some updates.1
 
 equal_from : (o : Ordering) → is_eq o ≡ true → o ≡ Equal
 equal_from Less e = absurd cc

@@ -1,12 +1,11 @@
 -- The least conflict of one cluster with those after it, and of a stage.
-use Rattle.std.specs.List.{fold, flat_map}
+use Rattle.std.specs.List.{fold}
 use Rattle.std.specs.Option.{option_map}
 use Rattle.std.specs.Prelude.{slice_get}
 use Rattle.std.proofs.Common.{◌≡◌, ◌⊎◌, inl, inr, ℕ, ◌+◌, ◌<◌, ◌≤◌, true, false, List, [], ◌∷◌, ◌++◌, length, map, get_or, take, Some, All, refl, sym, ap, subst, ◌∙◌, arith}
 use Rattle.std.proofs.Math.Seq.{take-length}
 use Rattle.std.proofs.lemmas.Bool.{cases_order}
-use Rattle.std.proofs.lemmas.Grind.{flat_map-append}
-use Rattle.std.proofs.lemmas.List.{take_more, append-nil, length-map}
+use Rattle.std.proofs.lemmas.List.{take_more, length-map}
 use Rattle.std.proofs.lemmas.List.Sums.{fold-append}
 use Rattle.std.proofs.lemmas.Option.{slice_get_within, slice_get-map, slice_get_read}
 use Rattle.tx_xdr.specs.declared.set.Cluster as sets
@@ -14,7 +13,7 @@ use Rattle.ledger_types.specs.Key.{key_format}
 use Rattle.stage_runs.specs.Maps.{Bytes, LedgerKey}
 use Rattle.stage_runs.specs.Transactions.{Envelope, declared_by}
 use Rattle.stage_runs.specs.Runs.{Cluster, Stage, HasNoConflict}
-use Rattle.stage_runs.specs.Conflicts.{meet_at, IsConflict, IsLeastConflict}
+use Rattle.stage_runs.specs.Conflicts.{meet_at, IsConflict}
 use Rattle.stage_runs.proofs.Lemmas.{free_from, never}
 use Rattle.stage_plan.specs.Least.{IsLeastAt, IsFirstWith}
 use Rattle.stage_plan.specs.Spelled.{DeclaresSpelled, IsCluster}
@@ -27,14 +26,6 @@ fold_more f b xs i x lt is =
 
 pub take_all : {A : Type 0} (xs : List A) (i : ℕ) → length xs ≤ i → i ≤ length xs → take i xs ≡ xs
 take_all xs i le ge = ap (λ (n : ℕ). take n xs) (omega (arith, le, ge)) ∙ take-length xs
-
--- the same of lists that follow one another
-pub fold_more_of : {A B C : Type 0} (f : B → A → B) (b : B) (g : C → List A) (xs : List C) (i : ℕ) (x : C) → i < length xs → x ≡ get_or xs i x
-    → fold f b (flat_map g (take (i + 1) xs)) ≡ fold f (fold f b (flat_map g (take i xs))) (g x)
-fold_more_of f b g xs i x lt is =
-    ap (λ ys. fold f b (flat_map g ys)) (take_more xs i x lt ∙ ap (λ y. take i xs ++ y ∷ []) (sym is))
-    ∙ ap (fold f b) (flat_map-append g (take i xs) (x ∷ []) ∙ ap (λ ys. flat_map g (take i xs) ++ ys) (append-nil (g x)))
-    ∙ fold-append f b (flat_map g (take i xs)) (g x)
 
 -- ---- numbers
 
@@ -98,9 +89,6 @@ met stage a b q c d at_a at_b h =
 abbrev pub NoneBefore : Stage → ℕ → ℕ → Type 0
 NoneBefore stage a b = (d : ℕ) (q : Bytes) → d < b → IsConflict stage a d q → ⊥
 
-pub none_at_first : (stage : Stage) (a b : ℕ) → b ≤ a + 1 → NoneBefore stage a b
-none_at_first stage a b le d q lt h = let before = h.before in absurd (omega (arith, before))
-
 pub none_more : (stage : Stage) (a b : ℕ) (c d : Cluster) → slice_get stage a ≡ Some c → slice_get stage b ≡ Some d → ((q : Bytes) → meet_at c d q ≡ false)
     → NoneBefore stage a b → NoneBefore stage a (b + 1)
 none_more stage a b c d at_a at_b none before k q lt h =
@@ -133,20 +121,6 @@ NoneFrom stage a = (c d : ℕ) (q : Bytes) → c < a → IsConflict stage c d q 
 pub none_from_more : (stage : Stage) (a : ℕ) → ((d : ℕ) (q : Bytes) → IsConflict stage a d q → ⊥) → NoneFrom stage a → NoneFrom stage (a + 1)
 none_from_more stage a none before c d q lt h =
     split_last c a lt (λ less. before c d q less h) (λ same. none d q (subst (λ (n : ℕ). IsConflict stage n d q) same h))
-
-pub least_found : (stage : Stage) (a first b : ℕ) (key : Bytes) → IsFirstWith stage a first b key → NoneFrom stage a → IsLeastConflict stage first b key
-least_found stage a first b key h before =
-    subst (λ (n : ℕ). IsLeastConflict stage n b key) (sym h.at)
-    (record {
-      conflict = h.conflict;
-      least = λ c d other conflict. (
-        not_less c a (λ less. before c d other less conflict),
-        (
-          λ same. (h.least d other (subst (λ (n : ℕ). IsConflict stage n d other) (sym same) conflict)).0,
-          λ same even. (h.least d other (subst (λ (n : ℕ). IsConflict stage n d other) (sym same) conflict)).1 even,
-        ),
-      );
-    })
 
 pub none_at_all : (clusters : List sets.Cluster) (a : ℕ) → length clusters ≤ a → NoneFrom (envelopes_of clusters) a → HasNoConflict (envelopes_of clusters)
 none_at_all clusters a le before =

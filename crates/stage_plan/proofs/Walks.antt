@@ -1,8 +1,7 @@
 -- A loop over the keys of a stage that finds the least conflict.
 use Rattle.std.specs.Borrow.{Bor}
 use Rattle.std.specs.List.{fold, AllByRecursion}
-use Rattle.std.proofs.Common.{◌≡◌, List, [], ◌∷◌, ◌++◌, Option, None, append_assoc, refl, sym, ap, subst, ◌∙◌}
-use Rattle.std.proofs.lemmas.List.{append-nil}
+use Rattle.std.proofs.Common.{◌≡◌, List, [], ◌∷◌, ◌++◌, Option, None, append_assoc, sym, ap, subst, ◌∙◌}
 use Rattle.std.proofs.lemmas.List.Sums.{fold-append}
 use Rattle.ledger_types.proofs.Lemmas.{key_ranked}
 use Rattle.stage_runs.specs.Maps.{Bytes, LedgerKey, key_bytes}
@@ -20,9 +19,6 @@ pub record Walked (best : Option Spot) (left : List Lent) (all : List (Bytes × 
   pub all-is : all ≡ done ++ pairs_of left
   pub spelled : AllByRecursion IsSpelled left
 
-pub walked_none : (left : List Lent) (all : List (Bytes × Meeting)) → AllByRecursion IsSpelled left → pairs_of left ≡ all → Walked None left all
-walked_none left all h e = record { done = []; best-is = refl; all-is = sym e; spelled = h }
-
 pub walked_more : (best more : Option Spot) (left : List Lent) (all : List (Bytes × Meeting)) (x : Lent) (rest : List Lent) → Walked best left all → left ≡ x ∷ rest
     → more ≡ lesser_at best (key_bytes x.0.now, x.1) → Walked more rest all
 walked_more best more left all x rest w e is =
@@ -38,7 +34,3 @@ walked_more best more left all x rest w e is =
 -- the next key is within its XDR format
 pub walked_spelled : (best : Option Spot) (left : List Lent) (all : List (Bytes × Meeting)) (x : Lent) (rest : List Lent) → Walked best left all → left ≡ x ∷ rest → IsSpelled x
 walked_spelled best left all x rest w e = let each : AllByRecursion IsSpelled (x ∷ rest) = subst (AllByRecursion IsSpelled) e w.spelled in each.0
-
-pub walked_all : (best : Option Spot) (left : List Lent) (all : List (Bytes × Meeting)) → Walked best left all → left ≡ [] → best ≡ fold lesser_at None all
-walked_all best left all w e =
-    w.best-is ∙ ap (fold lesser_at None) (sym (w.all-is ∙ ap (λ (es : List Lent). w.done ++ pairs_of es) e ∙ append-nil w.done))

@@ -1,13 +1,10 @@
 -- How large the bits of a text are.
-use Rattle.std.proofs.Common.{◌≡◌, ℕ, zero, suc, ◌+◌, ◌*◌, ◌<◌, ◌≤◌, ◌^◌, arith}
+use Rattle.std.proofs.Common.{ℕ, zero, suc, ◌*◌, ◌≤◌, ◌^◌, arith}
 
 -- the number of texts of this length
 abbrev pub cap : ℕ → ℕ
 cap zero = 1
 cap (suc n) = 64 * cap n
-
-pub cap-next : (bits number i j : ℕ) → j ≡ suc i → bits < cap i → number < 64 → bits * 64 + number < cap j
-cap-next bits number i j e h k = rw e (omega (arith, h, k))
 
 pub cap-small : (i : ℕ) → i ≤ 9 → cap i ≤ 2 ^ 54
 cap-small zero h = omega arith

@@ -115,12 +115,6 @@ module _ {A B G U V : Type 0} (work : Work) (f : A → Datum) (g : B → Datum) 
       let p = h free rest trace told in
       (viewed_by f g all_allowed old.ledger.storage.map old new None out a b e p.0, p.1)
 
-pub ends_memory : {B G U V : Type 0} (work : Work) (g : B → Datum) (old new : Host G U V) → (let none : Result B HostErr = Err ends.NoMemory in Ends work none g old new)
-ends_memory work g old new footprint is m agree rest = memory_by g (by_footprint footprint) m old new _ _
-
-pub recorded_memory : {B G U V : Type 0} (work : Work) (g : B → Datum) (old new : Host G U V) → (let none : Result B HostErr = Err ends.NoMemory in EndsRecorded work none g old new)
-recorded_memory work g old new free rest trace told = (memory_by g all_allowed old.ledger.storage.map old new None _, tt)
-
 -- ---- the charge for the value
 
 -- what the program says of the charge

@@ -1,6 +1,7 @@
 mod Arguments
 mod Ending
 mod Fitting
+mod Footprints
 pub mod Lemmas
 mod Making
 mod Needing

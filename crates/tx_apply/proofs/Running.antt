@@ -6,7 +6,7 @@ use Rattle.std.proofs.Common.{◌≡◌, ℕ, Bool, true, false, List, [], rever
 use Rattle.budget_meter.specs.Meter.{Meter}
 use Rattle.budget_meter.specs.declared.kind.Kind.TheVariants.{ValSer}
 use Rattle.value_types.specs.Datum.{Datum}
-use Rattle.value_types.specs.Views.{datum, datums, scval}
+use Rattle.value_types.specs.Views.{datum, scval}
 use Rattle.value_types.proofs.Lemmas.{scval-datum}
 use Rattle.value_types.specs.declared.value.ScVal.{ScVal}
 use Rattle.ledger_types.specs.declared.header.Header.{Header}
@@ -100,18 +100,16 @@ module _ {G U V : Type 0} (old : Host G U V) where
     pub pairs-is : old.marks.pairs ≡ []
     pub noted-is : old.marks.noted ≡ None
     pub open-is : old.open.items ≡ []
-    pub function-is : old.place.function.items ≡ []
-    pub args-is : old.place.args.items ≡ []
-    pub path-is : old.place.path.items ≡ []
-    pub begun-is : old.place.begun ≡ 0
+    pub path-is : old.ledger.frame.path.items ≡ []
+    pub begun-is : old.ledger.frame.begun ≡ 0
     pub meter-is : old.ledger.budget ≡ meter
 
   -- a host that was just made
   pub new_starts : (header : Header) (authority : Authority) (meter : Meter) (entries : LedgerMap) (stored : Stored) → old.ledger.storage ≡ stored → stored.map ≡ entries
       → old.marks ≡ record { entries = authority.entries; source = authority.source; pairs = []; noted = None } → old.verdicts.now ≡ authority.verdicts → old.ledger.header.now ≡ header
-      → old.ledger.budget ≡ meter → old.ledger.events ≡ [] → old.open.items ≡ [] → old.place.function.items ≡ [] → old.place.args.items ≡ [] → old.place.path.items ≡ []
-      → old.place.begun ≡ 0 → Starts header authority meter entries
-  new_starts header authority meter entries stored storage map marks verdicts header-is budget events contracts function args path begun = record {
+      → old.ledger.budget ≡ meter → old.ledger.events ≡ [] → old.open.items ≡ [] → old.ledger.frame.path.items ≡ [] → old.ledger.frame.begun ≡ 0
+      → Starts header authority meter entries
+  new_starts header authority meter entries stored storage map marks verdicts header-is budget events contracts path begun = record {
     header-is = header-is;
     authority-is = λ i. let a : Authority = record { entries = (marks i).entries; source = (marks i).source; verdicts = verdicts i } in a;
     map-is = ap (λ (s : Stored). s.map) storage ∙ map;
@@ -119,8 +117,6 @@ module _ {G U V : Type 0} (old : Host G U V) where
     pairs-is = ap (λ (m : Authorised). m.pairs) marks;
     noted-is = ap (λ (m : Authorised). m.noted) marks;
     open-is = contracts;
-    function-is = function;
-    args-is = args;
     path-is = path;
     begun-is = begun;
     meter-is = budget;
@@ -139,7 +135,7 @@ module _ {G U V : Type 0} (old : Host G U V) where
     events = is.events-is i;
     pairs = is.pairs-is i;
     noted = is.noted-is i;
-    frame = record outside { function = is.function-is i; args = datums (is.args-is i); path = is.path-is i; begun = is.begun-is i };
+    frame = record outside { path = is.path-is i; begun = is.begun-is i };
     contracts = reverse (is.open-is i);
     meter = is.meter-is i;
   }

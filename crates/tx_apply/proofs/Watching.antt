@@ -31,7 +31,7 @@ use Rattle.call_spec.specs.Outcomes.{Leaves, Says, trace_of}
 use Rattle.call_spec.specs.WholeRuns.{Work, arguments_in, does, meter_of, start_of, run_under, done_under}
 use Rattle.contract_call.specs.Traced.{kind_of, known_of, IsTold}
 use Rattle.contract_call.specs.Ended.{UnlessMemory}
-use Rattle.contract_call.specs.Worlds.{DoesAround, IsEnvOf, MayRun, authority_of, leaving_by, world_around}
+use Rattle.contract_call.specs.Worlds.{DoesAround, MayRun, authority_of, leaving_by, world_around}
 use Rattle.contract_call.specs.Host.{Host}
 use Rattle.contract_call.specs.Entering.{with_meter, Passes, Stops, Enters}
 use Rattle.tx_apply.specs.Running.{charging}
@@ -164,11 +164,6 @@ module _ (header : Header) (authority : Authority) (resources : SorobanData) (ma
 -- ---- results
 
 module _ {W : Type 0} (seen : W → Seen) where
-  -- a result with this observer
-  pub seen_kept : (r : Result (TransactionDone W) NoMemory) (w : W) (trace : List Access) → HasSeen (seen w) trace → IfOk r (λ done. done.watch ≡ w) → IfOk r (λ done. HasSeen (seen done.watch) trace)
-  seen_kept (Ok done) w trace h is = subst (λ (x : W). HasSeen (seen x) trace) (sym is) h
-  seen_kept (Err e) w trace h is = tt
-
   pub seen_after : (r : Result (TransactionDone W) NoMemory) (s : Seen) (trace : List Access) → HasSeen s trace → IfOk r (λ done. seen done.watch ≡ s) → IfOk r (λ done. HasSeen (seen done.watch) trace)
   seen_after (Ok done) s trace h is = subst (λ (x : Seen). HasSeen x trace) (sym is) h
   seen_after (Err e) s trace h is = tt

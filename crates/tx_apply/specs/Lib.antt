@@ -11,4 +11,4 @@ pub use Rattle.contract_call.specs.Traced
 pub use Rattle.contract_call.specs.Ended
 pub use Rattle.contract_call.specs.Worlds
 pub use Rattle.contract_call.specs.Host
-pub use Rattle.contract_call.specs.Placed
+pub use Rattle.contract_call.specs.Paths

@@ -78,7 +78,6 @@ fn parts_of<G: Ground, W: Watch>(host: Host<'_, G, Marks<'_>, W>) -> (Events, W)
         open: _,
         marks: _,
         verdicts: _,
-        place: _,
         codes: _,
     } = host;
     let HostLedger {

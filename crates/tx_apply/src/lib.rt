@@ -4,6 +4,7 @@
 mod authority;
 mod call;
 mod envelope;
+mod footprint;
 mod needs;
 mod recording;
 mod run;

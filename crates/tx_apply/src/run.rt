@@ -3,7 +3,6 @@
 ghost use Rattle.std.specs.Prelude.{◌≡◌, ◌<◌, ◌^◌, length, IfOk, IfErr};
 ghost use Rattle.std.specs.Option.{option_map};
 ghost use Rattle.value_types.specs.Datum.{Datum, bytes, address as address_datum};
-ghost use Rattle.value_types.specs.Hash.{hash_format};
 ghost use Rattle.value_types.specs.Views.{datum, datums};
 ghost use Rattle.value_types.specs.declared.address.ScAddress.TheVariants as addresses;
 ghost use Rattle.host_spec.specs.Hosted.{IsHosted, AreHosted, size_of as size_in};
@@ -11,7 +10,7 @@ ghost use Rattle.call_spec.specs.Acts.{paying};
 ghost use Rattle.call_spec.specs.WholeRuns.{calling, uploading, creating};
 ghost use Rattle.contract_call.specs.Creations.{args_of, creation_of, AreArgsHosted};
 ghost use Rattle.contract_call.specs.Ended.{Ends, EndsRecorded};
-ghost use Rattle.contract_call.specs.Placed.{HasRoom};
+ghost use Rattle.contract_call.specs.Paths.{HasRoom};
 ghost use Rattle.contract_call.specs.Worlds.{MayRun};
 ghost use Rattle.tx_steps.specs.Jobs.{work_in, values_in, datums_in, IsSpelled};
 ghost use Rattle.contract_call.specs.Entering.{Enters};
@@ -27,15 +26,7 @@ use host_frame::{charge, size_of};
 use host_spec::{HostErr, ValueErr};
 use std::alloc::Global;
 use tx_steps::Job;
-use value_types::{Blob, Hash, ScAddress, ScVal};
-
-/// Says that a hash has a spelling.
-#[tactic(auto, unfolding(value_types::specs::Hash::hash_format))]
-fn hold_hash(hash: Hash)
-    ensures { hash_format.fits hash }
-{
-    let _ = hash;
-}
+use value_types::{Blob, Hash, ScAddress, ScVal, hash_fits};
 
 /// A hash as a value of bytes.
 fn hash_value(alloc: Global, hash: Hash) -> Result<ScVal, ValueErr>
@@ -43,7 +34,7 @@ fn hash_value(alloc: Global, hash: Hash) -> Result<ScVal, ValueErr>
     ensures hosted { IfOk result (λ value. IsHosted (datum value)) }
     ensures memory { IfErr result (λ e. e ≡ ValueErr.NoMemory) }
 {
-    hold_hash(hash);
+    hash_fits(hash);
     let content = hash.0.to_vec(alloc)?;
     Ok(ScVal::Bytes(Blob::from_vec(content)))
 }
@@ -53,7 +44,7 @@ fn contract_value(id: Hash) -> ScVal
     ensures value { datum result ≡ address_datum (addresses.Contract id) }
     ensures hosted { IsHosted (datum result) }
 {
-    hold_hash(id);
+    hash_fits(id);
     ScVal::Address(ScAddress::Contract(id))
 }
 

@@ -19,6 +19,7 @@ ghost use Rattle.tx_apply.specs.Simulating.{simulated_in};
 ghost use Rattle.tx_apply.specs.Watching.{HasSeen, accesses_of};
 
 use crate::envelope::{TxDone, enforce_watched};
+use crate::footprint::with_footprint;
 use crate::needs::needed;
 use budget_meter::Used;
 use code_cache::Cache;
@@ -26,7 +27,7 @@ use contract_storage::{NoWatch, Watch};
 use entry_lookup::Ground;
 use ledger_types::{Header, Verdicts};
 use std::alloc::Global;
-use tx_steps::{Needs, with_footprint};
+use tx_steps::Needs;
 use tx_xdr::{Envelope, Footprint};
 use xdr_core::NoMemory;
 

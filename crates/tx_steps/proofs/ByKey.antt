@@ -46,9 +46,6 @@ leads_more old new es c is h key fits =
     ∙ ap (λ (o : Option Kept). cond (eq_by_cmp order (key_bytes key) (key_bytes c.key)) c.now o) (sym (found_at old es key fits) ∙ h key fits)
     ∙ sym (set_gets new (key_bytes c.key) c.now (key_bytes key))
 
-pub leads_none : (old : LedgerMap) → Leads old old []
-leads_none old key fits = refl
-
 pub lie_more : (es : Row) (key : LedgerKey) (now : Option Kept) → CanLie (key, now) → AllByRecursion CanLie es → AllByRecursion CanLie (insert_entry key_cmp es key now)
 lie_more [] key now is h = (is, tt)
 lie_more (x ∷ es) key now is h =

@@ -13,7 +13,6 @@ use Rattle.tx_results.specs.Report.{has_preimage}
 use Rattle.tx_results.specs.Results.{outcome_format}
 use Rattle.tx_results.specs.Operations.{invoke_format}
 use Rattle.tx_results.proofs.Lemmas.{extend_fits, failed_fits, invoke_fits, invoke_success_fits, malformed_fits, missing_operation_fits, not_supported_fits, soroban_invalid_fits, success_fits, too_early_fits, too_late_fits}
-use Rattle.tx_xdr.specs.declared.transaction.Footprint.{Footprint}
 use Rattle.tx_xdr.specs.declared.transaction.Transaction.{Transaction}
 use Rattle.tx_results.specs.declared.codes.ExtendResult.TheVariants as extends
 use Rattle.tx_results.specs.declared.operation.InvokeResult.{InvokeResult}
@@ -22,7 +21,7 @@ use Rattle.tx_results.specs.declared.operation.InnerResult.TheVariants.{Invoke, 
 use Rattle.tx_results.specs.declared.operation.OperationResult.{OperationResult}
 use Rattle.tx_results.specs.declared.operation.OperationResult.TheVariants.{Inner, NotSupported}
 use Rattle.tx_results.specs.declared.results.TransactionOutcome.{TransactionOutcome}
-use Rattle.tx_results.specs.declared.results.TransactionOutcome.TheVariants.{Success, Failed, MissingOperation, Malformed}
+use Rattle.tx_results.specs.declared.results.TransactionOutcome.TheVariants.{Success, Failed, Malformed}
 use Rattle.value_types.specs.Hash.{hash_format}
 use Rattle.value_types.specs.declared.hash.Hash.{Hash}
 use Rattle.invoke_types.specs.Success.{success_format}
@@ -30,11 +29,9 @@ use Rattle.invoke_types.specs.declared.success.SuccessPreimage.{SuccessPreimage}
 use Rattle.stage_runs.specs.declared.Change.{Change}
 use Rattle.stage_runs.specs.declared.Extension.{Extension}
 use Rattle.stage_runs.specs.Whole.{nothing_used}
-use Rattle.call_spec.specs.World.{next_seq}
 use Rattle.apply_spec.specs.Checks.{refusal_of, checks_of, first_failed}
-use Rattle.apply_spec.specs.Enforced.{may_extend}
 use Rattle.apply_spec.specs.Extending.{extensions_of, extension_seen}
-use Rattle.tx_steps.specs.Outcomes.{Ended, without_changes, without_effect, unsuccessful, extended}
+use Rattle.tx_steps.specs.Outcomes.{without_changes, without_effect, unsuccessful}
 use Rattle.tx_steps.specs.Effects.{CanChange, CanEnd}
 use Rattle.stage_runs.proofs.Lemmas.{AreSpelled}
 
@@ -82,22 +79,6 @@ pub archived_fits : invoke_format.fits invokes.EntryArchived
 unfolding invoke_format
 archived_fits = refl
 
-chosen_can : (b : Bool) (x y : Ended) → CanEnd x → CanEnd y → CanEnd (if b then x else y)
-chosen_can true x y h k = h
-chosen_can false x y h k = k
-
-pub extended_can : (header : Header) (entries : LedgerMap) (footprint : Footprint) (extend_to : ℕ) → AreSpelled footprint.read_only → CanEnd (extended header entries footprint extend_to)
-extended_can header entries footprint extend_to h =
-    chosen_can (may_extend header.settings footprint extend_to) _ _
-    (record {
-      outcome = success_fits _ (extend_fits extends.Success);
-      success = tt;
-      preimage = refl;
-      changes = All-nil CanChange;
-      extensions = All-from_recursion Spelled _ (extensions_spelled (next_seq header) entries footprint.read_only _ (recursion_from_All key_format.fits footprint.read_only h));
-    })
-    (without_can _ nothing_used (failed_fits _ (extend_fits extends.Malformed)) refl)
-
 pub extend_malformed_can : (only : OperationResult) → only ≡ Inner (Extend extends.Malformed) → CanEnd (without_effect (Failed (only ∷ [])))
 extend_malformed_can only e = subst (λ (o : OperationResult). CanEnd (without_effect (Failed (o ∷ [])))) (sym e) (without_can _ nothing_used (failed_fits _ (extend_fits extends.Malformed)) refl)
 
@@ -131,9 +112,6 @@ call_done_can results hash success changes found used e h s cs xs = record {
 -- transactions that ran nothing
 pub restore_can : CanEnd (without_effect (Failed (NotSupported ∷ [])))
 restore_can = without_can _ nothing_used (failed_fits _ not_supported_fits) refl
-
-pub missing_can : CanEnd (without_effect MissingOperation)
-missing_can = without_can _ nothing_used missing_operation_fits refl
 
 pub malformed_can : CanEnd (without_effect Malformed)
 malformed_can = without_can _ nothing_used malformed_fits refl

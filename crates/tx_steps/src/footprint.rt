@@ -4,17 +4,14 @@ ghost use Rattle.std.specs.Prelude.{◌≡◌, ◌++◌, All, IfOk, OnOk, map};
 ghost use Rattle.std.specs.List.{list_all};
 ghost use Rattle.ledger_types.specs.Key.{key_format};
 ghost use Rattle.ledger_spec.specs.LedgerMap.{key_bytes};
-ghost use Rattle.tx_xdr.specs.Envelope.{envelope_format};
-ghost use Rattle.tx_xdr.specs.Soroban.{footprint_format};
 ghost use Rattle.apply_spec.specs.Checks.{footprint_of, may_be_declared as is_declarable, may_be_footprint as is_footprint};
-ghost use Rattle.apply_spec.specs.Simulated.{tx_with, with_footprint as with_footprint_in};
 ghost use Rattle.list_laws.specs.Twice.{stand_twice};
 ghost use Rattle.tx_steps.specs.Spellings.{bytes_of};
 
 use ledger_types::LedgerKey;
 use std::alloc::Global;
 use std::collections::BTreeSet;
-use tx_xdr::{Envelope, Footprint, Transaction, TransactionExt};
+use tx_xdr::{Transaction, TransactionExt};
 use value_xdr::encode;
 use xdr_core::NoMemory;
 
@@ -109,30 +106,4 @@ fn all_declarable(keys: &[LedgerKey]) -> bool
     ensures { result ≡ list_all is_declarable keys.now }
 {
     keys.iter().all(may_be_declared)
-}
-
-// ---- another footprint
-
-/// Puts a footprint into a transaction that has Soroban data.
-fn set_footprint(tx: &mut Transaction, footprint: Footprint)
-    ensures { tx.new ≡ tx_with footprint tx.old }
-{
-    if let TransactionExt::Soroban(resources) = &mut tx.ext {
-        resources.footprint = footprint;
-    }
-}
-
-/// Puts a footprint into the transaction of an envelope, of a fee bump into the inner one.
-#[tactic(auto, using(crate::proofs::Footprints::envelope_fits))]
-pub fn with_footprint(mut envelope: Envelope, footprint: Footprint) -> Envelope
-    requires envelope { envelope_format.fits envelope }
-    requires footprint { footprint_format.fits footprint }
-    ensures with { result ≡ with_footprint_in footprint envelope }
-    ensures fits { envelope_format.fits result }
-{
-    match &mut envelope {
-        Envelope::Transaction(signed) => set_footprint(&mut signed.tx, footprint),
-        Envelope::FeeBump(signed) => set_footprint(&mut signed.fee_bump.inner.tx, footprint),
-    }
-    envelope
 }

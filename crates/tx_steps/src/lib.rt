@@ -7,8 +7,8 @@
 //! 2. After the run: the test of the bytes that are written (`writes_more`), the outcome of the transaction with its changes and
 //!    extensions (`succeeded`, `ended`, `failed_call`), and the result of its envelope (`result_pair`).
 //! 3. EXTEND_FOOTPRINT_TTL, as a whole (`extend_footprint`).
-//! 4. For a simulation: the needs of a transaction that runs no host function (`kept_footprint`, `no_needs`), the footprint of
-//!    the keys that a run has touched (`footprint_of`), and the envelope with a footprint (`with_footprint`).
+//! 4. For a simulation: the needs of a transaction that runs no host function (`kept_footprint`, `no_needs`), and the footprint
+//!    of the keys that a run has touched (`footprint_of`).
 #![tactic(auto)]
 
 mod bounds;
@@ -29,7 +29,7 @@ mod writing;
 pub use checks::{form_refusal, refusal_of};
 pub use envelope_result::result_pair;
 pub use extend::extend_footprint;
-pub use footprint::{read_only_of, read_write_of, with_footprint};
+pub use footprint::{read_only_of, read_write_of};
 pub use job::{Job, job_of, values};
 pub use needs::{Needs, kept_footprint, no_keys, no_needs};
 pub use reading::{declares_archived, reads_more};

@@ -161,3 +161,8 @@ envelope_lawful = union_lawful number type_of kind arms (record {
   bodies = arms_lawful;
   coherent = coherent;
 })
+
+-- ---- a list of envelopes
+
+abbrev pub envelopes_format : Format (List Envelope)
+envelopes_format = list 4294967295 envelope_format

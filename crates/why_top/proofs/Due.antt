@@ -2,31 +2,14 @@
 use Rattle.std.proofs.Common.{◌≡◌, ℕ, List, Option, Some, Result, Ok, Err, IfErr, IfOk, IfSome, subst}
 use Rattle.std.specs.Global.{Vec}
 use Rattle.edge_io.specs.Contents.{Contents}
-use Rattle.why_top.specs.Counts.{AreAllThere, AreThere, AreThereFor, HasCause, IsNoFault, files_of}
+use Rattle.why_top.specs.Counts.{AreAllThere, AreThere, AreThereFor, HasCause, files_of}
 use Rattle.why_top.specs.Ends.{IsDue, IsDueRefusal, IsRefusedRun, Prints, code_due, said_of}
 use Rattle.why_top.specs.Files.{ExplainsFiles}
-use Rattle.why_top.specs.Refused.{IsRefused, of_words}
+use Rattle.why_top.specs.Refused.{IsRefused}
 use Rattle.why_top.specs.declared.error.WhyErr.{WhyErr}
 use Rattle.why_top.specs.declared.error.WhyErr.TheVariants as refusals
-use Rattle.why_words.specs.Answers.{ReadsRequest}
 use Rattle.why_words.specs.Words.{asked_of}
 use Rattle.why_words.specs.declared.request.Request.{Request}
-use Rattle.why_words.specs.declared.words.NoRequest.{NoRequest}
-use Rattle.why_words.specs.declared.words.NoRequest.TheVariants as no_request
-
--- ---- the words
-
--- words that are no request
-pub words_due : (words : List (List ℕ)) (contents : Contents) (old new : ℕ → ℕ) (e : NoRequest) → (let r : Result Request NoRequest = Err e in ReadsRequest r words)
-    → IsDueRefusal words contents old new (of_words e)
-words_due words contents old new no_request.Usage h = h
-words_due words contents old new (no_request.Shown text) h = h
-words_due words contents old new no_request.NoMemory h = tt
-
-pub words_no_fault : (e : NoRequest) → IsNoFault (of_words e)
-words_no_fault no_request.Usage = tt
-words_no_fault (no_request.Shown text) = tt
-words_no_fault no_request.NoMemory = tt
 
 -- ---- the run
 

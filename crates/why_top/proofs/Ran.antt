@@ -1,5 +1,5 @@
 -- Lines that end as the run of an envelope has to.
-use Rattle.std.proofs.Common.{◌≡◌, Bool, true, false, List, ◌++◌, ℕ, Option, sym, ap, subst, ◌∙◌, append_assoc}
+use Rattle.std.proofs.Common.{Bool, true, false, List, ◌++◌, ℕ, Option, sym, ap, subst, ◌∙◌, append_assoc}
 use Rattle.budget_meter.specs.declared.budget.Used.{Used}
 use Rattle.ledger_types.specs.declared.header.Header.{Header}
 use Rattle.ledger_types.specs.declared.verdicts.Verdicts.{Verdicts}

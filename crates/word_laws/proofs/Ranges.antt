@@ -8,10 +8,6 @@ use Rattle.host_spec.specs.Characters.{is_character}
 use Rattle.host_spec.specs.Words.{fits56, only_if, parts_fit56}
 use Rattle.word_laws.specs.Laws.{SmallValuesHaveRanges}
 
-only_is : {A : Type 0} (b : Bool) (a : A) → is_some (only_if b a) ≡ b
-only_is true a = refl
-only_is false a = refl
-
 both : (a b : Bool) → a ≡ true → b ≡ true → (a && b) ≡ true
 both a b e f = ap₂ (λ (x y : Bool). x && y) e f
 

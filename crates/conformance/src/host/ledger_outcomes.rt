@@ -11,7 +11,7 @@ ghost use Rattle.host_ledger.specs.Worlds.{IsHeld, IsReady};
 use crate::errors::made;
 use crate::host::ledger_prepared::PreparedLedger;
 use crate::host::outcomes::push_size;
-use case_text::{CaseErr, push_hex};
+use case_text::{CaseErr, push_hex, push_str};
 use contract_storage::{Change, NoWatch, Storage};
 use entry_lookup::Ground;
 use host_ledger::{HostLedger, InstanceCopy, InstanceStorage};
@@ -100,8 +100,7 @@ fn push_change(alloc: Global, out: &mut String, change: &Change) -> Result<(), C
         Some(kept) => push_kept(alloc, out, kept),
         None => {
             push_encoded(alloc, out, "gone ", &change.key)?;
-            out.push('\n')?;
-            Ok(())
+            push_str(out, "\n")
         }
     }
 }
@@ -166,8 +165,7 @@ fn push_copied(
     push_bytes(alloc, out, code)?;
     out.push_str(if storage.is_empty() { " null" } else { " " })?;
     push_bytes(alloc, out, storage)?;
-    out.push('\n')?;
-    Ok(())
+    push_str(out, "\n")
 }
 
 /// The XDR of instance storage as a map. Null has none.

@@ -15,12 +15,13 @@ use crate::host::ledger_prepared::PreparedLedger;
 use case_text::CaseErr;
 use contract_storage::{NoWatch, Storage};
 use host_frame::entry;
-use host_ledger::{InstanceCopy, InstanceStorage, Running};
+use host_ledger::{Frame, InstanceCopy, InstanceStorage};
+use invoke_types::{Function, InvokeContractArgs};
 use ledger_file::Ledger;
 use ledger_types::LedgerKey;
 use object_store::Shown;
 use std::alloc::Global;
-use value_types::{Entries, ScVal};
+use value_types::{Blob, Bytes, Entries, Hash, Items, ScAddress, ScVal};
 use value_xdr::{decode, value_from_bytes};
 
 /// The storage of a transaction that declares the prepared keys.
@@ -84,8 +85,20 @@ fn push_key(alloc: Global, keys: &mut Vec<LedgerKey>, bytes: &[u8]) -> Result<()
     }
 }
 
+/// The function of a contract that has no name and takes no arguments.
+fn no_function(alloc: Global, contract: Hash) -> Function {
+    let name = Blob::from_vec(Vec::new(alloc));
+    let function = Bytes::from_blob(name);
+    let args = Items::from_vec(Vec::new(alloc));
+    Function::ContractFn(InvokeContractArgs {
+        contract: ScAddress::Contract(contract),
+        function,
+        args,
+    })
+}
+
 /// The frame of the prepared contract, which no contract called and which has shown nothing.
-pub fn frame_of(alloc: Global, prepared: &PreparedLedger) -> Result<Running, CaseErr>
+pub fn frame_of(alloc: Global, prepared: &PreparedLedger) -> Result<Frame, CaseErr>
     ensures shown { IfOk result (λ f. f.shown ≡ []) }
     ensures held { IfOk result (λ f. IsHeld f.copy.storage) }
 {
@@ -93,15 +106,22 @@ pub fn frame_of(alloc: Global, prepared: &PreparedLedger) -> Result<Running, Cas
     let code = read_hash(alloc, &prepared.code)?;
     let copied_code = read_hash(alloc, &prepared.copied_code)?;
     let storage = instance_storage(alloc, &prepared.copied_storage)?;
-    Ok(Running {
+    Ok(Frame {
         contract,
         caller: None,
+        function: no_function(alloc, contract),
         code,
+        first: InstanceCopy {
+            code,
+            storage: InstanceStorage::null(),
+        },
         copy: InstanceCopy {
             code: copied_code,
             storage: InstanceStorage::new(storage),
         },
         shown: Shown::new(alloc),
+        path: Vec::new(alloc),
+        begun: 0,
     })
 }
 

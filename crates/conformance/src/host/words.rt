@@ -1,7 +1,7 @@
 //! The words of contracts.
 
 use crate::errors::unread;
-use case_text::{CaseErr, Fragments, hex_number};
+use case_text::{CaseErr, Fragments, hex_number, push_str};
 use object_store::{Objects, Ref, Shown, TakeErr};
 use std::alloc::Global;
 use std::fmt::Write;
@@ -55,8 +55,7 @@ fn means(alloc: Global, word: Val, value: &ScVal) -> Result<bool, CaseErr> {
 
 /// WORD: what the word is in a frame that has shown nothing.
 pub fn word(alloc: Global, words: &str, out: &mut String) -> Result<(), CaseErr> {
-    out.push_str(name_of(alloc, Val(hex_number(words)?)))?;
-    Ok(())
+    push_str(out, name_of(alloc, Val(hex_number(words)?)))
 }
 
 fn name_of(alloc: Global, word: Val) -> &'static str {

@@ -8,4 +8,4 @@ pub returns-clause-encodable : goal.returns-clause-encodable
 returns-clause-encodable c =
     args_encodable c.in_ok-args.args.items c.in_ok-contexts.contexts.items c.args.payload c.args.signer.now c.args.root.now
     (args_are c.in_ok-args.args.items c.in_ok-contexts.contexts.items c.args.payload c.args.signer.now c.args.root.now c.in_ok-args.ensures c.in_ok-contexts.ensures.contexts)
-    c.in_ok-contexts.ensures.contexts c.in_ok-contexts.ensures.few c.hold_hash.ensures c.requires.signer c.requires.root
+    c.in_ok-contexts.ensures.contexts c.in_ok-contexts.ensures.few c.hash_fits.ensures c.requires.signer c.requires.root

@@ -15,9 +15,9 @@ returns-in-Ok-false-clause-does g c =
 
 pub returns-clause-does : goal.returns-clause-does
 returns-clause-does g c =
-    nonce_refused c.args.signer.now c.in-Err.error c.end_of.result c.nonce_key-again.result c.nonce_entry-entry.result c.args.n c.args.storage.now c.make.new.self c.args.budget.now c.end_of.ensures c.nonce_key-again.ensures
+    nonce_refused c.args.signer.now c.in-Err.error c.end_of.result c.nonce_key-key.result c.nonce_entry-entry.result c.args.n c.args.storage.now c.make.new.self c.args.budget.now c.end_of.ensures c.nonce_key-key.ensures
     c.nonce_entry-entry.ensures.entry c.requires.number c.nonce_entry-entry.ensures.fits c.in-Err.ensures
 
 pub returns-clause-key : goal.returns-clause-key
 returns-clause-key g c =
-    put_spelled c.in-Err.error c.end_of.result c.nonce_entry-entry.result c.nonce_key-again.result (c.nonce_key-again.ensures ∙ sym (ap key_of c.nonce_entry-entry.ensures.entry)) c.nonce_entry-entry.ensures.fits c.end_of.ensures
+    put_spelled c.in-Err.error c.end_of.result c.nonce_entry-entry.result c.nonce_key-key.result (c.nonce_key-key.ensures ∙ sym (ap key_of c.nonce_entry-entry.ensures.entry)) c.nonce_entry-entry.ensures.fits c.end_of.ensures

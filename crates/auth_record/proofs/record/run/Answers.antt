@@ -3,7 +3,7 @@ use Rattle.auth_spec.specs.Authorities.{Authorised}
 use Rattle.contract_storage.specs.Stored.{Stored}
 use Rattle.tx_apply.specs.Traced.{IsRecorded}
 use Rattle.call_spec.specs.World.{Authority}
-use Rattle.tx_apply.specs.Placed.{IsPathFor}
+use Rattle.tx_apply.specs.Paths.{IsPathFor}
 use Rattle.tx_apply.specs.Jobs.{work_in}
 use Rattle.auth_record.specs.Given.{terms_in}
 use Rattle.auth_record.specs.Views.{recorded_in, recorded_with, has_failed, value_in}
@@ -31,8 +31,6 @@ returns-clause-recorded g c =
       pairs-is = ap (λ (m : Authorised). m.pairs) marks;
       noted-is = ap (λ (m : Authorised). m.noted) marks;
       open-is = c.new-host.ensures.contracts;
-      function-is = c.new-host.ensures.function;
-      args-is = c.new-host.ensures.args;
       path-is = c.new-host.ensures.path;
       begun-is = c.new-host.ensures.begun;
       meter-is = c.new-host.ensures.budget;

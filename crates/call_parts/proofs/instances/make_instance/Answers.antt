@@ -20,6 +20,6 @@ returns-in-Ok-false-clause-does g c =
 
 pub returns-clause-does : goal.returns-clause-does
 returns-clause-does g c =
-    make_refused (λ env. makes_instance env c.args.contract c.args.code) EXISTS c.instance_entry-entry.result c.first_life-life.result c.in-Err.error c.end_of.result (instance_key c.args.contract) c.instance_key-again.result c.args.storage.now c.make.new.self c.args.budget.now
+    make_refused (λ env. makes_instance env c.args.contract c.args.code) EXISTS c.instance_entry-entry.result c.first_life-life.result c.in-Err.error c.end_of.result (instance_key c.args.contract) c.instance_key-key.result c.args.storage.now c.make.new.self c.args.budget.now
     (instance_makes c.args.contract c.args.code c.instance_entry-entry.result c.first_life-life.result c.args.n c.args.settings.now c.args.storage.now c.instance_entry-entry.ensures.entry c.first_life-life.ensures c.requires.number c.requires.settings)
-    (ap key_of c.instance_entry-entry.ensures.entry) c.instance_key-again.ensures.key c.end_of.ensures c.instance_entry-entry.ensures.fits c.in-Err.ensures
+    (ap key_of c.instance_entry-entry.ensures.entry) c.instance_key-key.ensures.key c.end_of.ensures c.instance_entry-entry.ensures.fits c.in-Err.ensures

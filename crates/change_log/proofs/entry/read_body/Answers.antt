@@ -1,4 +1,4 @@
-use Rattle.std.proofs.Common.{◌≡◌, ℕ, sym, ap, ◌∙◌}
+use Rattle.std.proofs.Common.{ℕ, sym, ap, ◌∙◌}
 use Rattle.xdr_spec.specs.declared.Why.TheVariants.{Tag}
 use Rattle.xdr_spec.specs.Format.{refusal}
 use Rattle.ledger_types.specs.EntryType.{number, kind_of, type_format}

@@ -1,6 +1,6 @@
 use Rattle.std.proofs.Common.{arith, refl}
 use Rattle.std.proofs.lemmas.Result.{err_from_is_err_and}
-use Rattle.set_build.specs.Built.{envelopes_format}
+use Rattle.tx_xdr.specs.Envelope.{envelopes_format}
 use Rattle.xdr_spec.proofs.Lemmas.{spells_decoded}
 use Rattle.command_io.specs.Inputs.{list_in}
 use Rattle.command_io.proofs.Decoding.{unread_due, envelopes_lawful}

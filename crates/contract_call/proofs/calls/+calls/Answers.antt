@@ -1,5 +1,4 @@
 use Rattle.std.proofs.Common.{◌≡◌, ℕ, Result, Ok, Err, length, refl, sym, ap, ◌∙◌, subst}
-use Rattle.std.proofs.lemmas.List.{length-map}
 use Rattle.host_interface.specs.Rows.{row_of}
 use Rattle.host_spec.specs.declared.error.HostErr.{HostErr}
 use Rattle.wasm_run.specs.Suspended.{Suspended, Does, IsFresh}
@@ -13,28 +12,24 @@ use Rattle.call_spec.specs.Frames.{framed}
 use Rattle.call_spec.specs.HostFunctions.{host_of, opener_of}
 use Rattle.wasm_spec.specs.Instances.{Ready, start_of}
 use Rattle.call_host.specs.Running.{entered}
-use Rattle.contract_call.proofs.Calling.{env_later, around_begins, numbered_stays, stays_then, call_enters, target_enters, call_refused, start_ready, start_refused}
+use Rattle.contract_call.proofs.Calling.{env_later, around_begins, numbered_stays, stays_then, call_enters, enters_frame, target_enters, call_refused, start_ready, start_refused}
 use Rattle.call_host.specs.Targets.{may_name, call_of, call_at}
-use Rattle.contract_call.specs.Demanded.{settled}
 use Rattle.contract_call.specs.Made.{authorising, constructing}
 use Rattle.contract_call.proofs.Between.{told_between}
-use Rattle.call_spec.specs.Found.{with_start}
 use Rattle.value_types.specs.declared.value.ScVal.{ScVal}
 use Rattle.std.specs.Prelude.{Vec}
 use Rattle.std.specs.declared.alloc.Global.{Global}
 use Rattle.wasm_run.specs.declared.instance.CallPhase.TheVariants as phase
 use Rattle.wasm_spec.specs.Meaning.{meaning}
-use Rattle.host_ledger.specs.Worlds.{copied}
+use Rattle.host_ledger.specs.Worlds.{called_name, called_args}
 use Rattle.call_host.specs.Framed.{argument_words}
 use Rattle.call_host.proofs.Lemmas.{all_run, called_opened, not_begun, not_run, stays_opened, words_of}
-use Rattle.contract_call.proofs.Opening.{started_does, closes, framed_does, frame_stays, stays_equal}
-use Rattle.std.specs.Prelude.{List, [], ◌∷◌, ◌++◌}
-use Rattle.host_spec.specs.MapRows.{Member}
-use Rattle.host_ledger.specs.declared.state.InstanceCopy.{InstanceCopy}
+use Rattle.contract_call.proofs.Opening.{started_does, closes, framed_does, frame_stays, opened_args, stays_equal}
+use Rattle.std.specs.Prelude.{[], ◌∷◌}
 use Rattle.host_interface.specs.declared.kinds.ArgKind.TheVariants as kinds
 use Rattle.call_spec.specs.Rules.{answered}
 use Rattle.call_spec.specs.Calling.{call}
-use Rattle.std.proofs.Common.{None, Option, Some, arith}
+use Rattle.std.proofs.Common.{Some, arith}
 use Rattle.std.specs.Option.{option_map}
 use Rattle.value_types.specs.Datum.{address}
 use Rattle.value_types.specs.declared.address.ScAddress.TheVariants.{Contract}
@@ -42,7 +37,7 @@ use Rattle.host_interface.specs.declared.import.HostImport.TheVariants as import
 use Rattle.call_spec.specs.World.{Env}
 use Rattle.call_spec.specs.Asking.{check_of}
 use Rattle.call_spec.specs.Calling.{try_call, catching, calls, calls_if, calls_for_host}
-use Rattle.call_spec.specs.Creating.{creates, creates_at, create_contract, create_contract_with_constructor, upload_wasm, CONSTRUCTOR}
+use Rattle.call_spec.specs.Creating.{creates, creates_at, create_contract, create_contract_with_constructor, upload_wasm}
 use Rattle.call_spec.specs.Demands.{demanded, require_auth, require_auth_for_args}
 use Rattle.call_spec.specs.HostFunctions.{host_function}
 use Rattle.host_ledger.specs.Worlds.{address_of}
@@ -51,9 +46,8 @@ use Rattle.contract_call.specs.Parts.{IsPart}
 use Rattle.call_host.specs.Taken.{creates_here}
 use Rattle.auth_parts.specs.Asked.{asks_then}
 use Rattle.auth_parts.specs.Views.{asked}
-use Rattle.call_host.specs.Placed.{IsNewPlace}
 use Rattle.contract_call.proofs.Construction.{creates_does, creates_refused, authorises_does, authorises_not, builds_does, builds_refused, constructs_does}
-use Rattle.contract_call.proofs.Demanding.{demanded_does, marked_stays, proves_does, proves_not, nothing_left, checks_does, grants_does, own_does, given_does, here_does}
+use Rattle.contract_call.proofs.Demanding.{met_does, proves_does, proves_not, nothing_left, checks_does, grants_does, own_does, given_does, here_does}
 use Rattle.contract_call.proofs.Arity.{event_arity}
 use Rattle.contract_call.proofs.Rowing.{taken_does, called_by, over_same, row_answers, stays_on, valued_does, in_around}
 use Rattle.contract_call.proofs.calls.+calls.Goals as goal
@@ -89,36 +83,30 @@ call_below-returns-in-Ok-clause-does g t c =
 
 pub call_target-returns-in-Ok-clause-does : goal.call_target-returns-in-Ok-clause-does
 call_target-returns-in-Ok-clause-does g t c =
-    target_enters c.args.room c.args.call c.args.found c.new_frame-frame.result c.in-Ok.place c.enter.result c.args.host.now c.enter.new.host c.args.path.items
-    (subst (λ (vs : List ScVal). IsNewPlace c.in-Ok.place c.args.call.function.now vs c.args.path.items) c.as_slice.ensures.value c.in-Ok.ensures.ok) c.new_frame-frame.ensures.contract c.new_frame-frame.ensures.caller
-    c.new_frame-frame.ensures.copy
-    (subst
-    (λ (m : Module). DoesAround c.enter.result datum
-    (λ env. with_start (start_of m c.in-Ok.place.function.items (length (datums c.args.call.args.items)))
-    (λ index store. framed env (host_of env (opener_of env c.args.room)) (entered c.new_frame-frame.result c.in-Ok.place.function.items (datums c.args.call.args.items) c.in-Ok.place.path.items m index store)))
-    c.args.host.now c.enter.new.host)
-    c.linked.ensures c.enter.ensures.does)
+    target_enters c.args.room c.args.call c.args.found c.in-Ok.frame c.enter.result c.args.host.now c.enter.new.host c.args.path.items c.in-Ok.ensures.ok
+    (subst (λ (m : Module). DoesAround c.enter.result datum (λ env. enters_frame env c.args.room c.in-Ok.frame m) c.args.host.now c.enter.new.host) c.linked.ensures c.enter.ensures.does)
 
 pub enter-returns-in-Ok-clause-does : goal.enter-returns-in-Ok-clause-does
 enter-returns-in-Ok-clause-does g t c =
     let m = c.args.module.now in
+    let f = c.args.frame in
     let index = c.in-Ok.ensures.does.0 in
     let store = c.in-Ok.ensures.does.1 in
-    let function = c.args.place.function.items in
-    let count = c.len.ensures ∙ c.args.args.ok.0 ∙ sym (length-map c.args.args.items datum) in
-    start_ready (start_of m function (length (datums c.args.args.items))) index store c.open.result datum
-    (λ env index store. framed env (host_of env (opener_of env c.args.room)) (entered c.args.frame function (datums c.args.args.items) c.args.place.path.items m index store)) c.args.host.now c.open.new.host
-    (subst (λ f. start_of m f (length (datums c.args.args.items)) ≡ Ready index store) c.as_slice.ensures.value (subst (λ n. start_of m c.as_slice.result.now n ≡ Ready index store) count c.in-Ok.ensures.does.2))
+    let count = c.args_of-count.ensures.count in
+    start_ready (start_of m (called_name f.function) (length (called_args f.function))) index store c.open.result datum
+    (λ env index store. framed env (host_of env (opener_of env c.args.room)) (entered f m index store)) c.args.host.now c.open.new.host
+    (subst (λ x. start_of m x (length (called_args f.function)) ≡ Ready index store) c.name_of-name.ensures (subst (λ n. start_of m c.name_of-name.result.now n ≡ Ready index store) count c.in-Ok.ensures.does.2))
     (c.open.ensures.does index store (subst (λ n. IsFresh c.in-Ok.instance m index n store) count c.in-Ok.ensures.does.3))
 
 pub enter-returns-in-Err-clause-does : goal.enter-returns-in-Err-clause-does
 enter-returns-in-Err-clause-does g t c =
     let none : Result Suspended HostErr = Err c.in-Err.error in
-    let function = c.args.place.function.items in
-    let count = c.len.ensures ∙ c.args.args.ok.0 ∙ sym (length-map c.args.args.items datum) in
-    start_refused c.args.module.now function (length (datums c.args.args.items)) c.in-Err.error
-    (λ env index store. framed env (host_of env (opener_of env c.args.room)) (entered c.args.frame function (datums c.args.args.items) c.args.place.path.items c.args.module.now index store)) c.args.host.now
-    (subst (λ f. IsStarted c.args.module.now f (length (datums c.args.args.items)) none) c.as_slice.ensures.value (subst (λ n. IsStarted c.args.module.now c.as_slice.result.now n none) count c.in-Err.ensures.does))
+    let m = c.args.module.now in
+    let f = c.args.frame in
+    let count = c.args_of-count.ensures.count in
+    start_refused m (called_name f.function) (length (called_args f.function)) c.in-Err.error
+    (λ env index store. framed env (host_of env (opener_of env c.args.room)) (entered f m index store)) c.args.host.now
+    (subst (λ x. IsStarted m x (length (called_args f.function)) none) c.name_of-name.ensures (subst (λ n. IsStarted m c.name_of-name.result.now n none) count c.in-Err.ensures.does))
 
 pub enter-returns-in-Err-clause-stays : goal.enter-returns-in-Err-clause-stays
 enter-returns-in-Err-clause-stays g t c = stays_equal c.args.host.now c.args.host.now refl refl
@@ -178,7 +166,7 @@ inside-returns-clause-does g t c e module_is args_are starts =
     let m = c.args.module.now in
     let old = c.args.host.now in
     let h1 = c.begin.new.host in
-    not_begun (λ env. host_of env (opener_of env c.args.room) m) e (copied c.args.first.now) old c.in-Err.error datum words_of h1
+    not_begun (λ env. host_of env (opener_of env c.args.room) m) e old c.in-Err.error datum words_of h1
     (subst (λ (x : Module). DoesIn none words_of (λ env. argument_words x.memories e.args) old h1) (sym module_is)
     (subst (λ given_args. DoesIn none words_of (λ env. argument_words m.memories given_args) old h1) (sym args_are) c.in-Err.ensures.does))
 
@@ -189,7 +177,7 @@ inside-returns-in-Ok-clause-does g t c e module_is args_are starts =
     let m = c.args.module.now in
     let old = c.args.host.now in
     let h1 = c.begin.new.host in
-    not_run (λ env. host_of env (opener_of env c.args.room) m) e (copied c.args.first.now) old words words_of h1 c.run.new.host
+    not_run (λ env. host_of env (opener_of env c.args.room) m) e old words words_of h1 c.run.new.host
     (subst (λ (x : Module). DoesIn given words_of (λ env. argument_words x.memories e.args) old h1) (sym module_is)
     (subst (λ given_args. DoesIn given words_of (λ env. argument_words m.memories given_args) old h1) (sym args_are) c.in-Ok.ensures.does))
     (env_in old h1 c.in-Ok.ensures.stays) c.in-Err-run.error datum
@@ -203,7 +191,7 @@ inside-returns-in-Ok-run-clause-does g t c e module_is args_are starts =
     let m = c.args.module.now in
     let old = c.args.host.now in
     let h1 = c.begin.new.host in
-    all_run (λ env. host_of env (opener_of env c.args.room) m) e (copied c.args.first.now) old words words_of h1 c.run.new.host
+    all_run (λ env. host_of env (opener_of env c.args.room) m) e old words words_of h1 c.run.new.host
     (subst (λ (x : Module). DoesIn given words_of (λ env. argument_words x.memories e.args) old h1) (sym module_is)
     (subst (λ given_args. DoesIn given words_of (λ env. argument_words m.memories given_args) old h1) (sym args_are) c.in-Ok.ensures.does))
     (env_in old h1 c.in-Ok.ensures.stays) c.in-Ok-run.word c.end.result datum c.end.new.host (env_in h1 c.run.new.host c.in-Ok-run.ensures.stays)
@@ -216,31 +204,27 @@ inside-returns-in-Ok-run-clause-stays g t c =
     let h2 = c.run.new.host in
     stays_twice c.args.host.now h2 c.end.new.host h2.ledger.budget (stays_twice c.args.host.now h1 h2 h1.ledger.budget c.in-Ok.ensures.stays c.in-Ok-run.ensures.stays) c.end.ensures.stays
 
-pub open-returns-in-Ok-open_frame-clause-does : goal.open-returns-in-Ok-open_frame-clause-does
-open-returns-in-Ok-open_frame-clause-does g t c index store fresh =
+pub open-returns-in-Ok-clause-does : goal.open-returns-in-Ok-clause-does
+open-returns-in-Ok-clause-does g t c index store fresh =
     let h = c.args.host.now in
     let h1 = c.open_frame.new.self in
     let h2 = c.inside-result.new.host in
-    let place = c.args.place in
-    let args = c.requires.place.args in
-    let w = c.in-Ok-open_frame.waiting in
-    let closed = closes h h2 c.close_frame.new.self w.objects w.frame w.place c.in-Ok-open_frame.ensures.objects c.in-Ok-open_frame.ensures.waiting c.in-Ok-open_frame.ensures.place c.close_frame.ensures.frame in
-    let e = entered c.args.frame place.function.items (datums place.args.items) place.path.items c.args.module.now index store in
-    subst (λ (vs : List ScVal). DoesAround c.inside-result.result datum (λ env. framed env (host_of env (opener_of env c.args.room)) (entered c.args.frame place.function.items (datums vs) place.path.items c.args.module.now index store)) h c.close_frame.new.self) args
-    (framed_does c.args.frame c.requires.frame place c.requires.place.begun c.args.module.now index store c.args.room c.in-Ok.first c.inside-result.result h h1 h2 c.close_frame.new.self c.in-Ok.ensures.ok c.in-Ok-open_frame.ensures.frame
-    c.in-Ok-open_frame.ensures.contracts c.inside-result.ensures.stays (c.inside-result.ensures.does e refl (ap datums args) (subst (λ (vs : List ScVal). IsFresh c.args.instance c.args.module.now index (length (datums vs)) store) (sym args) fresh)) closed
-    c.close_frame.ensures.contracts)
+    let frame = c.args.frame in
+    let m = c.args.module.now in
+    let suspended = c.in-Ok.suspended in
+    let closed = closes h h2 c.close_frame.new.self suspended c.in-Ok.ensures.objects c.in-Ok.ensures.suspended c.close_frame.ensures.frame in
+    framed_does frame c.requires.frame m index store c.args.room c.inside-result.result h h1 h2 c.close_frame.new.self c.in-Ok.ensures.frame c.in-Ok.ensures.contracts c.inside-result.ensures.stays
+    (c.inside-result.ensures.does (entered frame m index store) refl (sym (opened_args frame h h1 c.in-Ok.ensures.frame)) fresh) closed c.close_frame.ensures.contracts
 
-pub open-returns-in-Ok-open_frame-clause-stays : goal.open-returns-in-Ok-open_frame-clause-stays
-open-returns-in-Ok-open_frame-clause-stays g t c =
+pub open-returns-in-Ok-clause-stays : goal.open-returns-in-Ok-clause-stays
+open-returns-in-Ok-clause-stays g t c =
     let h = c.args.host.now in
     let h2 = c.inside-result.new.host in
-    let w = c.in-Ok-open_frame.waiting in
-    frame_stays c.args.frame c.args.place h c.open_frame.new.self h2 c.close_frame.new.self c.in-Ok-open_frame.ensures.frame c.in-Ok-open_frame.ensures.contracts c.inside-result.ensures.stays
-    (closes h h2 c.close_frame.new.self w.objects w.frame w.place c.in-Ok-open_frame.ensures.objects c.in-Ok-open_frame.ensures.waiting c.in-Ok-open_frame.ensures.place c.close_frame.ensures.frame) c.close_frame.ensures.contracts
+    frame_stays c.args.frame h c.open_frame.new.self h2 c.close_frame.new.self c.in-Ok.ensures.frame c.in-Ok.ensures.contracts c.inside-result.ensures.stays
+    (closes h h2 c.close_frame.new.self c.in-Ok.suspended c.in-Ok.ensures.objects c.in-Ok.ensures.suspended c.close_frame.ensures.frame) c.close_frame.ensures.contracts
 
-pub open-returns-in-Err-open_frame-clause-stays : goal.open-returns-in-Err-open_frame-clause-stays
-open-returns-in-Err-open_frame-clause-stays g t c = stays_equal c.args.host.now c.open_frame.new.self c.in-Err-open_frame.ensures.err c.in-Err-open_frame.ensures.same
+pub open-returns-in-Err-clause-stays : goal.open-returns-in-Err-clause-stays
+open-returns-in-Err-clause-stays g t c = stays_equal c.args.host.now c.open_frame.new.self c.in-Err.ensures.err c.in-Err.ensures.same
 
 pub call_row-returns-in-Ok-clause-does : goal.call_row-returns-in-Ok-clause-does
 call_row-returns-in-Ok-clause-does g t c =
@@ -392,7 +376,7 @@ run-answer-requires g t c κs lives = (
         (
           may_pay c.loop-instance.host c.step_to.new.budget c.loop-instance.invariant.0.ready,
           (
-            still_room c.args.room c.args.host.now c.loop-instance.host c.loop-instance.invariant.0.place c.requires.path,
+            still_room c.args.room c.args.host.now c.loop-instance.host c.loop-instance.invariant.0.left.frame c.requires.path,
             (
               event_arity c.args.module.now c.loop-instance.instance.source c.in-Ok-HostCall.field-0 c.in-Ok-HostCall.import c.as_slice.result.now (row_of c.row-row.result)
                   (c.in-Ok-HostCall.field-0-is ∙ ap (event.HostCall c.in-Ok-HostCall.import) (sym c.as_slice.ensures)) c.in-Ok-HostCall.ensures.names c.loop-instance.invariant.2 c.row-row.ensures,
@@ -407,12 +391,9 @@ run-answer-requires g t c κs lives = (
 
 pub construct-returns-in-Ok-clause-does : goal.construct-returns-in-Ok-clause-does
 construct-returns-in-Ok-clause-does g t c =
-    let copy : InstanceCopy = record { code = c.args.contract.code; storage = None } in
-    let args = c.given_args-args.result.items in
-    constructs_does c.args.room c.if-room-eq0.false c.args.creator c.args.id (creation_of c.args.contract) copy c.new_frame-frame.result c.in-Ok.place args c.args.path.items c.args.module.now c.enter-returned.result c.constructed.result
-    c.args.host.now c.enter-returned.new.host c.given_args-args.ensures.args (sym c.if-not-has_constructor.ensures) c.new_frame-frame.ensures.contract c.new_frame-frame.ensures.caller
-    (c.new_frame-frame.ensures.copy ∙ ap (λ (s : Option (List Member)). let kept : InstanceCopy = record { code = c.args.contract.code; storage = s } in kept) c.null.ensures) refl
-    (subst (λ (vs : List ScVal). IsNewPlace c.in-Ok.place CONSTRUCTOR vs (c.args.path.items ++ 1 ∷ [])) c.as_slice.ensures.value c.in-Ok.ensures.ok) c.enter-returned.ensures.stays c.constructed.ensures.does c.enter-returned.ensures.does
+    constructs_does c.args.room c.if-room-eq0.false c.args.creator c.args.id (creation_of c.args.contract) c.in-Ok.frame c.given_args-args.result.items c.args.path.items c.args.module.now c.enter-returned.result
+    c.constructed.result c.args.host.now c.enter-returned.new.host c.given_args-args.ensures.args (sym c.if-not-has_constructor.ensures) c.in-Ok.ensures.ok c.enter-returned.ensures.stays c.constructed.ensures.does
+    c.enter-returned.ensures.does
 
 pub build-returns-in-Ok-clause-does : goal.build-returns-in-Ok-clause-does
 build-returns-in-Ok-clause-does g t c =
@@ -431,43 +412,44 @@ pub authorise-returns-in-Ok-create_function-clause-does : goal.authorise-returns
 authorise-returns-in-Ok-create_function-clause-does g t c =
     let room = c.args.room in
     let mid = c.paid_id.new.host in
+    let marked = c.demand_create-met.new.host in
     let new = c.settle-settled.new.host in
     let path = c.args.path.now in
-    let caller = c.contract_address-caller.result in
     let creator = option_map address_of c.args.creator in
     let made = creation_of c.args.contract.now in
-    let function = c.in-Ok-create_function.function in
-    let marks = c.demand-met.new.self in
     let met = c.settle-settled.result in
-    let stays = stays_then mid (record mid { marks = marks }) new (marked_stays mid path caller made.deployer function c.demand-met.result marks c.demand-met.ensures) (subst (λ h. Stays h new) c.tell_demanded.ensures c.settle-settled.ensures.stays) in
+    let stays = stays_then mid marked new c.demand_create-met.ensures.stays c.settle-settled.ensures.stays in
     authorises_does room creator made path c.in-Ok.id c.granted.result c.args.host.now mid new c.in-Ok.ensures.stays c.in-Ok.ensures.does
     (grants_does room creator made path c.in-Ok.id met c.granted.result mid new (env_later mid new stays) c.granted.ensures.does
     (subst (λ f. DoesAround met (λ u. u) (λ env. demanded env (opener_of env room) path creator made.deployer f) mid new) c.in-Ok-create_function.ensures.ok
-    (subst (λ a. DoesAround met (λ u. u) (λ env. demanded env (opener_of env room) path a made.deployer function) mid new) c.contract_address-caller.ensures
-    (demanded_does room path caller made.deployer function c.demand-met.result met mid marks new c.demand-met.ensures c.settle-settled.ensures.memory
-    (subst (λ h. DoesAround met (λ u. u) (λ env. settled env (opener_of env room) c.demand-met.result) h new) c.tell_demanded.ensures c.settle-settled.ensures.does)))))
+    (met_does room path c.args.creator made.deployer c.in-Ok-create_function.function c.demand_create-met.result met mid marked new c.demand_create-met.ensures.met c.settle-settled.ensures.memory c.settle-settled.ensures.does)))
 
 pub authorise-returns-in-Ok-create_function-clause-stays : goal.authorise-returns-in-Ok-create_function-clause-stays
 authorise-returns-in-Ok-create_function-clause-stays g t c =
     let mid = c.paid_id.new.host in
     let new = c.settle-settled.new.host in
-    let marks = c.demand-met.new.self in
-    stays_then c.args.host.now mid new c.in-Ok.ensures.stays
-    (stays_then mid (record mid { marks = marks }) new
-    (marked_stays mid c.args.path.now c.contract_address-caller.result c.args.contract.now.deployer c.in-Ok-create_function.function c.demand-met.result marks c.demand-met.ensures)
-    (subst (λ h. Stays h new) c.tell_demanded.ensures c.settle-settled.ensures.stays))
+    stays_then c.args.host.now mid new c.in-Ok.ensures.stays (stays_then mid c.demand_create-met.new.host new c.demand_create-met.ensures.stays c.settle-settled.ensures.stays)
 
 pub authorise-returns-in-Err-clause-does : goal.authorise-returns-in-Err-clause-does
 authorise-returns-in-Err-clause-does g t c =
     authorises_not c.args.room (option_map address_of c.args.creator) (creation_of c.args.contract.now) c.args.path.now c.in-Err.error c.args.host.now c.paid_id.new.host c.in-Err.ensures.does
 
-pub auth_row-returns-in-Ok-own_call-clause-does : goal.auth_row-returns-in-Ok-own_call-clause-does
-auth_row-returns-in-Ok-own_call-clause-does g t c =
+pub auth_row-returns-in-Ok-clause-does : goal.auth_row-returns-in-Ok-clause-does
+auth_row-returns-in-Ok-clause-does g t c =
     let room = c.args.room in
     let mid = c.auth_words.new.host in
-    taken_does c.in-Ok.address c.demand_here.result (λ env. answered (kinds.Address ∷ []) (require_auth env (opener_of env room)) c.args.words.now) (λ env x. require_auth env (opener_of env room) x) c.args.host.now mid c.demand_here.new.host
+    let new = c.settle-settled.new.host in
+    taken_does c.in-Ok.address c.authorised.result (λ env. answered (kinds.Address ∷ []) (require_auth env (opener_of env room)) c.args.words.now) (λ env x. require_auth env (opener_of env room) x) c.args.host.now mid new
     c.in-Ok.ensures.stays (c.in-Ok.ensures.takes (λ env. require_auth env (opener_of env room)))
-    (own_does room c.in-Ok.address c.in-Ok-own_call.function c.demand_here.result mid c.demand_here.new.host c.in-Ok-own_call.ensures.ok c.demand_here.ensures.does)
+    (own_does room c.in-Ok.address c.authorised.result mid new c.in-Ok.ensures.stays.ready.called
+    (here_does room c.in-Ok.address mid.ledger.frame.function c.demand_own-met.result c.settle-settled.result c.authorised.result mid c.demand_own-met.new.host new c.demand_own-met.ensures.met c.demand_own-met.ensures.stays
+    c.settle-settled.ensures.memory c.settle-settled.ensures.stays c.authorised.ensures.does c.settle-settled.ensures.does))
+
+pub auth_row-returns-in-Ok-clause-stays : goal.auth_row-returns-in-Ok-clause-stays
+auth_row-returns-in-Ok-clause-stays g t c =
+    let mid = c.auth_words.new.host in
+    let new = c.settle-settled.new.host in
+    stays_on c.args.host.now mid new c.in-Ok.ensures.stays (stays_then mid c.demand_own-met.new.host new c.demand_own-met.ensures.stays c.settle-settled.ensures.stays)
 
 pub auth_row-returns-in-Err-clause-does : goal.auth_row-returns-in-Err-clause-does
 auth_row-returns-in-Err-clause-does g t c = c.in-Err.ensures.takes (λ env. require_auth env (opener_of env c.args.room))
@@ -476,39 +458,23 @@ pub auth_for_args_row-returns-in-Ok-call_with-clause-does : goal.auth_for_args_r
 auth_for_args_row-returns-in-Ok-call_with-clause-does g t c =
     let room = c.args.room in
     let mid = c.auth_for_args_words.new.host in
+    let new = c.settle-settled.new.host in
     let x = c.in-Ok.field-0 in
-    taken_does x c.demand_here.result (λ env. answered (kinds.Address ∷ kinds.Vec ∷ []) (require_auth_for_args env (opener_of env room)) c.args.words.now) (λ env x. require_auth_for_args env (opener_of env room) x.address (datums x.args.items))
-    c.args.host.now mid c.demand_here.new.host c.in-Ok.ensures.stays (c.in-Ok.ensures.takes (λ env. require_auth_for_args env (opener_of env room)))
-    (given_does room x.address (datums x.args.items) c.in-Ok-call_with.function c.demand_here.result mid c.demand_here.new.host c.in-Ok-call_with.ensures.ok c.demand_here.ensures.does)
+    let function = c.in-Ok-call_with.function in
+    taken_does x c.authorised.result (λ env. answered (kinds.Address ∷ kinds.Vec ∷ []) (require_auth_for_args env (opener_of env room)) c.args.words.now) (λ env x. require_auth_for_args env (opener_of env room) x.address (datums x.args.items))
+    c.args.host.now mid new c.in-Ok.ensures.stays (c.in-Ok.ensures.takes (λ env. require_auth_for_args env (opener_of env room)))
+    (given_does room x.address (datums x.args.items) function c.authorised.result mid new c.in-Ok-call_with.ensures.ok
+    (here_does room x.address function c.demand_here-met.result c.settle-settled.result c.authorised.result mid c.demand_here-met.new.host new c.demand_here-met.ensures.met c.demand_here-met.ensures.stays
+    c.settle-settled.ensures.memory c.settle-settled.ensures.stays c.authorised.ensures.does c.settle-settled.ensures.does))
+
+pub auth_for_args_row-returns-in-Ok-call_with-clause-stays : goal.auth_for_args_row-returns-in-Ok-call_with-clause-stays
+auth_for_args_row-returns-in-Ok-call_with-clause-stays g t c =
+    let mid = c.auth_for_args_words.new.host in
+    let new = c.settle-settled.new.host in
+    stays_on c.args.host.now mid new c.in-Ok.ensures.stays (stays_then mid c.demand_here-met.new.host new c.demand_here-met.ensures.stays c.settle-settled.ensures.stays)
 
 pub auth_for_args_row-returns-in-Err-clause-does : goal.auth_for_args_row-returns-in-Err-clause-does
 auth_for_args_row-returns-in-Err-clause-does g t c = c.in-Err.ensures.takes (λ env. require_auth_for_args env (opener_of env c.args.room))
-
-pub demand_here-returns-clause-does : goal.demand_here-returns-clause-does
-demand_here-returns-clause-does g t c =
-    let room = c.args.room in
-    let h = c.args.host.now in
-    let new = c.settle-settled.new.host in
-    let path = c.as_slice-path.result.now in
-    let caller = c.contract_address-caller.result in
-    let marks = c.demand-met.new.self in
-    let met = c.settle-settled.result in
-    let stays = stays_then h (record h { marks = marks }) new (marked_stays h path caller c.args.address c.args.function c.demand-met.result marks c.demand-met.ensures) (subst (λ x. Stays x new) c.tell_demanded.ensures c.settle-settled.ensures.stays) in
-    here_does room c.args.address c.args.function met c.authorised.result h new stays c.authorised.ensures.does
-    (subst (λ a. DoesAround met (λ u. u) (λ env. demanded env (opener_of env room) h.place.path.items a c.args.address c.args.function) h new) c.contract_address-caller.ensures
-    (subst (λ p. DoesAround met (λ u. u) (λ env. demanded env (opener_of env room) p caller c.args.address c.args.function) h new) c.as_slice-path.ensures.value
-    (demanded_does room path caller c.args.address c.args.function c.demand-met.result met h marks new c.demand-met.ensures c.settle-settled.ensures.memory
-    (subst (λ x. DoesAround met (λ u. u) (λ env. settled env (opener_of env room) c.demand-met.result) x new) c.tell_demanded.ensures c.settle-settled.ensures.does))))
-
-pub demand_here-returns-clause-stays : goal.demand_here-returns-clause-stays
-demand_here-returns-clause-stays g t c =
-    let h = c.args.host.now in
-    let new = c.settle-settled.new.host in
-    let marks = c.demand-met.new.self in
-    stays_on h h new (stays_same h c.requires.ready)
-    (stays_then h (record h { marks = marks }) new
-    (marked_stays h c.as_slice-path.result.now c.contract_address-caller.result c.args.address c.args.function c.demand-met.result marks c.demand-met.ensures)
-    (subst (λ x. Stays x new) c.tell_demanded.ensures c.settle-settled.ensures.stays))
 
 pub prove-returns-in-Ok-Proved-clause-does : goal.prove-returns-in-Ok-Proved-clause-does
 prove-returns-in-Ok-Proved-clause-does g t c =
@@ -535,8 +501,8 @@ check-returns-clause-does g t c =
     checks_does c.call-returned.result c.checked.result (λ env. calls_for_host env (opener_of env c.args.room) (check_of c.args.contract (datums c.args.args.items))) h new (env_later h new c.call-returned.ensures.stays) c.checked.ensures.does
     c.call-returned.ensures.does
 
-pub call_target-returns-in-Err-clause-stays : goal.call_target-returns-in-Err-clause-stays
-call_target-returns-in-Err-clause-stays g t c = stays_equal c.args.host.now c.args.host.now refl refl
+pub call_target-returns-clause-stays : goal.call_target-returns-clause-stays
+call_target-returns-clause-stays g t c = stays_equal c.args.host.now c.args.host.now refl refl
 
 pub inside-returns-in-Ok-clause-stays : goal.inside-returns-in-Ok-clause-stays
 inside-returns-in-Ok-clause-stays g t c =

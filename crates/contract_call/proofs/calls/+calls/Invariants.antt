@@ -41,9 +41,6 @@ decreases-create g l = 20 * l.room + 8
 abbrev pub decreases-create_here : goal.decreases-create_here
 decreases-create_here g l = 20 * l.room + 9
 
-abbrev pub decreases-demand_here : goal.decreases-demand_here
-decreases-demand_here g l = 20 * l.room + 6
-
 abbrev pub decreases-auth_row : goal.decreases-auth_row
 decreases-auth_row g l = 20 * l.room + 10
 

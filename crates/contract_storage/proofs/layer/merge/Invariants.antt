@@ -2,6 +2,7 @@ use Rattle.std.proofs.Common.{◌≡◌, List, length}
 use Rattle.std.specs.List.{AllByRecursion}
 use Rattle.ledger_types.specs.declared.key.LedgerKey.{LedgerKey}
 use Rattle.ledger_spec.specs.LedgerMap.{LedgerMap}
+use Rattle.contract_storage.specs.Layered.{IsMixed}
 use Rattle.contract_storage.specs.Overlays.{laid_all, IsSaved}
 use Rattle.contract_storage.specs.declared.layer.Overlay.{Overlay}
 use Rattle.contract_storage.proofs.layer.merge.Given as goal
@@ -12,6 +13,7 @@ invariant-loop-key l =
     ≡ laid_all base (laid_all base now l.initial.newest.entries) l.initial.older.entries)
     × ((es : List (LedgerKey × Overlay)) → AllByRecursion (IsSaved es) l.initial.older.entries → AllByRecursion (IsSaved es) l.initial.newest.entries
     → AllByRecursion (IsSaved es) l.older.entries × AllByRecursion (IsSaved es) l.newest.entries)
+    × ((base now : LedgerMap) → IsMixed now (laid_all base now l.initial.newest.entries) (laid_all base now l.newest.entries))
 
 abbrev pub decreases-loop-key : goal.decreases-loop-key
 decreases-loop-key l = length l.newest.entries

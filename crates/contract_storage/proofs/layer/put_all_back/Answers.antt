@@ -1,7 +1,7 @@
 use Rattle.std.proofs.Common.{◌∙◌}
 use Rattle.contract_storage.specs.declared.layer.Undo.{Undo}
 use Rattle.contract_storage.proofs.Laying.{put_back_one}
-use Rattle.contract_storage.proofs.Sound.{last_saved, put_back_laid, put_back_sound, put_back_there}
+use Rattle.contract_storage.proofs.Sound.{put_back_laid, put_back_sound, put_back_there}
 use Rattle.contract_storage.proofs.layer.put_all_back.Goals as goal
 
 pub loop-key-preserved : goal.loop-key-preserved

@@ -15,10 +15,7 @@ returns-clause-does g c = record {
     storage = later_same _ _ refl;
     events = c.emit_event.ensures.later;
     objects = refl;
-    shown = refl;
-    contract = refl;
-    caller = refl;
-    code = refl;
+    frame = refl;
     copy = λ h. h;
   };
 }

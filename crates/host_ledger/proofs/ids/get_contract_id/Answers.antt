@@ -17,10 +17,7 @@ returns-clause-does g c = record {
     storage = later_same _ _ refl;
     events = ([], grind (arith, common_steps));
     objects = refl;
-    shown = refl;
-    contract = refl;
-    caller = refl;
-    code = refl;
+    frame = refl;
     copy = λ h. h;
   };
 }

@@ -12,10 +12,7 @@ returns-clause-does g c = record {
     storage = c.extend_instance.ensures.later;
     events = ([], grind (arith, common_steps));
     objects = refl;
-    shown = refl;
-    contract = refl;
-    caller = refl;
-    code = refl;
+    frame = refl;
     copy = λ h. h;
   };
 }

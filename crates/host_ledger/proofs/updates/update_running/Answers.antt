@@ -12,10 +12,7 @@ returns-clause-does g c = record {
     storage = later_read c.args.host.now.storage c.update_code.new.storage c.update_code.ensures.read;
     events = c.update_code.ensures.later;
     objects = refl;
-    shown = refl;
-    contract = refl;
-    caller = refl;
-    code = refl;
+    frame = refl;
     copy = λ h. subst IsHeld (sym c.update_code.ensures.storage) h;
   };
 }

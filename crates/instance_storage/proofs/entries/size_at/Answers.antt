@@ -1,4 +1,4 @@
-use Rattle.std.proofs.Common.{◌≡◌, ◌<◌, List, length, sym, subst, ap, ◌∙◌}
+use Rattle.std.proofs.Common.{◌<◌, List, length, sym, subst, ap, ◌∙◌}
 use Rattle.value_types.specs.Datum.{members_of, map}
 use Rattle.value_types.specs.Views.{datum_pair}
 use Rattle.host_spec.specs.Hosted.{IsHosted}

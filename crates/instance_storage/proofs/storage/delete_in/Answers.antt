@@ -1,4 +1,4 @@
-use Rattle.std.proofs.Common.{◌≡◌, List, Some, sym, subst, ap, ◌∙◌}
+use Rattle.std.proofs.Common.{List, Some, sym, subst, ap, ◌∙◌}
 use Rattle.value_types.specs.Views.{datum}
 use Rattle.host_spec.specs.MapRows.{Member}
 use Rattle.host_frame.specs.KeyIndex.{IsGap, IsThere}

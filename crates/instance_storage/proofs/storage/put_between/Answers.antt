@@ -1,7 +1,6 @@
-use Rattle.std.proofs.Common.{◌≡◌, ◌+◌, Bool, true, Some, refl, sym, ap, ◌∙◌, arith}
+use Rattle.std.proofs.Common.{true, Some, refl, sym, ap, ◌∙◌}
 use Rattle.value_types.specs.Views.{datum, datum_pair}
-use Rattle.xdr_core.specs.Sizes.{capped}
-use Rattle.instance_storage.specs.Held.{members_size, pair_size}
+use Rattle.instance_storage.specs.Held.{members_size}
 use Rattle.instance_storage.proofs.KeyLaws.{put_gap}
 use Rattle.instance_storage.proofs.Measuring.{grown_as, kept_between, tested_between, within}
 use Rattle.instance_storage.proofs.storage.put_between.Goals as goal
@@ -9,7 +8,7 @@ use Rattle.instance_storage.proofs.storage.put_between.Goals as goal
 pub returns-then-not-is_within_limits : goal.returns-then-not-is_within_limits
 returns-then-not-is_within_limits c = (
   refl,
-  sym (tested_between c.args.code c.args.entries c.args.index (datum_pair c.args.entry) c.grown-size.result c.hold_hash.ensures c.requires.hosted c.requires.within c.requires.stands
+  sym (tested_between c.args.code c.args.entries c.args.index (datum_pair c.args.entry) c.grown-size.result c.hash_fits.ensures c.requires.hosted c.requires.within c.requires.stands
       (grown_as c.args.entries (datum_pair c.args.entry) c.args.size c.grown-size.result c.requires.size c.grown-size.ensures))
       ∙ sym c.is_within_limits.ensures ∙ c.if-not-is_within_limits.true,
 )
@@ -24,7 +23,7 @@ invariant_of-result c hosted =
 pub returns-in-Ok : goal.returns-in-Ok
 returns-in-Ok c = (
   ap Some (c.in-Ok.ensures ∙ sym (put_gap (datum c.args.entry.key) (datum c.args.entry.val) c.args.entries c.args.index c.requires.stands)),
-  sym (tested_between c.args.code c.args.entries c.args.index (datum_pair c.args.entry) c.grown-size.result c.hold_hash.ensures c.requires.hosted c.requires.within c.requires.stands
+  sym (tested_between c.args.code c.args.entries c.args.index (datum_pair c.args.entry) c.grown-size.result c.hash_fits.ensures c.requires.hosted c.requires.within c.requires.stands
       (grown_as c.args.entries (datum_pair c.args.entry) c.args.size c.grown-size.result c.requires.size c.grown-size.ensures))
       ∙ sym c.is_within_limits.ensures ∙ c.if-not-is_within_limits.false,
 )

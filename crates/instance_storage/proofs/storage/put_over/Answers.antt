@@ -1,8 +1,6 @@
-use Rattle.std.proofs.Common.{◌≡◌, ◌+◌, ◌-◌, ◌≤◌, Bool, true, Some, refl, sym, ap, ◌∙◌, arith}
-use Rattle.std.specs.List.{remove}
+use Rattle.std.proofs.Common.{◌-◌, true, Some, refl, sym, ap, ◌∙◌}
 use Rattle.value_types.specs.Views.{datum, datum_pair}
-use Rattle.xdr_core.specs.Sizes.{capped}
-use Rattle.instance_storage.specs.Held.{members_size, pair_size}
+use Rattle.instance_storage.specs.Held.{members_size}
 use Rattle.instance_storage.proofs.KeyLaws.{put_there}
 use Rattle.instance_storage.proofs.Measuring.{grown_without, kept_over, tested_over, within}
 use Rattle.instance_storage.proofs.storage.put_over.Goals as goal
@@ -10,7 +8,7 @@ use Rattle.instance_storage.proofs.storage.put_over.Goals as goal
 pub returns-then-not-is_within_limits : goal.returns-then-not-is_within_limits
 returns-then-not-is_within_limits c = (
   refl,
-  sym (tested_over c.args.code c.args.entries c.args.index (datum_pair c.args.entry) c.grown-size.result c.hold_hash.ensures c.requires.hosted c.requires.within c.requires.stands
+  sym (tested_over c.args.code c.args.entries c.args.index (datum_pair c.args.entry) c.grown-size.result c.hash_fits.ensures c.requires.hosted c.requires.within c.requires.stands
       (grown_without c.args.entries c.args.index (datum_pair c.args.entry) c.args.size c.size_at.result c.grown-size.result c.requires.size c.size_at.ensures c.grown-size.ensures))
       ∙ sym c.is_within_limits.ensures ∙ c.if-not-is_within_limits.true,
 )
@@ -25,7 +23,7 @@ invariant_of-result c hosted =
 pub returns : goal.returns
 returns c = (
   ap Some (c.overwrite.ensures ∙ sym (put_there (datum c.args.entry.key) (datum c.args.entry.val) c.args.entries c.args.index c.requires.stands)),
-  sym (tested_over c.args.code c.args.entries c.args.index (datum_pair c.args.entry) c.grown-size.result c.hold_hash.ensures c.requires.hosted c.requires.within c.requires.stands
+  sym (tested_over c.args.code c.args.entries c.args.index (datum_pair c.args.entry) c.grown-size.result c.hash_fits.ensures c.requires.hosted c.requires.within c.requires.stands
       (grown_without c.args.entries c.args.index (datum_pair c.args.entry) c.args.size c.size_at.result c.grown-size.result c.requires.size c.size_at.ensures c.grown-size.ensures))
       ∙ sym c.is_within_limits.ensures ∙ c.if-not-is_within_limits.false,
 )

@@ -5,10 +5,9 @@ use Rattle.tx_xdr.specs.declared.envelope.Envelope.{Envelope}
 use Rattle.apply_spec.specs.Enforced.{enforced}
 use Rattle.ledger_parts.specs.Notes.{noted_in, shown_note}
 use Rattle.ledger_parts.specs.Shown.{shown_step}
-use Rattle.ledger_apply.specs.LoggedLists.{written_sides, AddsLists}
-use Rattle.ledger_apply.specs.State.{running_in}
-use Rattle.ledger_apply.proofs.Lists.{fold_more, take_all}
-use Rattle.ledger_apply.proofs.Noting.{adds_none, adds_transaction}
+use Rattle.set_steps.specs.LoggedLists.{written_sides, AddsLists}
+use Rattle.set_steps.specs.State.{running_in}
+use Rattle.set_steps.proofs.Lemmas.{adds_none, adds_transaction, fold_more, take_all}
 use Rattle.ledger_apply.proofs.cluster.run_all.Goals as goal
 
 pub loop-envelope-init : goal.loop-envelope-init

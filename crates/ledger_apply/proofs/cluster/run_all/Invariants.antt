@@ -3,8 +3,8 @@ use Rattle.stage_runs.specs.Runs.{run_all}
 use Rattle.apply_spec.specs.Enforced.{enforced}
 use Rattle.ledger_parts.specs.Shown.{shown_step}
 use Rattle.ledger_parts.specs.Notes.{noted_in, shown_note}
-use Rattle.ledger_apply.specs.LoggedLists.{written_sides, AddsLists}
-use Rattle.ledger_apply.specs.State.{running_in}
+use Rattle.set_steps.specs.LoggedLists.{written_sides, AddsLists}
+use Rattle.set_steps.specs.State.{running_in}
 use Rattle.ledger_apply.proofs.cluster.run_all.Given as goal
 
 abbrev pub invariant-loop-envelope : goal.invariant-loop-envelope

@@ -3,10 +3,10 @@ use Rattle.stage_runs.specs.Maps.{LedgerMap}
 use Rattle.stage_runs.specs.Runs.{run_cluster, start}
 use Rattle.apply_spec.specs.Enforced.{enforced}
 use Rattle.ledger_parts.specs.Notes.{noted_in, shown_note}
-use Rattle.ledger_apply.specs.LoggedLists.{written_sides, AddsLists}
+use Rattle.set_steps.specs.LoggedLists.{written_sides, AddsLists}
 use Rattle.ledger_parts.specs.Shown.{shown, shown_step}
 use Rattle.ledger_parts.specs.declared.part.Part.{Part}
-use Rattle.ledger_apply.proofs.Moved.{passes}
+use Rattle.set_steps.proofs.Lemmas.{passes}
 use Rattle.ledger_apply.proofs.job.run_part.Goals as goal
 
 pub returns-clause-run : goal.returns-clause-run

@@ -1,7 +1,7 @@
 use denote.Param.Send.{sendable}
-use Rattle.ledger_apply.specs.Spelled.{AreEnvelopes}
-use Rattle.ledger_apply.proofs.Crosses.{job_send, work_sync}
-use Rattle.ledger_apply.proofs.Jobs.{can_all}
+use Rattle.set_steps.specs.Spelled.{AreEnvelopes}
+use Rattle.ledger_apply.proofs.Crosses.{work_sync}
+use Rattle.set_steps.proofs.Lemmas.{can_all, job_send}
 use Rattle.ledger_apply.proofs.parts.work_all.Goals as goal
 
 pub run_each-requires-send-J : goal.run_each-requires-send-J

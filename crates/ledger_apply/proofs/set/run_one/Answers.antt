@@ -2,12 +2,12 @@ use Rattle.std.specs.Prelude.{IfOk}
 use Rattle.std.proofs.Common.{sym, subst}
 use Rattle.apply_spec.specs.Enforced.{enforced}
 use Rattle.ledger_parts.specs.Notes.{noted_in_stage}
-use Rattle.ledger_apply.specs.LoggedLists.{written_sides, IsStageLog}
-use Rattle.ledger_apply.specs.State.{between}
-use Rattle.ledger_apply.specs.declared.stages.SetStage.{SetStage}
+use Rattle.set_steps.specs.LoggedLists.{written_sides, IsStageLog}
+use Rattle.set_steps.specs.State.{between}
+use Rattle.set_steps.specs.declared.stages.SetStage.{SetStage}
 use Rattle.stage_runs.specs.Runs.{clusters_in, run_clusters, HasNoConflict}
-use Rattle.ledger_apply.specs.Stages.{stage_of, IsSpelled}
-use Rattle.ledger_apply.proofs.Spelling.{component_in}
+use Rattle.set_steps.specs.Stages.{stage_of, IsSpelled}
+use Rattle.set_steps.proofs.Lemmas.{component_in}
 use Rattle.ledger_apply.proofs.set.run_one.Goals as goal
 
 pub run_component-requires-clause-fits : goal.run_component-requires-clause-fits

@@ -4,13 +4,11 @@ use Rattle.stage_runs.specs.Runs.{RunState, Stage, run_stage, clusters_in}
 use Rattle.apply_spec.specs.Enforced.{enforced}
 use Rattle.apply_spec.proofs.Lemmas.{step_framed}
 use Rattle.change_log.specs.declared.log.LoggedStage.{LoggedStage}
-use Rattle.ledger_apply.specs.LoggedLists.{list_if, AreStageLogs}
-use Rattle.ledger_apply.specs.State.{between}
-use Rattle.ledger_apply.specs.Stages.{stage_of, clusters_of}
-use Rattle.ledger_apply.specs.declared.stages.SetStage.{SetStage}
-use Rattle.ledger_apply.proofs.Firsts.{free_at}
-use Rattle.ledger_apply.proofs.Leading.{all_kept, stages_more, stages_none}
-use Rattle.ledger_apply.proofs.Lists.{fold_more_of, take_all, take_one_more}
+use Rattle.set_steps.specs.LoggedLists.{list_if, AreStageLogs}
+use Rattle.set_steps.specs.State.{between}
+use Rattle.set_steps.specs.Stages.{stage_of, clusters_of}
+use Rattle.set_steps.specs.declared.stages.SetStage.{SetStage}
+use Rattle.set_steps.proofs.Lemmas.{all_kept, fold_more_of, free_at, stages_more, stages_none, take_all, take_one_more}
 use Rattle.ledger_apply.proofs.set.run_stages.Goals as goal
 
 pub loop-index-init : goal.loop-index-init

@@ -2,9 +2,9 @@ use Rattle.std.proofs.Common.{◌≡◌, true, take}
 use Rattle.stage_runs.specs.Runs.{run_set}
 use Rattle.apply_spec.specs.Enforced.{enforced}
 use Rattle.change_log.specs.Fits.{AreKept}
-use Rattle.ledger_apply.specs.LoggedLists.{AreStageLogs}
-use Rattle.ledger_apply.specs.State.{between}
-use Rattle.ledger_apply.specs.Stages.{clusters_of}
+use Rattle.set_steps.specs.LoggedLists.{AreStageLogs}
+use Rattle.set_steps.specs.State.{between}
+use Rattle.set_steps.specs.Stages.{clusters_of}
 use Rattle.ledger_apply.proofs.set.run_stages.Given as goal
 
 abbrev pub invariant-loop-index : goal.invariant-loop-index

@@ -4,12 +4,10 @@ use Rattle.stage_runs.specs.Runs.{Cluster}
 use Rattle.ledger_parts.specs.Cut.{left_of, cut_from}
 use Rattle.apply_spec.specs.Enforced.{enforced}
 use Rattle.apply_spec.proofs.Lemmas.{step_framed}
-use Rattle.ledger_apply.specs.State.{between}
-use Rattle.ledger_apply.specs.Job.{cluster_of, own_of, IsMovedOf, AreMoved}
-use Rattle.ledger_apply.specs.declared.job.Job.{Job}
-use Rattle.ledger_apply.proofs.Cutting.{all_moved}
-use Rattle.ledger_apply.proofs.Spelling.{one_cluster}
-use Rattle.ledger_apply.proofs.Staging.{ended_as_cut, logged_as_cut}
+use Rattle.set_steps.specs.State.{between}
+use Rattle.set_steps.specs.Job.{cluster_of, own_of, IsMovedOf, AreMoved}
+use Rattle.set_steps.specs.declared.job.Job.{Job}
+use Rattle.set_steps.proofs.Lemmas.{all_moved, ended_as_cut, logged_as_cut, one_cluster}
 use Rattle.ledger_apply.proofs.stage.run_component.Goals as goal
 
 pub run_parts-requires-clause-moved : goal.run_parts-requires-clause-moved

@@ -3,17 +3,15 @@ use Rattle.stage_runs.specs.Maps.{LedgerMap}
 use Rattle.apply_spec.specs.Enforced.{enforced}
 use Rattle.apply_spec.proofs.Lemmas.{step_framed}
 use Rattle.stage_runs.specs.Runs.{Reported, put_all_in}
-use Rattle.ledger_apply.specs.Spelled.{AreEnvelopes}
-use Rattle.ledger_apply.specs.State.{between, pending_of, reports_of}
+use Rattle.set_steps.specs.Spelled.{AreEnvelopes}
+use Rattle.set_steps.specs.State.{between, pending_of, reports_of}
 use Rattle.std.proofs.lemmas.List.Elements.{recursion_from_All}
 use Rattle.change_log.specs.Log.{Changes}
 use Rattle.ledger_parts.specs.Notes.{noted_over}
-use Rattle.ledger_apply.specs.LoggedLists.{written_sides}
-use Rattle.ledger_apply.specs.Job.{cluster_of, own_of, IsCut, IsRun}
-use Rattle.ledger_apply.specs.declared.job.Job.{Job}
-use Rattle.ledger_apply.proofs.Jobs.{all_worked}
-use Rattle.ledger_apply.proofs.Back.{all_ended, all_keyed, back_entries}
-use Rattle.ledger_apply.proofs.Noting.{all_logged, all_sound, no_stage_log, stage_log}
+use Rattle.set_steps.specs.LoggedLists.{written_sides}
+use Rattle.set_steps.specs.Job.{cluster_of, own_of, IsCut, IsRun}
+use Rattle.set_steps.specs.declared.job.Job.{Job}
+use Rattle.set_steps.proofs.Lemmas.{all_ended, all_keyed, all_logged, all_sound, all_worked, back_entries, no_stage_log, stage_log}
 use Rattle.ledger_apply.proofs.stage.run_parts.Goals as goal
 
 pub work_through-requires-clause-fits : goal.work_through-requires-clause-fits

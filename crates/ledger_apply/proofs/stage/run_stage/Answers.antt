@@ -6,11 +6,9 @@ use Rattle.stage_runs.specs.Runs.{Cluster, Stage, clusters_in}
 use Rattle.ledger_parts.specs.Cut.{left_of, cut_from}
 use Rattle.apply_spec.specs.Enforced.{enforced}
 use Rattle.apply_spec.proofs.Lemmas.{step_framed}
-use Rattle.ledger_apply.specs.State.{between}
-use Rattle.ledger_apply.specs.Job.{cluster_of, own_of, IsMovedOf}
-use Rattle.ledger_apply.proofs.Cutting.{all_moved}
-use Rattle.ledger_apply.proofs.Back.{of_clusters}
-use Rattle.ledger_apply.proofs.Staging.{ended_as_cut, logged_as_cut}
+use Rattle.set_steps.specs.State.{between}
+use Rattle.set_steps.specs.Job.{cluster_of, own_of, IsMovedOf}
+use Rattle.set_steps.proofs.Lemmas.{all_moved, ended_as_cut, logged_as_cut, of_clusters}
 use Rattle.ledger_apply.proofs.stage.run_stage.Goals as goal
 
 pub run_parts-requires-clause-moved : goal.run_parts-requires-clause-moved

@@ -1,6 +1,6 @@
 use Rattle.std.proofs.Common.{Bool, List, refl, sym, subst}
 use Rattle.stage_runs.specs.declared.Change.{Change}
-use Rattle.ledger_apply.specs.Sides.{AddsList, HasList, IsMade}
+use Rattle.set_steps.specs.Sides.{AddsList, HasList, IsMade}
 use Rattle.ledger_apply.proofs.step.push_list.Goals as goal
 
 pub returns-then-not-logs : goal.returns-then-not-logs

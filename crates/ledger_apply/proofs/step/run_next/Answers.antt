@@ -8,12 +8,11 @@ use Rattle.stage_runs.specs.declared.Change.{Change}
 use Rattle.apply_spec.specs.Enforced.{enforced}
 use Rattle.apply_spec.proofs.Lemmas.{step_framed}
 use Rattle.tx_apply.specs.Done.{effect_of}
-use Rattle.ledger_apply.specs.Lives.{AreKeyed, AreLives}
-use Rattle.ledger_apply.specs.Sides.{AddsList, IsMade}
-use Rattle.ledger_apply.specs.State.{running_in}
-use Rattle.ledger_apply.specs.declared.lives.Life.{Life}
-use Rattle.ledger_apply.proofs.Lists.{if_ok}
-use Rattle.ledger_apply.proofs.Noting.{adds_made}
+use Rattle.set_steps.specs.Lives.{AreKeyed, AreLives}
+use Rattle.set_steps.specs.Sides.{AddsList, IsMade}
+use Rattle.set_steps.specs.State.{running_in}
+use Rattle.set_steps.specs.declared.lives.Life.{Life}
+use Rattle.set_steps.proofs.Lemmas.{adds_made, if_ok}
 use Rattle.ledger_apply.proofs.Steps.{one_run}
 use Rattle.ledger_apply.proofs.step.run_next.Goals as goal
 

@@ -1,6 +1,6 @@
 use Rattle.std.proofs.Common.{sym, ◌∙◌}
 use Rattle.stage_runs.specs.Runs.{clusters_in}
-use Rattle.ledger_apply.specs.Stages.{stage_of}
+use Rattle.set_steps.specs.Stages.{stage_of}
 use Rattle.schedule_runs.proofs.Completing.{more_orders}
 use Rattle.schedule_runs.proofs.complete.first_incomplete.Goals as goal
 

@@ -1,6 +1,6 @@
 use Rattle.std.proofs.Common.{◌≡◌, drop}
 use Rattle.schedule_runs.specs.Plans.{first_incomplete_from}
-use Rattle.ledger_apply.specs.Stages.{clusters_of}
+use Rattle.set_steps.specs.Stages.{clusters_of}
 use Rattle.schedule_runs.proofs.complete.first_incomplete.Given as goal
 
 abbrev pub invariant-loop-index : goal.invariant-loop-index

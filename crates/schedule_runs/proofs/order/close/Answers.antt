@@ -1,6 +1,6 @@
 use Rattle.std.proofs.Common.{[], refl, ◌∙◌, ap}
 use Rattle.std.proofs.lemmas.List.Elements.{All-append, All-cons, All-nil, All-same}
-use Rattle.ledger_apply.specs.State.{pending_of, reports_of, IsKeyed}
+use Rattle.set_steps.specs.State.{pending_of, reports_of, IsKeyed}
 use Rattle.schedule_runs.proofs.Staged.{pending_next, reports_next}
 use Rattle.schedule_runs.proofs.order.close.Goals as goal
 

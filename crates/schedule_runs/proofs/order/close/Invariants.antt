@@ -1,6 +1,6 @@
 use Rattle.std.specs.List.{flat_map}
 use Rattle.std.proofs.Common.{◌≡◌, All, map}
-use Rattle.ledger_apply.specs.State.{pending_of, reports_of, IsKeyed}
+use Rattle.set_steps.specs.State.{pending_of, reports_of, IsKeyed}
 use Rattle.schedule_runs.specs.Lanes.{lane_in}
 use Rattle.schedule_runs.proofs.order.close.Given as goal
 

@@ -3,9 +3,9 @@ use Rattle.std.specs.Result.{IfErr, IfOk}
 use Rattle.std.proofs.Common.{◌≡◌, None, List, All, sym, subst}
 use Rattle.stage_runs.specs.Runs.{HasNoConflict}
 use Rattle.apply_spec.specs.Outputs.{preimages_of, results_of}
-use Rattle.ledger_apply.specs.declared.stages.SetStage.{SetStage}
-use Rattle.ledger_apply.specs.Stages.{IsSpelled}
-use Rattle.ledger_apply.proofs.Lemmas.{listed_spelled}
+use Rattle.set_steps.specs.declared.stages.SetStage.{SetStage}
+use Rattle.set_steps.specs.Stages.{IsSpelled}
+use Rattle.set_steps.proofs.Lemmas.{listed_spelled}
 use Rattle.schedule_runs.specs.Plans.{first_incomplete, run_stopped_over}
 use Rattle.schedule_runs.specs.Refused.{IsRefused}
 use Rattle.schedule_runs.proofs.Stopping.{carried, listed}

@@ -1,7 +1,7 @@
 use Rattle.std.proofs.Common.{◌∙◌, sym}
 use Rattle.std.proofs.lemmas.List.{length-map}
 use Rattle.stage_runs.specs.Runs.{clusters_in}
-use Rattle.ledger_apply.specs.Stages.{clusters_of, stage_of}
+use Rattle.set_steps.specs.Stages.{clusters_of, stage_of}
 use Rattle.schedule_runs.proofs.Stopping.{even_length}
 use Rattle.schedule_runs.proofs.set.run_stages.Goals as goal
 

@@ -2,8 +2,8 @@ use Rattle.std.proofs.Common.{◌≡◌, drop}
 use Rattle.stage_runs.specs.Sets.{stopped}
 use Rattle.schedule_runs.specs.Plans.{planned_of}
 use Rattle.apply_spec.specs.Enforced.{enforced}
-use Rattle.ledger_apply.specs.State.{between}
-use Rattle.ledger_apply.specs.Stages.{clusters_of}
+use Rattle.set_steps.specs.State.{between}
+use Rattle.set_steps.specs.Stages.{clusters_of}
 use Rattle.schedule_runs.proofs.set.run_steps.Given as goal
 
 abbrev pub invariant-loop-index : goal.invariant-loop-index

@@ -1,5 +1,5 @@
 use Rattle.std.proofs.Common.{◌≡◌, ◌++◌}
-use Rattle.ledger_apply.specs.State.{reports_of}
+use Rattle.set_steps.specs.State.{reports_of}
 use Rattle.schedule_runs.proofs.stage.add_reports.Given as goal
 
 abbrev pub invariant-loop-one : goal.invariant-loop-one

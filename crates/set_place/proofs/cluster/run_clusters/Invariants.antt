@@ -1,7 +1,7 @@
 use Rattle.std.proofs.Common.{◌≡◌, All, List, map, take}
 use Rattle.stage_runs.specs.Runs.{Reported, run_clusters}
 use Rattle.apply_spec.specs.Enforced.{enforced}
-use Rattle.ledger_apply.specs.State.{between, IsKeyed}
+use Rattle.set_steps.specs.State.{between, IsKeyed}
 use Rattle.set_place.specs.Reaching.{in_stage}
 use Rattle.set_place.proofs.cluster.run_clusters.Given as goal
 

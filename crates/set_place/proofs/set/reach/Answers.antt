@@ -8,10 +8,10 @@ use Rattle.stage_runs.specs.Conflicts.{IsFirstConflict}
 use Rattle.stage_runs.specs.Runs.{Stage, clusters_in, start, HasNoConflict}
 use Rattle.apply_spec.specs.Enforced.{enforced}
 use Rattle.apply_spec.specs.Runs.{running_header}
-use Rattle.ledger_apply.specs.declared.conflict.SetConflict.{SetConflict}
-use Rattle.ledger_apply.specs.declared.stages.SetStage.{SetStage}
-use Rattle.ledger_apply.specs.Stages.{clusters_of, IsSpelled}
-use Rattle.ledger_apply.proofs.Lemmas.{clusters_listed, listed_spelled}
+use Rattle.set_steps.specs.declared.conflict.SetConflict.{SetConflict}
+use Rattle.set_steps.specs.declared.stages.SetStage.{SetStage}
+use Rattle.set_steps.specs.Stages.{clusters_of, IsSpelled}
+use Rattle.set_steps.proofs.Lemmas.{clusters_listed, listed_spelled}
 use Rattle.set_place.specs.Places.{met_at}
 use Rattle.set_place.proofs.set.reach.Goals as goal
 

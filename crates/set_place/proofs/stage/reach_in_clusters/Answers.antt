@@ -4,7 +4,7 @@ use Rattle.std.proofs.lemmas.Result.{IfOk-weaker}
 use Rattle.tx_xdr.specs.declared.set.Cluster.{Cluster as SetCluster}
 use Rattle.stage_runs.specs.Runs.{Cluster}
 use Rattle.apply_spec.specs.Enforced.{enforced}
-use Rattle.ledger_apply.specs.State.{between}
+use Rattle.set_steps.specs.State.{between}
 use Rattle.set_place.specs.Places.{met_in_cluster}
 use Rattle.set_place.specs.Reaching.{in_stage}
 use Rattle.set_place.proofs.Reaching.{met_inside}

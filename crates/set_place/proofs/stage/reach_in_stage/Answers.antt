@@ -4,11 +4,11 @@ use Rattle.tx_xdr.specs.declared.set.Cluster.{Cluster as SetCluster}
 use Rattle.stage_runs.specs.Transactions.{Envelope}
 use Rattle.stage_runs.specs.Runs.{Cluster, Stage, clusters_in}
 use Rattle.apply_spec.specs.Enforced.{enforced}
-use Rattle.ledger_apply.specs.Spelled.{AreEnvelopes}
-use Rattle.ledger_apply.specs.Stages.{stage_of}
-use Rattle.ledger_apply.specs.State.{between}
-use Rattle.ledger_apply.specs.declared.stages.SetStage.{SetStage}
-use Rattle.ledger_apply.proofs.Lemmas.{component_in}
+use Rattle.set_steps.specs.Spelled.{AreEnvelopes}
+use Rattle.set_steps.specs.Stages.{stage_of}
+use Rattle.set_steps.specs.State.{between}
+use Rattle.set_steps.specs.declared.stages.SetStage.{SetStage}
+use Rattle.set_steps.proofs.Lemmas.{component_in}
 use Rattle.set_place.specs.Places.{met_in_stage}
 use Rattle.set_place.proofs.stage.reach_in_stage.Goals as goal
 

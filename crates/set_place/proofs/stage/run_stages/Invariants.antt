@@ -1,8 +1,8 @@
 use Rattle.std.proofs.Common.{◌≡◌, take}
 use Rattle.stage_runs.specs.Runs.{run_set, start}
 use Rattle.apply_spec.specs.Enforced.{enforced}
-use Rattle.ledger_apply.specs.State.{between}
-use Rattle.ledger_apply.specs.Stages.{clusters_of}
+use Rattle.set_steps.specs.State.{between}
+use Rattle.set_steps.specs.Stages.{clusters_of}
 use Rattle.set_place.proofs.stage.run_stages.Given as goal
 
 abbrev pub invariant-loop-stage : goal.invariant-loop-stage

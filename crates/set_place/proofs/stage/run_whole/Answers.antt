@@ -1,7 +1,7 @@
 use Rattle.std.proofs.Common.{List, sym, subst}
 use Rattle.stage_runs.specs.Transactions.{Envelope}
-use Rattle.ledger_apply.specs.Spelled.{AreEnvelopes}
-use Rattle.ledger_apply.proofs.Lemmas.{component_in}
+use Rattle.set_steps.specs.Spelled.{AreEnvelopes}
+use Rattle.set_steps.proofs.Lemmas.{component_in}
 use Rattle.set_place.proofs.stage.run_whole.Goals as goal
 
 pub run_next-requires-clause-fits : goal.run_next-requires-clause-fits

@@ -11,13 +11,13 @@ use Rattle.host_spec.specs.declared.error.HostErr.{HostErr}
 use Rattle.auth_types.specs.AuthEntry.{auth_entry_format}
 use Rattle.auth_types.specs.declared.auth_entry.AuthEntry.{AuthEntry}
 use Rattle.auth_spec.specs.Demands.{Marked}
-use Rattle.auth_spec.specs.Authorities.{Authorised, by_entries}
-use Rattle.call_spec.specs.World.{next_seq, Authority}
+use Rattle.auth_spec.specs.Authorities.{by_entries}
+use Rattle.call_spec.specs.World.{next_seq}
 use Rattle.call_spec.specs.Footprints.{by_footprint}
 use Rattle.call_spec.specs.Invoked as spec
 use Rattle.call_spec.specs.Invoked.{by_run}
 use Rattle.contract_call.specs.Ended.{UnlessMemory}
-use Rattle.contract_call.specs.Placed.{IsPathFor}
+use Rattle.contract_call.specs.Paths.{IsPathFor}
 use Rattle.contract_call.specs.Traced.{IsTold}
 use Rattle.tx_apply.specs.Authorities.{authority_in}
 use Rattle.tx_steps.specs.Jobs.{work_in}
@@ -53,7 +53,7 @@ returns-in-Ok-clause-done g c =
     let declared = subst (λ (s : Stored). IsSomeAnd s.declared (IsFootprint resources.footprint.read_only resources.footprint.read_write)) (sym c.new-host.ensures.storage) two in
     let r : Result ScVal HostErr = Ok c.in-Ok.value in
     let comes = started_comes (next_seq header) resources old c.run_told.new.host header authority c.args.budget entries (work_in c.args.job.now) r (new_starts old header authority c.args.budget entries _ c.new-host.ensures.storage (ap (λ (s : Stored). s.map) c.in_ok-storage.ensures.starts) marks c.new-host.ensures.verdicts
-    c.new-host.ensures.header c.new-host.ensures.budget c.new-host.ensures.events c.new-host.ensures.contracts c.new-host.ensures.function c.new-host.ensures.args c.new-host.ensures.path c.new-host.ensures.begun) declared c.in-Ok.ensures.ends in
+    c.new-host.ensures.header c.new-host.ensures.budget c.new-host.ensures.events c.new-host.ensures.contracts c.new-host.ensures.path c.new-host.ensures.begun) declared c.in-Ok.ensures.ends in
     done_from c.returned.result _ _ (ap (ended_of_call entries resources.footprint) comes) c.returned.ensures.done
 
 pub returns-in-Err-clause-done : goal.returns-in-Err-clause-done
@@ -69,7 +69,7 @@ returns-in-Err-clause-done g c =
     let declared = subst (λ (s : Stored). IsSomeAnd s.declared (IsFootprint resources.footprint.read_only resources.footprint.read_write)) (sym c.new-host.ensures.storage) two in
     let r : Result ScVal HostErr = Err c.in-Err.end in
     let comes = started_comes (next_seq header) resources old c.run_told.new.host header authority c.args.budget entries (work_in c.args.job.now) r (new_starts old header authority c.args.budget entries _ c.new-host.ensures.storage (ap (λ (s : Stored). s.map) c.in_ok-storage.ensures.starts) marks c.new-host.ensures.verdicts
-    c.new-host.ensures.header c.new-host.ensures.budget c.new-host.ensures.events c.new-host.ensures.contracts c.new-host.ensures.function c.new-host.ensures.args c.new-host.ensures.path c.new-host.ensures.begun) declared c.in-Err.ensures.ends in
+    c.new-host.ensures.header c.new-host.ensures.budget c.new-host.ensures.events c.new-host.ensures.contracts c.new-host.ensures.path c.new-host.ensures.begun) declared c.in-Err.ensures.ends in
     let x = by_run (next_seq header) resources entries (entered_run header authority c.args.budget (work_in c.args.job.now) entries) in
     ended_done c.spent-used.result entries resources.footprint x c.ended.result c.in-Err.end
     (subst (λ (u : Used). IfSome (result_of c.in-Err.end) (λ k. spec.unsuccessful k entries u ≡ x)) (sym c.spent-used.ensures.sums) comes)
@@ -93,7 +93,7 @@ returns-in-Ok-clause-seen g c =
     let unseen : IsTold old.ledger.storage [] = subst (λ (s : Stored). IsTold s []) (sym stored) (ap (λ (s : Seen). let k : Known = record { keys = []; seen = s } in k) c.requires.fresh) in
     let seen = run_seen old c.run_told.new.host header authority c.args.budget entries (work_in c.args.job.now)
     (new_starts old header authority c.args.budget entries _ c.new-host.ensures.storage (ap (λ (s : Stored). s.map) c.in_ok-storage.ensures.starts) marks c.new-host.ensures.verdicts
-    c.new-host.ensures.header c.new-host.ensures.budget c.new-host.ensures.events c.new-host.ensures.contracts c.new-host.ensures.function c.new-host.ensures.args c.new-host.ensures.path c.new-host.ensures.begun)
+    c.new-host.ensures.header c.new-host.ensures.budget c.new-host.ensures.events c.new-host.ensures.contracts c.new-host.ensures.path c.new-host.ensures.begun)
     resources.footprint declared c.new-host.ensures.ready unseen (let r : Result ScVal HostErr = Ok c.in-Ok.value in r) c.in-Ok.ensures.told in
     seen_after g.W.Watch.seen c.returned.result c.run_told.new.host.ledger.storage.touched.seen
     (entered_accesses (by_footprint resources.footprint) header authority c.args.budget (work_in c.args.job.now) entries) seen c.returned.ensures.watch
@@ -113,7 +113,7 @@ returns-in-Err-clause-seen g c =
     let unseen : IsTold old.ledger.storage [] = subst (λ (s : Stored). IsTold s []) (sym stored) (ap (λ (s : Seen). let k : Known = record { keys = []; seen = s } in k) c.requires.fresh) in
     let seen = run_seen old c.run_told.new.host header authority c.args.budget entries (work_in c.args.job.now)
     (new_starts old header authority c.args.budget entries _ c.new-host.ensures.storage (ap (λ (s : Stored). s.map) c.in_ok-storage.ensures.starts) marks c.new-host.ensures.verdicts
-    c.new-host.ensures.header c.new-host.ensures.budget c.new-host.ensures.events c.new-host.ensures.contracts c.new-host.ensures.function c.new-host.ensures.args c.new-host.ensures.path c.new-host.ensures.begun)
+    c.new-host.ensures.header c.new-host.ensures.budget c.new-host.ensures.events c.new-host.ensures.contracts c.new-host.ensures.path c.new-host.ensures.begun)
     resources.footprint declared c.new-host.ensures.ready unseen (let r : Result ScVal HostErr = Err c.in-Err.end in r) c.in-Err.ensures.told in
     let trace = entered_accesses (by_footprint resources.footprint) header authority c.args.budget (work_in c.args.job.now) entries in
     seen_ended g.W.Watch.seen c.ended.result c.parts_of-events.result.1 c.in-Err.end trace

@@ -2,11 +2,10 @@ use Rattle.std.proofs.Common.{◌≡◌, ℕ, List, [], All, None, refl, ap, sym
 use Rattle.auth_types.specs.AuthEntry.{auth_entry_format}
 use Rattle.auth_types.specs.declared.auth_entry.AuthEntry.{AuthEntry}
 use Rattle.auth_spec.specs.Demands.{Marked}
-use Rattle.auth_spec.specs.Authorities.{Authorised, by_entries}
+use Rattle.auth_spec.specs.Authorities.{by_entries}
 use Rattle.contract_storage.specs.Stored.{Stored}
 use Rattle.contract_call.specs.Traced.{IsRecorded}
-use Rattle.call_spec.specs.World.{Authority}
-use Rattle.contract_call.specs.Placed.{IsPathFor}
+use Rattle.contract_call.specs.Paths.{IsPathFor}
 use Rattle.tx_apply.specs.Authorities.{authority_in}
 use Rattle.tx_steps.specs.Jobs.{work_in}
 use Rattle.tx_apply.proofs.Running.{new_starts}
@@ -28,5 +27,5 @@ returns-clause-needs g c =
     let marks : c.new-host.result.marks ≡ record { entries = authority.entries; source = authority.source; pairs = []; noted = None } = c.new-host.ensures.marks ∙ ap by_entries c.in_ok-marks.ensures in
     let stored = c.new-host.ensures.storage ∙ c.recording-storage.ensures in
     run_needs c.new-host.result c.run_job-end.new.host header authority c.args.budget entries (work_in c.args.job.now) c.run_job-end.result (new_starts c.new-host.result header authority c.args.budget entries _ c.new-host.ensures.storage (ap (λ (s : Stored). s.map) c.recording-storage.ensures) marks c.new-host.ensures.verdicts
-    c.new-host.ensures.header c.new-host.ensures.budget c.new-host.ensures.events c.new-host.ensures.contracts c.new-host.ensures.function c.new-host.ensures.args c.new-host.ensures.path c.new-host.ensures.begun) (ap (λ (s : Stored). s.declared) stored) (subst (λ (s : Stored). IsRecorded s []) (sym stored) refl) c.run_job-end.ensures.recorded
+    c.new-host.ensures.header c.new-host.ensures.budget c.new-host.ensures.events c.new-host.ensures.contracts c.new-host.ensures.path c.new-host.ensures.begun) (ap (λ (s : Stored). s.declared) stored) (subst (λ (s : Stored). IsRecorded s []) (sym stored) refl) c.run_job-end.ensures.recorded
     c.needs_after.result c.needs_after.ensures.ended c.needs_after.ensures.footprint c.needs_after.ensures.used

@@ -7,4 +7,4 @@ use Rattle.tx_apply.proofs.run.hash_value.Goals as goal
 pub returns-clause-hosted : goal.returns-clause-hosted
 returns-clause-hosted c =
     let same : c.from_vec.result ≡ c.args.hash.0 = search rules in
-    subst (λ (x : List ℕ). IsHosted (bytes x)) (sym same) (hash_hosted c.args.hash c.hold_hash.ensures)
+    subst (λ (x : List ℕ). IsHosted (bytes x)) (sym same) (hash_hosted c.args.hash c.hash_fits.ensures)

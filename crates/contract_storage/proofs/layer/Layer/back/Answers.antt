@@ -1,4 +1,4 @@
-use Rattle.std.proofs.Common.{◌≡◌, ◌∙◌, ◌++◌, [], ◌∷◌, List, ap, sym, subst}
+use Rattle.std.proofs.Common.{◌∙◌, ◌++◌, [], ◌∷◌, ap, sym, subst}
 use Rattle.std.specs.List.{AllByRecursion}
 use Rattle.ledger_spec.specs.LedgerMap.{LedgerMap}
 use Rattle.contract_storage.specs.Layered.{Layered}

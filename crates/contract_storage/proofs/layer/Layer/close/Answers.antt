@@ -3,7 +3,7 @@ use Rattle.std.specs.Prelude.{slice_set}
 use Rattle.std.specs.List.{AllByRecursion}
 use Rattle.ledger_types.specs.declared.key.LedgerKey.{LedgerKey}
 use Rattle.ledger_spec.specs.LedgerMap.{LedgerMap}
-use Rattle.contract_storage.specs.Layered.{Layered}
+use Rattle.contract_storage.specs.Layered.{Layered, IsMixed}
 use Rattle.contract_storage.specs.Overlays.{laid_all, maps_at, over, saved_in, undone, IsLaid, IsThere}
 use Rattle.contract_storage.specs.declared.layer.Overlay.{Overlay}
 use Rattle.contract_storage.specs.declared.layer.Saved.{Saved}
@@ -27,6 +27,7 @@ returns-then-open-eq0-clause-closed g c =
       newest,
       sym (ap (λ (s : Layered). s.snapshots) c.self.view_is) ∙ closing base now c.self.inside.saved.items c.pop.new.self.items c.in-Some.newest c.in-Some.ensures.items
           ∙ ap (λ (xs : List Saved). maps_at base newest (saved_in xs) ++ newest ∷ []) empty ∙ ap (λ (xs : List Saved). maps_at base now (saved_in xs) ++ newest ∷ []) (sym empty),
+      tt,
     )
 
 -- ---- the states that are merged
@@ -90,6 +91,7 @@ returns-in-Ok-clause-closed g c =
       newest,
       sym (ap (λ (s : Layered). s.snapshots) c.self.view_is) ∙ closing base now c.self.inside.saved.items front c.in-Some.newest c.in-Some.ensures.items
           ∙ ap (λ (ms : List LedgerMap). ms ++ newest ∷ []) (sym (maps_set base newest now c.index_mut.result.now _ (c.in-Ok.ensures.ok base now) front (c.len-open.result - 1) last c.index_mut.ensures.value)),
+      tt,
     )
 
 pub returns-in-Err-clause-closed : goal.returns-in-Err-clause-closed
@@ -107,4 +109,6 @@ returns-in-Err-clause-closed g c =
       sym (ap (λ (s : Layered). s.snapshots) c.self.view_is) ∙ closing base now c.self.inside.saved.items front c.in-Some.newest c.in-Some.ensures.items
           ∙ ap (λ (ms : List LedgerMap). ms ++ newest ∷ []) (sym (maps_set base newest (laid_all base now (undone c.in-Err.undo ∷ c.merge.new.newest.entries)) c.index_mut.result.now older (c.in-Err.ensures.err base now) front (c.len-open.result - 1) last c.index_mut.ensures.value))
           ∙ ap (λ (m : LedgerMap). maps_at base m (saved_in (slice_set front (c.len-open.result - 1) older)) ++ newest ∷ []) (sym back),
+      subst (λ (m : LedgerMap). IsMixed m newest (over base c.put_back.new.over.entries)) (ap (λ (s : Layered). s.map) c.self.view_is)
+          (subst (IsMixed now newest) (sym back) (c.in-Err.ensures.mixed base now)),
     )

@@ -1,9 +1,8 @@
-use Rattle.std.proofs.Common.{◌≡◌, ◌∙◌, ◌++◌, [], ◌∷◌, List, ap, ap₂}
+use Rattle.std.proofs.Common.{◌∙◌, ◌++◌, [], ◌∷◌, List, ap}
 use Rattle.ledger_types.specs.declared.key.LedgerKey.{LedgerKey}
-use Rattle.contract_storage.specs.Layered.{Layered, with_snapshot}
+use Rattle.contract_storage.specs.Layered.{with_snapshot}
 use Rattle.contract_storage.specs.Overlays.{layered, saved_in}
 use Rattle.contract_storage.specs.declared.layer.Overlay.{Overlay}
-use Rattle.contract_storage.specs.declared.layer.Saved.{Saved}
 use Rattle.contract_storage.proofs.Laying.{opened}
 use Rattle.contract_storage.proofs.Saving.{saved_more}
 use Rattle.contract_storage.proofs.layer.Layer.open.Goals as goal

@@ -5,4 +5,4 @@ use Rattle.contract_storage.proofs.storage.Storage.del.Goals as goal
 
 pub ended-requires-clause-noted : goal.ended-requires-clause-noted
 ended-requires-clause-noted g c =
-    still_noted Write c.args.key.now (deletes c.args.key.now) c.del_allowed-answer.result c.args.self.now c.note_key.new.self c.del_allowed-answer.new.self c.in-Ok.noted c.in-Ok.ensures.ok c.in-Ok.ensures.noted c.del_allowed-answer.ensures
+    still_noted Write c.args.key.now (deletes c.args.key.now) c.del_allowed-deleted.result c.args.self.now c.note_key.new.self c.del_allowed-deleted.new.self c.in-Ok.noted c.in-Ok.ensures.ok c.in-Ok.ensures.noted c.del_allowed-deleted.ensures

@@ -1,10 +1,6 @@
-use Rattle.std.specs.Prelude.{cond}
-use Rattle.std.proofs.Common.{◌≡◌, Bool, Err, true, false, nat_lt, refl, ap, rules, ◌∙◌}
-use Rattle.ledger_spec.specs.Changes.{backward}
-use Rattle.contract_storage.specs.Touched.{admits}
-use Rattle.contract_storage.specs.Acts.{extends, extend_act, judged, refusal, left}
+use Rattle.contract_storage.specs.Acts.{extends}
 use Rattle.contract_storage.specs.declared.access.Access.TheVariants.{Extend}
-use Rattle.contract_storage.proofs.Calling.{does_noted, does_same, still_noted}
+use Rattle.contract_storage.proofs.Calling.{still_noted}
 use Rattle.contract_storage.proofs.storage.Storage.extend.Goals as goal
 
 pub ended-requires-clause-noted : goal.ended-requires-clause-noted

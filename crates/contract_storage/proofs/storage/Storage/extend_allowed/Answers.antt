@@ -1,10 +1,7 @@
-use Rattle.std.proofs.Common.{◌≡◌, ◌-◌, ◌&&◌, nat_lt, nat_le, true, false, Option, Some, subst, rules, arith}
-use Rattle.ledger_spec.specs.declared.Kept.{Kept}
+use Rattle.std.proofs.Common.{◌≡◌, ◌-◌, ◌&&◌, nat_lt, nat_le, true, false, rules, arith}
 use Rattle.ledger_spec.specs.LedgerMap.{key_bytes}
 use Rattle.entry_lookup.specs.Found.{kept_of}
 use Rattle.contract_storage.specs.Acts.{extends}
-use Rattle.contract_storage.specs.Layered.{set_at}
-use Rattle.contract_storage.specs.Stored.{with_map}
 use Rattle.contract_storage.proofs.Doing.{does_settled, ext_longer, ext_stays, found_there, kept_longer}
 use Rattle.contract_storage.proofs.storage.Storage.extend_allowed.Goals as goal
 

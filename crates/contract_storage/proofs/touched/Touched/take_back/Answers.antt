@@ -1,8 +1,5 @@
-use Rattle.std.proofs.Common.{◌≡◌, ◌-◌, ◌∙◌, List, length, take, Some, None, ap, sym, subst, rules}
+use Rattle.std.proofs.Common.{◌≡◌, ◌-◌, ◌∙◌, length, take, Some, None, ap, sym, subst, rules}
 use Rattle.contract_storage.specs.Touched.{touch, access_in, index_in, AreIndexed, IsNoted}
-use Rattle.contract_storage.specs.declared.access.Access.{Access}
-use Rattle.contract_storage.specs.declared.touched.Noted.{Noted}
-use Rattle.contract_storage.specs.declared.touched.Touch.{Touch}
 use Rattle.contract_storage.proofs.Touching.{again_as, has_been, indexed_as, last_touch, no_index, untouched}
 use Rattle.contract_storage.proofs.touched.Touched.take_back.Goals as goal
 

@@ -1,4 +1,4 @@
-use Rattle.std.proofs.Common.{◌≡◌, List, Some, sym, subst, ap, ◌∙◌}
+use Rattle.std.proofs.Common.{sym, subst}
 use Rattle.value_types.specs.Views.{datum}
 use Rattle.instance_storage.specs.Held.{IsHeld}
 use Rattle.instance_storage.proofs.Holding.{empty_as, held_after}

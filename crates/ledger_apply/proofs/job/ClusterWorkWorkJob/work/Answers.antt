@@ -1,5 +1,5 @@
 use Rattle.std.proofs.Common.{refl}
-use Rattle.ledger_apply.proofs.Back.{run_on_same}
+use Rattle.set_steps.proofs.Lemmas.{run_on_same}
 use Rattle.ledger_apply.proofs.job.ClusterWorkWorkJob.work.Goals as goal
 
 pub returns-in-Ok : goal.returns-in-Ok

@@ -1,4 +1,0 @@
-use Rattle.auth_record.proofs.bounded.hold_bytes.Goals as goal
-
-pub returns : goal.returns
-returns c i = (c.type_inv.slice i).fits

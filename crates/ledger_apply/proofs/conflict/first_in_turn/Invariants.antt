@@ -1,8 +1,0 @@
-use Rattle.std.specs.List.{AllByRecursion}
-use Rattle.std.proofs.Common.{take}
-use Rattle.stage_runs.specs.Runs.{HasNoConflict}
-use Rattle.ledger_apply.specs.Stages.{clusters_of}
-use Rattle.ledger_apply.proofs.conflict.first_in_turn.Given as goal
-
-abbrev pub invariant-loop-index : goal.invariant-loop-index
-invariant-loop-index l = AllByRecursion HasNoConflict (clusters_of (take l.index l.stages))

@@ -1,4 +1,0 @@
-use Rattle.ledger_apply.proofs.sides.listed.Goals as goal
-
-pub returns-clause-ordered : goal.returns-clause-ordered
-returns-clause-ordered g c = c.into_iter.ensures.into_iter_gives.5

@@ -1,6 +1,0 @@
-use Rattle.std.proofs.Common.{◌≡◌, ◌++◌, map, take}
-use Rattle.ledger_apply.specs.Stages.{stage_of}
-use Rattle.ledger_apply.proofs.stages.push_stages.Given as goal
-
-abbrev pub invariant-loop-stage : goal.invariant-loop-stage
-invariant-loop-stage l = map stage_of l.list.items ≡ map stage_of l.initial.list.items ++ take l.stage-index l.stages

@@ -1,8 +1,0 @@
-use Rattle.std.specs.List.{flat_map}
-use Rattle.std.proofs.Common.{◌≡◌, map, take}
-use Rattle.tx_xdr.specs.Stages.{stages_in}
-use Rattle.ledger_apply.specs.Stages.{stage_of}
-use Rattle.ledger_apply.proofs.stages.stages_of.Given as goal
-
-abbrev pub invariant-loop-phase : goal.invariant-loop-phase
-invariant-loop-phase l = map stage_of l.list.items ≡ flat_map stages_in (take l.phase-index l.phases)

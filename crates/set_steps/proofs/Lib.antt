@@ -1,0 +1,21 @@
+mod Back
+mod Besides
+mod Crosses
+mod Cutting
+mod Firsts
+mod Jobs
+mod Lasting
+mod Leading
+pub mod Lemmas
+mod Lists
+mod Merging
+mod Moved
+mod Noting
+mod Raising
+mod Searching
+mod SidesListed
+mod Spelling
+mod Staging
+mod Telling
+mod Waiting
+mod Written

@@ -1,0 +1,11 @@
+pub mod Reports
+pub mod Pending
+pub mod State
+pub mod Spelled
+pub mod Stages
+pub mod Job
+pub mod Search
+pub mod Logged
+pub mod LoggedLists
+pub mod Lives
+pub mod Sides
