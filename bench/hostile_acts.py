@@ -115,6 +115,17 @@ def lengthens(turn):
     turn.host("extend_current_contract_instance_and_code_ttl", longer, longer).drop()
 
 
+def alike(size):
+    """Sixteen keys of so many items that differ in the last one."""
+    return [vector([VOID] * (size - 1) + [value_u32(number)]) for number in range(16)]
+
+
+def has_each(turn):
+    """A turn that looks at each of sixteen keys."""
+    for number in range(16):
+        turn.host("has_contract_data", turn.argument(number), PERSISTENT).drop()
+
+
 WIDE = {"arguments": one(voids), "records": at_wide_key}
 HELD = {"arguments": one(value_u32), "members": lambda n: numbered(n + 1)}
 LEDGER = [
@@ -122,6 +133,7 @@ LEDGER = [
     ("`put_contract_data`, n items", MEDIUM, turning(
         calls("put_contract_data", KEY, "0", PERSISTENT), one(voids), records=at_ab(voids))),
     ("`has_contract_data`, a key of n", MEDIUM, turning(calls("has_contract_data", "0", PERSISTENT), **WIDE)),
+    ("`has_contract_data` of 16 keys of n that differ at their ends", MEDIUM, turning(has_each, alike)),
     ("`get_contract_data`, a key of n", MEDIUM, turning(calls("get_contract_data", "0", PERSISTENT), **WIDE)),
     ("`put_contract_data`, a key of n", MEDIUM, turning(calls("put_contract_data", "0", VOID_WORD, PERSISTENT), **WIDE)),
     ("`del_contract_data`, a key of n, no entry", MEDIUM, turning(calls("del_contract_data", "0", PERSISTENT), one(voids))),
@@ -196,6 +208,8 @@ DEMANDS = [
         lambda n: [], lambda n: [entry for entry, _ in signatures(n)], verdicts=lambda n: [pair for _, pair in signatures(n)])),
     ("a demand with an argument of n, 100 entries", MEDIUM, demanding(
         lambda n: [voids(n)], lambda n: entries_for(100, [voids(n)]), lambda n: (1, 3))),
+    ("a demand with n arguments, 100 entries", MEDIUM, demanding(
+        lambda n: [VOID] * n, lambda n: entries_for(100, [VOID] * n), lambda n: (1, 3))),
     ("a call that demands one of n nodes below a root", SMALL, demanding_below),
     ("a caught call that demands what none of n entries has", (20, 200, 2_000), demanding_in_vain),
 ]  # fmt: skip

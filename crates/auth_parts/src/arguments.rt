@@ -41,7 +41,7 @@ fn args_of(
     let mut args = Vec::with_capacity(alloc, 3)?;
     args.push(bytes_of(alloc, payload)?)?;
     args.push(signature.clone()?)?;
-    args.push(vec_of(contexts))?;
+    args.push(vec_of(contexts)?)?;
     Ok(args)
 }
 

@@ -30,11 +30,11 @@ pub(crate) fn bytes_of(alloc: Global, hash: Hash) -> Result<ScVal, NoMemory>
     Ok(ScVal::Bytes(Blob::from_vec(hash.0.to_vec(alloc)?)))
 }
 
-/// A vec of these items. Takes no memory.
-pub(crate) fn vec_of(items: Vec<ScVal>) -> ScVal
-    ensures { datum result ≡ vec (items_of (datums items.items)) }
+/// A vec of these items.
+pub(crate) fn vec_of(items: Vec<ScVal>) -> Result<ScVal, NoMemory>
+    ensures { IfOk result (λ v. datum v ≡ vec (items_of (datums items.items))) }
 {
-    ScVal::Vec(Some(ScVals::from_vec(items)))
+    Ok(ScVal::Vec(Some(ScVals::from_vec(items)?)))
 }
 
 /// A member of a context.
@@ -53,8 +53,8 @@ fn context(alloc: Global, kind: &[u8], members: Vec<Entry>) -> Result<ScVal, NoM
 {
     let mut items = Vec::with_capacity(alloc, 2)?;
     items.push(symbol_of(alloc, kind)?)?;
-    items.push(ScVal::Map(Some(Entries::from_vec(members))))?;
-    Ok(vec_of(items))
+    items.push(ScVal::Map(Some(Entries::from_vec(members)?)))?;
+    vec_of(items)
 }
 
 /// The executable of a contract that is created.
@@ -67,7 +67,7 @@ fn executable_in(alloc: Global, executable: Executable) -> Result<ScVal, NoMemor
             let mut items = Vec::with_capacity(alloc, 2)?;
             items.push(symbol_of(alloc, b"Wasm")?)?;
             items.push(bytes_of(alloc, code)?)?;
-            Ok(vec_of(items))
+            vec_of(items)
         }
     }
 }
@@ -86,7 +86,7 @@ fn salt_in(alloc: Global, preimage: Preimage) -> Result<ScVal, NoMemory>
 fn arguments_in(alloc: Global, args: &[ScVal]) -> Result<ScVal, NoMemory>
     ensures { IfOk result (λ v. datum v ≡ arguments_in (datums args.now)) }
 {
-    Ok(vec_of(args.to_vec(alloc)?))
+    vec_of(args.to_vec(alloc)?)
 }
 
 /// The context of a call.

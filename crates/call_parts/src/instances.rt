@@ -19,6 +19,7 @@ ghost use Rattle.call_spec.specs.Found.{instance_at, instance_in, instance_of_da
 ghost use Rattle.call_spec.specs.Frames.{is_same as is_same_copy};
 ghost use Rattle.call_spec.specs.Creating.{makes_instance};
 ghost use Rattle.host_ledger.specs.Worlds.{IsHeld, copied};
+ghost use Rattle.instance_storage.specs.Held.{members_in};
 ghost use Rattle.host_ledger.specs.Spelled.{IsKeySpelled};
 ghost use Rattle.call_parts.specs.Entered.{IsTested, IsEntered, opens_instance};
 ghost use Rattle.call_parts.specs.Steps.{Steps, Charges, Returns};
@@ -48,14 +49,26 @@ fn clone_entries(entries: &Entries) -> Result<Entries, HostErr>
     }
 }
 
-/// Clones instance storage. Its only error is memory.
-fn clone_storage(storage: &Option<Entries>) -> Result<Option<Entries>, HostErr>
-    ensures ok { IfOk result (λ s. s ≡ storage.now) }
+/// Makes instance storage of entries. Its only error is memory.
+fn storage_of(entries: Option<Entries>) -> Result<InstanceStorage, HostErr>
+    requires { IsHeld entries }
+    ensures ok { IfOk result (λ s. s ≡ entries) }
     ensures memory { IfErr result (λ e. e ≡ ends.NoMemory) }
 {
-    match storage {
-        None => Ok(None),
-        Some(entries) => Ok(Some(clone_entries(entries)?)),
+    match InstanceStorage::new(entries) {
+        Ok(storage) => Ok(storage),
+        Err(_) => Err(HostErr::NoMemory),
+    }
+}
+
+/// Copies the entries of instance storage. Its only error is memory.
+fn entries_of(storage: &InstanceStorage) -> Result<Option<Entries>, HostErr>
+    ensures ok { IfOk result (λ e. e ≡ storage.now) }
+    ensures memory { IfErr result (λ e. e ≡ ends.NoMemory) }
+{
+    match storage.to_entries() {
+        Ok(entries) => Ok(entries),
+        Err(_) => Err(HostErr::NoMemory),
     }
 }
 
@@ -107,10 +120,10 @@ fn entered_copy(code: Hash, entries: &Entries) -> Result<InstanceCopy, HostErr>
 {
     let copy = clone_entries(entries)?;
     match entered(copy) {
-        Ok(storage) => Ok(InstanceCopy {
-            code,
-            storage: InstanceStorage::new(storage),
-        }),
+        Ok(entries) => {
+            let storage = storage_of(entries)?;
+            Ok(InstanceCopy { code, storage })
+        }
         Err(error) => Err(error),
     }
 }
@@ -202,15 +215,22 @@ fn same_entries(first: &[Entry], second: &[Entry]) -> bool
     }
 }
 
-/// Whether two instance storages are the same.
-fn same_storage(first: &Option<Entries>, second: &Option<Entries>) -> bool
-    ensures { Decides result (first.now ≡ second.now) }
+/// Whether two instance storages have the same entries.
+fn same_lists(first: Option<&[Entry]>, second: Option<&[Entry]>) -> bool
+    ensures { Decides result (members_in first.entry ≡ members_in second.entry) }
 {
     match (first, second) {
         (None, None) => true,
-        (Some(first), Some(second)) => same_entries(first.as_slice(), second.as_slice()),
+        (Some(first), Some(second)) => same_entries(first, second),
         _ => false,
     }
+}
+
+/// Whether two instance storages are the same.
+fn same_storage(first: &InstanceStorage, second: &InstanceStorage) -> bool
+    ensures { Decides result (first.now ≡ second.now) }
+{
+    same_lists(first.entries(), second.entries())
 }
 
 /// Whether two copies are the same.
@@ -218,7 +238,7 @@ fn same_storage(first: &Option<Entries>, second: &Option<Entries>) -> bool
 fn same_copy(first: &InstanceCopy, second: &InstanceCopy) -> bool
     ensures { Decides result (copied first.now ≡ copied second.now) }
 {
-    first.code == second.code && same_storage(first.storage.entries(), second.storage.entries())
+    first.code == second.code && same_storage(&first.storage, &second.storage)
 }
 
 /// Whether a frame's copy of the instance is the one at its start. Takes no memory.
@@ -258,8 +278,8 @@ pub fn write_instance<G: Ground, W: Watch>(
     ensures later { IsLater storage.old storage.new }
     ensures key { IfErr result IsKeySpelled }
 {
-    let storage_copy = clone_storage(copy.storage.entries())?;
-    let entry = instance_entry(n, contract, copy.code, storage_copy);
+    let entries = entries_of(&copy.storage)?;
+    let entry = instance_entry(n, contract, copy.code, entries);
     let key = instance_key(contract);
     put(storage, budget, key, entry)
 }

@@ -139,7 +139,7 @@ fn show_words(
         return Err(TOO_LARGE);
     }
     let items = values_in(&values, bytes, count as usize)?;
-    give(objects, shown, budget, Answer::vec(items))
+    give(objects, shown, budget, Answer::vec(items)?)
 }
 
 /// `vec_new_from_linear_memory`: shows the vec of so many words, from an index of the memory on. A vec above the bound of values

@@ -171,7 +171,7 @@ pub fn map_with(
     ensures memory { IfErr result (λ e. e ≡ errs.NoMemory) }
 {
     let made = put_of(alloc, entries, key, val)?;
-    Ok(Answer::map(made))
+    Answer::map(made)
 }
 
 /// The entries without the one at an index.
@@ -208,7 +208,7 @@ fn map_left_out(
     ensures memory { IfErr result (λ e. e ≡ errs.NoMemory) }
 {
     let made = left_out(alloc, entries, index, key)?;
-    Ok(Answer::map(made))
+    Answer::map(made)
 }
 
 /// The map without a key, if it has it.
@@ -262,7 +262,8 @@ pub fn vec_of_keys(alloc: Global, entries: &[Entry]) -> Result<Answer, ValueErr>
     ensures memory { IfErr result (λ e. e ≡ errs.NoMemory) }
 {
     let made = keys_of(alloc, entries)?;
-    Ok(Answer::value(ScVal::Vec(Some(ScVals::from_vec(made)))))
+    let keys = ScVals::from_vec(made)?;
+    Ok(Answer::value(ScVal::Vec(Some(keys))))
 }
 
 /// The vec of the values.
@@ -273,5 +274,6 @@ pub fn vec_of_vals(alloc: Global, entries: &[Entry]) -> Result<Answer, ValueErr>
     ensures memory { IfErr result (λ e. e ≡ errs.NoMemory) }
 {
     let made = vals_of(alloc, entries)?;
-    Ok(Answer::value(ScVal::Vec(Some(ScVals::from_vec(made)))))
+    let vals = ScVals::from_vec(made)?;
+    Ok(Answer::value(ScVal::Vec(Some(vals))))
 }

@@ -19,7 +19,7 @@ pub fn map_new(values: &Values<'_>, budget: &mut Budget) -> Result<Answer, Value
     ensures { Answers result [] map_new [] values.now budget.old budget.new }
 {
     enter(budget, &[])?;
-    Ok(Answer::map(Vec::new(values.allocator())))
+    Answer::map(Vec::new(values.allocator()))
 }
 
 /// `map_put`: with a value put at a key.

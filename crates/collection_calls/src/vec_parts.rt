@@ -127,7 +127,7 @@ fn vec_joined(alloc: Global, front: &[ScVal], back: &[ScVal]) -> Result<Answer, 
     ensures memory { IfErr result (λ e. e ≡ errs.NoMemory) }
 {
     let made = joined(alloc, front, back)?;
-    Ok(Answer::vec(made))
+    Answer::vec(made)
 }
 
 /// The vec of some items, then of a value, then of other items.
@@ -145,7 +145,7 @@ fn vec_joined_by(
     ensures memory { IfErr result (λ e. e ≡ errs.NoMemory) }
 {
     let made = joined_by(alloc, front, value, back)?;
-    Ok(Answer::vec(made))
+    Answer::vec(made)
 }
 
 /// The vec of the items of one and then of another.

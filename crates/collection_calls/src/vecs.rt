@@ -21,7 +21,7 @@ pub fn vec_new(values: &Values<'_>, budget: &mut Budget) -> Result<Answer, Value
     ensures { Answers result [] vec_new [] values.now budget.old budget.new }
 {
     enter(budget, &[])?;
-    Ok(Answer::vec(Vec::new(values.allocator())))
+    Answer::vec(Vec::new(values.allocator()))
 }
 
 /// `vec_put`: another item at an index.

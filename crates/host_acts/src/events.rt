@@ -87,7 +87,7 @@ fn executable_topic(alloc: Global, code: Hash) -> Result<ScVal, ValueErr>
     let mut items = Vec::with_capacity(alloc, 2)?;
     items.push(symbol_of(alloc, b"Wasm")?)?;
     items.push(ScVal::Bytes(Blob::from_vec(code.0.to_vec(alloc)?)))?;
-    Ok(ScVal::Vec(Some(ScVals::from_vec(items))))
+    Ok(ScVal::Vec(Some(ScVals::from_vec(items)?)))
 }
 
 /// The event of an update of a contract's code.
@@ -108,7 +108,7 @@ fn update_event(
         contract_id: Some(contract),
         event_type: ContractEventType::System,
         topics: Items::from_vec(topics),
-        data: ScVal::Vec(Some(ScVals::from_vec(Vec::new(alloc)))),
+        data: ScVal::Vec(Some(ScVals::from_vec(Vec::new(alloc))?)),
     })
 }
 

@@ -1,18 +1,20 @@
 //! Answers of one type.
 
-ghost use Rattle.std.specs.Prelude.{◌≡◌, ◌<◌, ◌^◌, true, length};
+ghost use Rattle.std.specs.Prelude.{◌≡◌, ◌<◌, ◌^◌, true, length, IfOk, IfErr};
 ghost use Rattle.value_types.specs.Views.{datum, datums, datum_pairs};
 ghost use Rattle.value_types.specs.Datum.{items_of, members_of, boolean, void, u32 as u32_datum, bytes as bytes_datum};
 ghost use Rattle.value_types.specs.Datum.{string as string_datum, symbol as symbol_datum, vec as vec_datum, map as map_datum};
 ghost use Rattle.host_spec.specs.Answers.{value as given_value, object as given_object};
 ghost use Rattle.host_spec.specs.Hosted.{IsMade, is_symbol};
 ghost use Rattle.host_spec.specs.Words.{object_tag};
+ghost use Rattle.host_spec.specs.declared.error.ValueErr.TheVariants as errs;
 ghost use Rattle.value_xdr.specs.Bytes.{IsBounded};
 ghost use Rattle.tagged_val.specs.Scalars.{is_scalar};
 ghost use Rattle.host_frame.specs.Answered.{answer_of};
 ghost use Rattle.host_frame.specs.Made.{IsAnswerMade, AreMade};
 
 use crate::answer::Answer;
+use host_spec::ValueErr;
 use value_types::{Blob, Entries, Entry, ScVal, ScVals};
 use value_xdr::hold_bytes;
 
@@ -86,23 +88,27 @@ impl Answer {
         Answer::Value(ScVal::Symbol(Blob::from_vec(text)))
     }
 
-    /// Answers the vec of these items.
-    pub fn vec(items: Vec<ScVal>) -> Answer
+    /// Answers the vec of these items. Its only error is memory.
+    pub fn vec(items: Vec<ScVal>) -> Result<Answer, ValueErr>
         requires few { length items.items < 2 ^ 32 }
         requires made { AreMade (datums items.items) }
-        ensures value { answer_of result ≡ given_value (vec_datum (items_of (datums items.items))) }
-        ensures made { IsAnswerMade (answer_of result) }
+        ensures value { IfOk result (λ a. answer_of a ≡ given_value (vec_datum (items_of (datums items.items)))) }
+        ensures made { IfOk result (λ a. IsAnswerMade (answer_of a)) }
+        ensures memory { IfErr result (λ e. e ≡ errs.NoMemory) }
     {
-        Answer::Value(ScVal::Vec(Some(ScVals::from_vec(items))))
+        let items = ScVals::from_vec(items)?;
+        Ok(Answer::Value(ScVal::Vec(Some(items))))
     }
 
-    /// Answers the map of these entries, whose keys have to be in order.
-    pub fn map(entries: Vec<Entry>) -> Answer
+    /// Answers the map of these entries, whose keys have to be in order. Its only error is memory.
+    pub fn map(entries: Vec<Entry>) -> Result<Answer, ValueErr>
         requires { IsMade (map_datum (members_of (datum_pairs entries.items))) }
-        ensures value { answer_of result ≡ given_value (map_datum (members_of (datum_pairs entries.items))) }
-        ensures made { IsAnswerMade (answer_of result) }
+        ensures value { IfOk result (λ a. answer_of a ≡ given_value (map_datum (members_of (datum_pairs entries.items)))) }
+        ensures made { IfOk result (λ a. IsAnswerMade (answer_of a)) }
+        ensures memory { IfErr result (λ e. e ≡ errs.NoMemory) }
     {
-        Answer::Value(ScVal::Map(Some(Entries::from_vec(entries))))
+        let entries = Entries::from_vec(entries)?;
+        Ok(Answer::Value(ScVal::Map(Some(entries))))
     }
 
     /// Answers a value that contracts may hold.

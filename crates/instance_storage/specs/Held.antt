@@ -1,14 +1,26 @@
 -- Instance storage, and puts into it (own).
 use Rattle.std.specs.Prelude.{◌≡◌, ℕ, ◌+◌, true, false, List, [], length, Option, Some, None, Result, Ok, Err}
-use Rattle.std.specs.Option.{unwrap_or}
+use Rattle.std.specs.Option.{unwrap_or, option_map}
+use Rattle.std.specs.Borrow.{Bor}
+use Rattle.std.specs.Global.{Vec}
 use Rattle.value_types.specs.Datum.{Datum, map, instance, members_of}
+use Rattle.value_types.specs.Views.{datum_pairs}
 use Rattle.value_types.specs.declared.hash.Hash.{Hash}
+use Rattle.value_types.specs.declared.value.Entry.{Entry}
 use Rattle.value_types.specs.declared.executable.Executable.TheVariants.{Wasm}
 use Rattle.value_xdr.specs.Bytes.{bytes_of, members_bytes}
 use Rattle.host_spec.specs.Hosted.{IsHosted, is_within_limits}
 use Rattle.host_spec.specs.MapRows.{Member, put}
 use Rattle.instance_storage.specs.declared.storage.Unput.{Unput}
 use Rattle.instance_storage.specs.declared.storage.Unput.TheVariants as why
+
+-- the members of a storage with these entries
+abbrev pub held_in : Option (Vec Entry) → Option (List Member)
+held_in entries = option_map (λ list. datum_pairs list.items) entries
+
+-- the members that lent entries are
+abbrev pub members_in : Option (Bor (List Entry)) → Option (List Member)
+members_in entries = option_map (λ list. datum_pairs list.now) entries
 
 -- instance storage is null or a map that the host holds
 abbrev pub IsHeld : Option (List Member) → Type 0
@@ -42,8 +54,9 @@ Puts (Err why.TooLarge) code key val old new =
 Puts (Err why.NoMemory) code key val old new = new ≡ old
 
 -- the same of a put into entries, which are returned if nothing is put
-abbrev pub PutsIn : Result (Option (List Member)) (List Member × Unput) → Hash → Datum → Datum → List Member → Type 0
+abbrev pub PutsIn : Result (Option (List Member)) (Vec Entry × Unput) → Hash → Datum → Datum → List Member → Type 0
 PutsIn (Ok storage) code key val old =
     (storage ≡ Some (put key val old)) × (is_within_limits (instance_with code (put key val old)) ≡ true)
-PutsIn (Err (ms, why.TooLarge)) code key val old = (ms ≡ old) × (is_within_limits (instance_with code (put key val old)) ≡ false)
-PutsIn (Err (ms, why.NoMemory)) code key val old = ms ≡ old
+PutsIn (Err (list, why.TooLarge)) code key val old =
+    (datum_pairs list.items ≡ old) × (is_within_limits (instance_with code (put key val old)) ≡ false)
+PutsIn (Err (list, why.NoMemory)) code key val old = datum_pairs list.items ≡ old

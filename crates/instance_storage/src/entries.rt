@@ -4,13 +4,13 @@ ghost use Rattle.std.specs.Prelude.{◌≡◌, ◌<◌, ◌≤◌, ◌+◌, ◌&
 ghost use Rattle.std.specs.List.{insert, remove};
 ghost use Rattle.value_types.specs.Datum.{members_of, map};
 ghost use Rattle.value_types.specs.Depth.{depth_of};
-ghost use Rattle.value_types.specs.Views.{datum, datum_pair};
+ghost use Rattle.value_types.specs.Views.{datum, datum_pair, datum_pairs};
 ghost use Rattle.xdr_core.specs.Sizes.{capped};
 ghost use Rattle.host_spec.specs.Hosted.{IsHosted, IsMade};
 ghost use Rattle.instance_storage.specs.Held.{members_size, pair_size};
 
 use host_frame::measured;
-use value_types::{Entries, Entry, Hash, depth};
+use value_types::{Entry, depth};
 use xdr_core::add_sizes;
 
 /// The bytes of the XDR of an instance that does not count its entries.
@@ -27,13 +27,13 @@ pub(crate) fn grown(size: u64, entry: &Entry) -> u64
 }
 
 /// The bytes of the XDR of the entry at an index.
-pub(crate) fn size_at(entries: &Entries, index: usize) -> u64
-    requires hosted { IsHosted (map (members_of entries.now)) }
-    requires within { index < length entries.now }
-    ensures { result + members_size (remove entries.now index) ≡ members_size entries.now }
+#[tactic(auto, using(host_frame::proofs::Lemmas::pairs_length))]
+pub(crate) fn size_at(entries: &[Entry], index: usize) -> u64
+    requires hosted { IsHosted (map (members_of (datum_pairs entries.now))) }
+    requires within { index < length (datum_pairs entries.now) }
+    ensures { result + members_size (remove (datum_pairs entries.now) index) ≡ members_size (datum_pairs entries.now) }
 {
-    let entry = &entries.as_slice()[index];
-    grown(0, entry)
+    grown(0, &entries[index])
 }
 
 /// Whether an instance whose entries have this size is within the limits of values with this entry. The others are.
@@ -46,35 +46,37 @@ pub(crate) fn is_within_limits(size: u64, entry: &Entry) -> bool
 
 /// Puts an entry over the one at an index.
 #[tactic(auto, using(crate::proofs::Editing::pairs_set, host_frame::proofs::Lemmas::pairs_length))]
-pub(crate) fn overwrite(entries: Entries, index: usize, entry: Entry) -> Entries
-    requires { index < length entries }
-    ensures { result ≡ slice_set entries index (datum_pair entry) }
+pub(crate) fn overwrite(mut entries: Vec<Entry>, index: usize, entry: Entry) -> Vec<Entry>
+    requires { index < length (datum_pairs entries.items) }
+    ensures { datum_pairs result.items ≡ slice_set (datum_pairs entries.items) index (datum_pair entry) }
 {
-    let mut entries = entries.into_vec();
     entries[index] = entry;
-    Entries::from_vec(entries)
+    entries
 }
 
 /// Inserts an entry before the one at an index. `Err` has the entries as they were, since memory ran out.
 #[tactic(auto, using(crate::proofs::Editing::pairs_insert, host_frame::proofs::Lemmas::pairs_length))]
-pub(crate) fn insert_at(entries: Entries, index: usize, entry: Entry) -> Result<Entries, Entries>
-    requires { index ≤ length entries }
-    ensures { MatchResult result (λ e. e ≡ insert entries index (datum_pair entry)) (λ e. e ≡ entries) }
+pub(crate) fn insert_at(
+    mut entries: Vec<Entry>,
+    index: usize,
+    entry: Entry,
+) -> Result<Vec<Entry>, Vec<Entry>>
+    requires { index ≤ length (datum_pairs entries.items) }
+    ensures { MatchResult result (λ e. datum_pairs e.items ≡ insert (datum_pairs entries.items) index (datum_pair entry))
+        (λ e. datum_pairs e.items ≡ datum_pairs entries.items) }
 {
-    let mut entries = entries.into_vec();
     match entries.insert(index, entry) {
-        Ok(()) => Ok(Entries::from_vec(entries)),
-        Err(_) => Err(Entries::from_vec(entries)),
+        Ok(()) => Ok(entries),
+        Err(_) => Err(entries),
     }
 }
 
 /// Removes the entry at an index.
 #[tactic(auto, using(crate::proofs::Editing::pairs_remove, host_frame::proofs::Lemmas::pairs_length))]
-pub(crate) fn remove_at(entries: Entries, index: usize) -> Entries
-    requires { index < length entries }
-    ensures { result ≡ remove entries index }
+pub(crate) fn remove_at(mut entries: Vec<Entry>, index: usize) -> Vec<Entry>
+    requires { index < length (datum_pairs entries.items) }
+    ensures { datum_pairs result.items ≡ remove (datum_pairs entries.items) index }
 {
-    let mut entries = entries.into_vec();
     let _entry = entries.remove(index);
-    Entries::from_vec(entries)
+    entries
 }

@@ -1,13 +1,13 @@
 //! Instance storage that knows its size.
 
-ghost use Rattle.std.specs.Prelude.{◌≡◌, ◌<◌, ◌≤◌, [], length, Some, None, MatchOption, IfSome};
+ghost use Rattle.std.specs.Prelude.{◌≡◌, ◌<◌, ◌≤◌, [], length, Some, None, MatchOption, IfSome, IfOk};
 ghost use Rattle.std.specs.Option.{unwrap_or, option_map};
 ghost use Rattle.value_types.specs.Datum.{members_of, map};
 ghost use Rattle.value_types.specs.Views.{datum, datum_pairs};
 ghost use Rattle.host_spec.specs.Hosted.{IsHosted, IsMade};
 ghost use Rattle.host_spec.specs.MapRows.{value_at as value_in, without};
 ghost use Rattle.host_frame.specs.KeyIndex.{IsThere, IsGap};
-ghost use Rattle.instance_storage.specs.Held.{IsHeld, members_size, Puts, PutsIn};
+ghost use Rattle.instance_storage.specs.Held.{IsHeld, members_in, members_size, Puts, PutsIn};
 
 use crate::entries::{grown, insert_at, is_within_limits, overwrite, remove_at, size_at};
 use host_frame::{index_of, size_of};
@@ -18,7 +18,7 @@ use value_types::{Entries, Entry, Hash, ScVal, hash_fits};
 /// Instance storage: null, or entries whose keys rise. Contracts see it as an option of a list of pairs.
 #[derive(Drop)]
 pub struct InstanceStorage {
-    entries: Option<Entries>,
+    entries: Option<Vec<Entry>>,
     /// The bytes of the XDR of the entries, without their count, if the host holds them.
     size: u64,
 }
@@ -41,51 +41,48 @@ impl Model for InstanceStorage {
 
     ghost coded = { coded_option (coded_list (coded× coded_datum coded_datum)) };
 
-    ghost view = { λ s. s.entries };
+    ghost use Rattle.instance_storage.specs.Held.{held_in, IsSized};
 
-    ghost use Rattle.instance_storage.specs.Held.{IsSized};
+    ghost view = { λ s. held_in s.entries };
 
-    ghost invariant = { λ s. IsSized s.entries s.size };
+    ghost invariant = { λ s. IsSized (held_in s.entries) s.size };
 }
 
-/// Takes the entries out of a map.
-fn entries_of(map: ScVal) -> Option<Entries>
-    ensures { (entries : _) → map ≡ ScVal.Map entries → result ≡ entries }
+/// Copies the list of entries. Their keys and values are shared.
+fn listed(entries: &Entries) -> Result<Vec<Entry>, AllocError>
+    ensures { IfOk result (λ list. datum_pairs list.items ≡ entries.now) }
 {
-    match map {
-        ScVal::Map(entries) => entries,
-        _other => None,
-    }
+    entries.as_slice().to_vec(entries.allocator())
 }
 
 /// Entries with their size.
-fn sized(entries: Entries) -> InstanceStorage
+fn sized(entries: Entries) -> Result<InstanceStorage, AllocError>
     requires { IsHosted (map (members_of entries)) }
-    ensures { result ≡ Some entries }
+    ensures { IfOk result (λ storage. storage ≡ Some entries) }
 {
-    let map = ScVal::Map(Some(entries));
-    let size = size_of(&map) - 12;
-    InstanceStorage {
-        entries: entries_of(map),
+    let list = listed(&entries)?;
+    let size = size_of(&ScVal::Map(Some(entries))) - 12;
+    Ok(InstanceStorage {
+        entries: Some(list),
         size,
-    }
+    })
 }
 
 /// Puts an entry over the one with its key.
 fn put_over(
-    entries: Entries,
+    entries: Vec<Entry>,
     size: u64,
     code: Hash,
     index: usize,
     entry: Entry,
-) -> Result<InstanceStorage, (Entries, Unput)>
-    requires hosted { IsHosted (map (members_of entries)) }
-    requires size { size ≡ members_size entries }
-    requires within { index < length entries }
-    requires stands { IsThere (datum entry.key) entries index }
+) -> Result<InstanceStorage, (Vec<Entry>, Unput)>
+    requires hosted { IsHosted (map (members_of (datum_pairs entries.items))) }
+    requires size { size ≡ members_size (datum_pairs entries.items) }
+    requires within { index < length (datum_pairs entries.items) }
+    requires stands { IsThere (datum entry.key) (datum_pairs entries.items) index }
     requires key { IsMade (datum entry.key) }
     requires val { IsMade (datum entry.val) }
-    ensures { PutsIn result code (datum entry.key) (datum entry.val) entries }
+    ensures { PutsIn result code (datum entry.key) (datum entry.val) (datum_pairs entries.items) }
 {
     hash_fits(code);
     let size = grown(size - size_at(&entries, index), &entry);
@@ -100,19 +97,19 @@ fn put_over(
 
 /// Puts an entry where its key would stand.
 fn put_between(
-    entries: Entries,
+    entries: Vec<Entry>,
     size: u64,
     code: Hash,
     index: usize,
     entry: Entry,
-) -> Result<InstanceStorage, (Entries, Unput)>
-    requires hosted { IsHosted (map (members_of entries)) }
-    requires size { size ≡ members_size entries }
-    requires within { index ≤ length entries }
-    requires stands { IsGap (datum entry.key) entries index }
+) -> Result<InstanceStorage, (Vec<Entry>, Unput)>
+    requires hosted { IsHosted (map (members_of (datum_pairs entries.items))) }
+    requires size { size ≡ members_size (datum_pairs entries.items) }
+    requires within { index ≤ length (datum_pairs entries.items) }
+    requires stands { IsGap (datum entry.key) (datum_pairs entries.items) index }
     requires key { IsMade (datum entry.key) }
     requires val { IsMade (datum entry.val) }
-    ensures { PutsIn result code (datum entry.key) (datum entry.val) entries }
+    ensures { PutsIn result code (datum entry.key) (datum entry.val) (datum_pairs entries.items) }
 {
     hash_fits(code);
     let size = grown(size, &entry);
@@ -131,16 +128,16 @@ fn put_between(
 /// Puts an entry at its key, if the instance with this code is within the limits of values then.
 #[tactic(auto, using(host_frame::proofs::Lemmas::pairs_length))]
 fn put_in(
-    entries: Entries,
+    entries: Vec<Entry>,
     size: u64,
     code: Hash,
     entry: Entry,
-) -> Result<InstanceStorage, (Entries, Unput)>
-    requires hosted { IsHosted (map (members_of entries)) }
-    requires size { size ≡ members_size entries }
+) -> Result<InstanceStorage, (Vec<Entry>, Unput)>
+    requires hosted { IsHosted (map (members_of (datum_pairs entries.items))) }
+    requires size { size ≡ members_size (datum_pairs entries.items) }
     requires key { IsMade (datum entry.key) }
     requires val { IsMade (datum entry.val) }
-    ensures { PutsIn result code (datum entry.key) (datum entry.val) entries }
+    ensures { PutsIn result code (datum entry.key) (datum entry.val) (datum_pairs entries.items) }
 {
     match index_of(&entry.key, entries.as_slice()) {
         Ok(index) => put_over(entries, size, code, index, entry),
@@ -150,10 +147,10 @@ fn put_in(
 
 /// The entries without a key's entry, and their size.
 #[tactic(auto, using(host_frame::proofs::Lemmas::pairs_length))]
-fn delete_in(entries: Entries, size: u64, key: &ScVal) -> InstanceStorage
-    requires hosted { IsHosted (map (members_of entries)) }
-    requires size { size ≡ members_size entries }
-    ensures deleted { result ≡ Some (without (datum key.now) entries) }
+fn delete_in(entries: Vec<Entry>, size: u64, key: &ScVal) -> InstanceStorage
+    requires hosted { IsHosted (map (members_of (datum_pairs entries.items))) }
+    requires size { size ≡ members_size (datum_pairs entries.items) }
+    ensures deleted { result ≡ Some (without (datum key.now) (datum_pairs entries.items)) }
     ensures held { IsHeld result }
 {
     match index_of(key, entries.as_slice()) {
@@ -199,29 +196,38 @@ impl InstanceStorage {
         }
     }
 
-    /// Makes storage of entries, which it measures. `None` is null.
-    pub fn new(entries: Option<Entries>) -> InstanceStorage
+    /// Makes storage of entries, which it measures. `None` is null. It takes O(n) time and memory for n entries, of any sizes.
+    pub fn new(entries: Option<Entries>) -> Result<InstanceStorage, AllocError>
         requires { IsHeld entries }
-        ensures { result ≡ entries }
+        ensures { IfOk result (λ storage. storage ≡ entries) }
     {
         match entries {
-            None => InstanceStorage::null(),
+            None => Ok(InstanceStorage::null()),
             Some(entries) => sized(entries),
         }
     }
 
     /// Lends the entries. `None` is null.
-    pub fn entries(&self) -> &Option<Entries>
-        ensures { result.now ≡ self.now }
+    pub fn entries(&self) -> Option<&[Entry]>
+        ensures { members_in result ≡ self.now }
     {
-        &self.entries
+        match &self.entries {
+            None => None,
+            Some(entries) => Some(entries.as_slice()),
+        }
     }
 
-    /// Returns the entries. `None` is null.
-    pub fn into_entries(self) -> Option<Entries>
-        ensures { result ≡ self }
+    /// Copies the entries. `None` is null. It takes O(n) time and memory for n entries, of any sizes.
+    pub fn to_entries(&self) -> Result<Option<Entries>, AllocError>
+        ensures { IfOk result (λ entries. entries ≡ self.now) }
     {
-        self.entries
+        match &self.entries {
+            None => Ok(None),
+            Some(entries) => {
+                let list = entries.clone()?;
+                Ok(Some(Entries::from_vec(list)?))
+            }
+        }
     }
 
     /// Finds the value of a key, in O(log n) comparisons.
@@ -247,7 +253,7 @@ impl InstanceStorage {
         ensures held { IsHeld self.new }
     {
         match self.entries.take() {
-            None => match put_in(Entries::from_vec(Vec::new(alloc)), 0, code, entry) {
+            None => match put_in(Vec::new(alloc), 0, code, entry) {
                 Ok(storage) => {
                     *self = storage;
                     Ok(())

@@ -56,5 +56,3 @@ whole xs ys o h = ap₂ (λ (a b : List ℕ). slice_cmp nat_cmp a b) (sym (appen
 -- a word that both begin with
 pub word_first : (a b c d : ℕ) (xs ys : List ℕ) (o : Ordering) → Against xs ys o → Against (a ∷ b ∷ c ∷ d ∷ xs) (a ∷ b ∷ c ∷ d ∷ ys) o
 word_first a b c d xs ys o h = both (a ∷ b ∷ c ∷ d ∷ []) (a ∷ b ∷ c ∷ d ∷ []) xs ys Equal o (alike (a ∷ b ∷ c ∷ d ∷ [])) h
-
-pub ruleset deciding = (none, alike, both, first, word_first)

@@ -62,9 +62,6 @@ long_first m n le = either n _
 pub long_second : (m n : ℕ) → m < 4294967296 → 4294967296 ≤ n → Against (ranked_length m) (ranked_length n) (nat_cmp m n)
 long_second m n lt le = rw (short m lt, long n le, less m n (omega arith)) (short_long n _ _ _ _ (omega arith))
 
-pub nat_same : (m n : ℕ) → nat_cmp m n ≡ Equal → m ≡ n
-nat_same = nat_cmp-IsAntisymmetric
-
 -- bytes of one length, behind it
 pub texts : (x y : List ℕ) → length x ≡ length y → Against (ranked_length (length x)) (ranked_length (length y)) Equal → Against (ranked_text x) (ranked_text y) (slice_cmp nat_cmp x y)
 texts x y e h =

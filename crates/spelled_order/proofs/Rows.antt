@@ -3,7 +3,7 @@ use Rattle.std.specs.Prelude.{map}
 use Rattle.std.specs.List.{flat_map}
 use Rattle.std.specs.declared.cmp.Ordering.{Ordering}
 use Rattle.std.specs.declared.cmp.Ordering.TheVariants.{Equal}
-use Rattle.std.proofs.Common.{◌≡◌, ℕ, zero, suc, ◌+◌, ◌<◌, ◌≤◌, List, [], ◌∷◌, ◌++◌, length, get_or, drop, Option, Some, None, refl, sym, ap, ap₂, subst, arith, add-one}
+use Rattle.std.proofs.Common.{◌≡◌, ℕ, zero, suc, ◌+◌, ◌<◌, List, [], ◌∷◌, ◌++◌, length, get_or, drop, Option, Some, None, refl, sym, ap, ap₂, subst, arith, add-one}
 use Rattle.value_types.specs.Views.{datum, datum_pair, instance_datum, instance_of}
 use Rattle.value_types.specs.Datum.{Datum, items_of, members_of}
 use Rattle.value_types.proofs.Lemmas.{items_there, members_there}
@@ -15,7 +15,7 @@ use Rattle.value_types.specs.declared.value.Entry.{Entry}
 use Rattle.value_xdr.specs.Bytes.{word}
 use Rattle.spelled_order.specs.Against.{Against}
 use Rattle.spelled_order.specs.Ranked.{ranked_value, ranked_of, ranked_pair, ranked_items, ranked_members, ranked_length}
-use Rattle.spelled_order.proofs.Deciding.{none, both, first}
+use Rattle.spelled_order.proofs.Deciding.{both, first}
 
 ranked_items-items_of : (ds : List Datum) → ranked_items (items_of ds) ≡ flat_map ranked_of ds
 ranked_items-items_of [] = refl
@@ -65,12 +65,6 @@ module _ {A B : Type 0} (f : B → List ℕ) (view : A → B) where
   row_next (y ∷ xs) zero x lt e = ap (λ (z : A). f (view z) ++ flat_map f (map view xs)) (sym e)
   row_next (y ∷ xs) (suc i) x lt e = row_next xs i x (omega arith) e
 
-  row_done : (xs : List A) (i : ℕ) → length xs ≤ i → flat_map f (map view (drop i xs)) ≡ []
-  row_done [] zero le = refl
-  row_done [] (suc i) le = refl
-  row_done (x ∷ xs) zero le = absurd (omega arith)
-  row_done (x ∷ xs) (suc i) le = row_done xs i (omega arith)
-
   pub row_unequal : (xs ys : List A) (i : ℕ) (x y : A) (o : Ordering) → i < length xs → i < length ys → x ≡ get_or xs i x → y ≡ get_or ys i y
       → Carries (flat_map f (map view (drop i xs))) (flat_map f (map view (drop i ys))) (flat_map f (map view xs)) (flat_map f (map view ys))
       → Against (f (view x)) (f (view y)) o → (o ≡ Equal → ⊥) → Against (flat_map f (map view xs)) (flat_map f (map view ys)) o
@@ -81,11 +75,6 @@ module _ {A B : Type 0} (f : B → List ℕ) (view : A → B) where
       → Against (f (view x)) (f (view y)) Equal
       → Carries (flat_map f (map view (drop (i + 1) xs))) (flat_map f (map view (drop (i + 1) ys))) (flat_map f (map view xs)) (flat_map f (map view ys))
   row_equal xs ys i x y lt mt e g carries h = rw add-one (λ o k. carries o (rw (row_next xs i x lt e, row_next ys i y mt g) (both (f (view x)) (f (view y)) _ _ Equal o h k)))
-
-  pub row_end : (xs ys : List A) (i : ℕ) → length xs ≤ i → length ys ≤ i
-      → Carries (flat_map f (map view (drop i xs))) (flat_map f (map view (drop i ys))) (flat_map f (map view xs)) (flat_map f (map view ys))
-      → Against (flat_map f (map view xs)) (flat_map f (map view ys)) Equal
-  row_end xs ys i le me carries = carries Equal (rw (row_done xs i le, row_done ys i me) none)
 
 pub as_data : (v w : ScVal) (o : Ordering) → Against (ranked_value v) (ranked_value w) o → Against (ranked_of (datum v)) (ranked_of (datum w)) o
 as_data v w o h = rw (← ranked_value-datum v, ← ranked_value-datum w) h

@@ -118,7 +118,7 @@ fn read_items<W: Words>(alloc: Global, input: &mut W, left: u32) -> Result<ScVal
         items.push(item)?;
     }
     items.shrink_to_fit();
-    Ok(ScVals::from_vec(items))
+    Ok(ScVals::from_vec(items)?)
 }
 
 #[cycle(read)]
@@ -133,7 +133,7 @@ fn read_members<W: Words>(alloc: Global, input: &mut W, left: u32) -> Result<Ent
         items.push(entry)?;
     }
     items.shrink_to_fit();
-    Ok(Entries::from_vec(items))
+    Ok(Entries::from_vec(items)?)
 }
 
 #[cycle(read)]

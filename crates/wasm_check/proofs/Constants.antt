@@ -1,10 +1,10 @@
 -- Constant expressions.
-use Rattle.std.proofs.Common.{◌≡◌, List, [], ◌∷◌, length, Option, None, refl, ap, get_or, sym}
+use Rattle.std.proofs.Common.{◌≡◌, List, [], ◌∷◌, length, Option, None, refl}
 use Rattle.wasm_spec.specs.declared.types.ValueType.{ValueType}
 use Rattle.wasm_spec.specs.declared.module.Global.{Global}
 use Rattle.wasm_spec.specs.declared.instructions.Instr.{Instr}
 use Rattle.wasm_spec.specs.declared.instructions.Instr.TheVariants as instr
-use Rattle.wasm_spec.specs.Code.{Code, end}
+use Rattle.wasm_spec.specs.Code.{Code}
 use Rattle.wasm_spec.specs.Views.{before, code_of}
 use Rattle.wasm_spec.specs.Typing.{alone, constant_type, constant_of}
 
@@ -23,9 +23,3 @@ not_one gs (instr.Control k ∷ j ∷ is) ne = refl
 not_one gs (instr.Block t body ∷ j ∷ is) ne = refl
 not_one gs (instr.Loop t body ∷ j ∷ is) ne = refl
 not_one gs (instr.If t taken other ∷ j ∷ is) ne = refl
-
--- the only instruction
-pub one : (is : List Instr) (i : Instr) → length is ≡ 1 → i ≡ get_or is 0 i → code_of is ≡ before i end
-one [] i e h = cc
-one (j ∷ []) i e h = ap (λ x. before x end) (sym h)
-one (j ∷ k ∷ is) i e h = cc

@@ -1,17 +1,15 @@
 -- What is compiled stands in the code.
-use Rattle.std.proofs.Common.{◌≡◌, ◌≢◌, ℕ, zero, suc, ◌+◌, ◌-◌, ◌*◌, ◌<◌, ◌≤◌, ◌⊎◌, inl, inr, List, [], ◌∷◌, ◌++◌, length, Result, Ok, Err, OnOk, IfOk, Some, None, refl, sym, ap, ◌∙◌, subst, arith, append_assoc, length-append}
+use Rattle.std.proofs.Common.{◌≡◌, ◌≢◌, ℕ, zero, suc, ◌+◌, ◌-◌, ◌*◌, ◌<◌, ◌≤◌, List, [], ◌∷◌, ◌++◌, length, Result, Ok, Err, OnOk, Some, None, refl, sym, ap, ◌∙◌, subst, arith, append_assoc, length-append}
 use Rattle.std.specs.Prelude.{slice_get, slice_set}
 use Rattle.std.proofs.lemmas.Option.{slice_get_within}
 use Rattle.std.proofs.Math.ListN.{length-set}
 use Rattle.std.proofs.lemmas.List.{append-nil}
-use Rattle.std.proofs.lemmas.Bool.{cases_lt}
 use Rattle.wasm_spec.specs.declared.types.FuncType.{FuncType}
-use Rattle.wasm_spec.specs.declared.instructions.Plain.{Plain}
 use Rattle.wasm_spec.specs.declared.instructions.Control.TheVariants as jump
 use Rattle.wasm_spec.specs.declared.instructions.Instr.{Instr}
 use Rattle.wasm_spec.specs.declared.module.Function.{Function}
 use Rattle.wasm_spec.specs.declared.module.Module.{Module}
-use Rattle.wasm_spec.specs.Code.{Code, end, plain, control, block, loop, choose, BlockType}
+use Rattle.wasm_spec.specs.Code.{Code, end, control, block, loop, choose, BlockType}
 use Rattle.wasm_spec.specs.Views.{before, code_of}
 use Rattle.wasm_spec.specs.Typing.{function_type, result_of}
 use Rattle.wasm_code.specs.declared.step.Step.{Step}
@@ -20,18 +18,14 @@ use Rattle.wasm_code.specs.declared.step.Target.{Target}
 use Rattle.wasm_code.specs.declared.step.FlatCode.{FlatCode as Flat}
 use Rattle.wasm_code.specs.declared.labels.Open.{Open}
 use Rattle.wasm_code.specs.declared.emit.Emitter.{Emitter}
-use Rattle.wasm_code.specs.Placed.{Label, arity, height_after, height_after_call, LabelAt, JumpsTo, RowAt, Placed, home_of, IsFunctionAt, AreFunctionsAt, IsImportAt, IsCompiled}
-use Rattle.wasm_code.specs.Emitted.{Keeps, IsLabel, AreLabels, Puts, Opens, Closes, Forgets, Patches, Adds, Emitted, EmittedAll, RowEmitted, RowBegun, FunctionEmitted, ImportsAt, ImportsEmitted}
+use Rattle.wasm_code.specs.Placed.{Label, arity, height_after_call, LabelAt, JumpsTo, RowAt, Placed, home_of, IsFunctionAt, AreFunctionsAt, IsImportAt, IsCompiled}
+use Rattle.wasm_code.specs.Emitted.{Keeps, IsLabel, AreLabels, Puts, Opens, Closes, Forgets, Patches, Adds, Emitted, EmittedAll, RowEmitted, RowBegun, FunctionEmitted, ImportsEmitted}
 
 -- results
 
 pub on_ok : {T E : Type 0} (r : Result T E) (P R : Type 0) → OnOk r P → (P → R) → OnOk r R
 on_ok (Ok x) P R p f = f p
 on_ok (Err e) P R p f = tt
-
-pub if_ok : {T E : Type 0} (r : Result T E) (P R : T → Type 0) → IfOk r P → ((x : T) → P x → R x) → IfOk r R
-if_ok (Ok x) P R p f = f x p
-if_ok (Err e) P R p f = tt
 
 -- lists
 
@@ -104,21 +98,6 @@ puts_then : (p : Module) (old new : Emitter) (s : Step) (flat : Flat) (home : La
     → Placed p flat home (length new.steps) rest q ls h' → Placed p flat home (length old.steps + 1) rest q ls h
 puts_then p old new s flat home ls rest q h h' put e pl =
     subst (λ x. Placed p flat home (length old.steps + 1) rest q ls x) e (subst (λ x. Placed p flat home x rest q ls h') (puts_length old new s put) pl)
-
-pub emitted_plain : (p : Module) (old new : Emitter) (op : Plain) (h h' : ℕ) → Puts old new (step.Plain op) → h' ≡ height_after op h → Emitted p old new h h' (plain op)
-emitted_plain p old new op h h' put e = record {
-  adds = puts_adds old new (step.Plain op) put;
-  placed = λ flat home ls rest q ks kt al hl pl. (
-    puts_at old new (step.Plain op) flat.steps put ks,
-    puts_then p old new (step.Plain op) flat home ls rest q (height_after op h) h' put e pl,
-  );
-}
-
-pub emitted_unreachable : (p : Module) (old new : Emitter) (h h' : ℕ) → Puts old new step.Unreachable → Emitted p old new h h' (control jump.Unreachable)
-emitted_unreachable p old new h h' put = record {
-  adds = puts_adds old new _ put;
-  placed = λ flat home ls rest q ks kt al hl pl. puts_at old new _ flat.steps put ks;
-}
 
 pub emitted_br : (p : Module) (old new : Emitter) (k h h' : ℕ) (o : Open) → slice_get old.labels k ≡ Some o → Puts old new (step.Jump o.target (h - o.height - arity o.result)) → Emitted p old new h h' (control (jump.Br k))
 emitted_br p old new k h h' o at put = record {
@@ -398,12 +377,6 @@ pub all_before-push : (is : List Instr) (i : Instr) (rest : Code) → all_before
 all_before-push [] i rest = refl
 all_before-push (j ∷ is) i rest = ap (before j) (all_before-push is i rest)
 
-pub emitted_none : (p : Module) (a : Emitter) (h : ℕ) → Emitted p a a h h (all_before [])
-emitted_none p a h = record {
-  adds = record { labels = refl; home = refl; steps = λ i x l g. g; targets = λ i x l g. g; longer = omega arith; more = omega arith };
-  placed = λ flat home ls rest q ks kt al hl pl. pl;
-}
-
 pub emitted_then : (p : Module) (a b c : Emitter) (h h1 h2 : ℕ) (is : List Instr) (i : Instr) → Emitted p a b h h1 (all_before is) → Emitted p b c h1 h2 (before i) → Emitted p a c h h2 (all_before (is ++ i ∷ []))
 emitted_then p a b c h h1 h2 is i x y = record {
   adds = record {
@@ -509,31 +482,3 @@ compiled p out es flat c s t e = record {
   imports = c.imports flat (keeps-same out.steps flat.steps s);
   functions = subst (λ xs. AreFunctionsAt p flat p.functions xs) (sym e) (c.placed flat (keeps-same out.steps flat.steps s) (keeps-same out.targets.items flat.targets t));
 }
-
--- one more import
-
-abbrev CallsImport : List Step → ℕ → Type 0
-CallsImport steps f = (slice_get steps (2 * f) ≡ Some (step.Import f)) × (slice_get steps (2 * f + 1) ≡ Some step.End)
-
-last_import : (n : ℕ) (a b c : Emitter) → length a.steps ≡ 2 * n → Puts a b (step.Import n) → Puts b c step.End → CallsImport c.steps n
-last_import n a b c len put put' =
-    let two = puts_adds b c _ put' in
-    let first : slice_get b.steps (length a.steps) ≡ Some (step.Import n) = ap (λ l. slice_get l (length a.steps)) put.steps ∙ get-seam a.steps [] (step.Import n) in
-    let second : slice_get c.steps (length b.steps) ≡ Some step.End = ap (λ l. slice_get l (length b.steps)) put'.steps ∙ get-seam b.steps [] step.End in
-    let end_at : 2 * n + 1 ≡ length b.steps = omega (arith, len, puts_length a b _ put) in (
-      ap (λ i. slice_get c.steps i) (sym len) ∙ two.steps (length a.steps) (step.Import n) (omega arith) first,
-      ap (λ i. slice_get c.steps i) end_at ∙ second,
-    )
-
-kept_import : (f : ℕ) (xs ys : List Step) → Keeps 0 xs ys → CallsImport xs f → CallsImport ys f
-kept_import f xs ys k h = (k (2 * f) _ (omega arith) h.0, k (2 * f + 1) _ (omega arith) h.1)
-
-pub imports_more : (n : ℕ) (a b c : Emitter) → ImportsAt n a.steps → Puts a b (step.Import n) → Puts b c step.End → ImportsAt (n + 1) c.steps
-imports_more n a b c at put put' = (omega (arith, at.0, puts_length a b _ put, puts_length b c _ put'), λ f l. by_place f (cases_lt f n) l)
-  where
-    kept : Keeps 0 a.steps c.steps
-    kept = keeps_on 0 a.steps b.steps c.steps (puts_adds a b _ put).steps (puts_adds b c _ put').steps
-
-    by_place : (f : ℕ) → (f < n) ⊎ (n ≤ f) → f < n + 1 → CallsImport c.steps f
-    by_place f (inl l) m = kept_import f a.steps c.steps kept (at.1 f l)
-    by_place f (inr g) m = let same : f ≡ n = omega (arith, g, m) in subst (λ k. CallsImport c.steps k) (sym same) (last_import n a b c at.0 put put')

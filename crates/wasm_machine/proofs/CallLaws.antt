@@ -1,6 +1,6 @@
 -- Calls that do not fail: what they find, and what they come to.
-use Rattle.std.proofs.Common.{◌≡◌, ◌≢◌, ℕ, zero, suc, ◌+◌, ◌-◌, ◌<◌, ◌≤◌, Bool, true, false, List, [], ◌∷◌, ◌++◌, length, map, take, replicate, Option, Some, None, refl, ap, ap₂, ◌∙◌, arith}
-use Rattle.std.specs.Prelude.{slice_get, IsSome, ◌&&◌}
+use Rattle.std.proofs.Common.{◌≡◌, ℕ, zero, suc, ◌+◌, ◌-◌, ◌<◌, ◌≤◌, Bool, true, false, List, [], ◌∷◌, ◌++◌, length, map, take, replicate, Some, refl, ap, ap₂, ◌∙◌, arith}
+use Rattle.std.specs.Prelude.{◌&&◌}
 use Rattle.std.specs.Cmp.Lexicographic.{pointwise}
 use Rattle.wasm_spec.specs.declared.types.ValueType.{ValueType}
 use Rattle.wasm_spec.specs.declared.types.ValueType.TheVariants.{I32, I64}
@@ -9,14 +9,12 @@ use Rattle.wasm_spec.specs.declared.values.Value.{Value}
 use Rattle.wasm_spec.specs.declared.values.TrapKind.TheVariants.{CallDepth}
 use Rattle.wasm_spec.specs.declared.module.Locals.{Locals}
 use Rattle.wasm_spec.specs.declared.module.Function.{Function}
-use Rattle.wasm_spec.specs.declared.module.Module.{Module}
-use Rattle.wasm_spec.specs.Typing.{result_of, local_types}
-use Rattle.wasm_spec.specs.Stores.{number_of, zero_of}
+use Rattle.wasm_spec.specs.Typing.{local_types}
+use Rattle.wasm_spec.specs.Stores.{zero_of}
 use Rattle.wasm_spec.specs.Runs.{State}
 use Rattle.wasm_spec.specs.Meaning.{same_type, same_types, arguments, start_locals, MOST_CALLS}
-use Rattle.wasm_code.specs.declared.step.FlatCode.{FlatCode}
 use Rattle.wasm_machine.specs.Numbers.{first_locals}
-use Rattle.wasm_machine.specs.Machine.{Frame, Machine, Moved, Goes, Traps, Fails, Asks, on_with, room_of, taking, enters, calls_own, asks, calls}
+use Rattle.wasm_machine.specs.Machine.{Frame, Machine, Goes, Traps, room_of, taking, enters, calls_own}
 
 -- types
 
@@ -58,16 +56,9 @@ take_whole (x ∷ xs) (suc n) le = ap (λ l. x ∷ l) (take_whole xs n (omega ar
 
 -- operands
 
-pub arguments_found : (o : Option (List Value × List Value)) (go : List Value → List Value → Moved) → taking o go ≢ Fails → IsSome o
-arguments_found None go h = absurd (h refl)
-arguments_found (Some a) go h = refl
-
 most_is : MOST_CALLS ≡ 512
 unfolding MOST_CALLS
 most_is = refl
-
-pub asks_are : (t : FuncType) (f : ℕ) (m : Machine) (args rest : List Value) → arguments (length t.params) [] m.operands ≡ Some (args, rest) → asks t f m ≡ Asks f (map number_of args) (result_of t) (on_with rest m)
-asks_are t f m args rest e = ap (λ o. taking o (λ args under. Asks f (map number_of args) (result_of t) (on_with under m))) e
 
 pub own_deep : (f : Function) (entry : ℕ) (t : FuncType) (m : Machine) (args rest : List Value) → arguments (length t.params) [] m.operands ≡ Some (args, rest) → 511 ≤ length m.frames → calls_own (Some f) (Some entry) t m ≡ Traps CallDepth m.state.meter
 own_deep f entry t m args rest e deep =
@@ -83,21 +74,6 @@ abbrev machine : ℕ → List Value → State → List Frame → Machine
 machine pc ops s fs = record { pc = pc; operands = ops; state = s; frames = fs }
 
 -- functions
-
-own_found : (o : Option Function) (e : Option ℕ) (t : FuncType) (m : Machine) → calls_own o e t m ≢ Fails → (f : Function) × (entry : ℕ) × (o ≡ Some f) × (e ≡ Some entry)
-own_found None e t m h = absurd (h refl)
-own_found (Some f) None t m h = absurd (h refl)
-own_found (Some f) (Some entry) t m h = (f, entry, refl, refl)
-
-pub type_found : (source : Module) (flat : FlatCode) (b : Bool) (o : Option FuncType) (f : ℕ) (m : Machine) → calls source flat b o f m ≢ Fails → (t : FuncType) × (o ≡ Some t)
-type_found source flat b None f m h = absurd (h refl)
-type_found source flat b (Some t) f m h = (t, refl)
-
-pub function_found : (source : Module) (flat : FlatCode) (b : Bool) (o : Option FuncType) (f : ℕ) (m : Machine) → b ≡ false → calls source flat b o f m ≢ Fails
-    → (own : Function) × (entry : ℕ) × (slice_get source.functions (f - length source.imports) ≡ Some own) × (slice_get flat.entries (f - length source.imports) ≡ Some entry)
-function_found source flat b None f m e h = absurd (h refl)
-function_found source flat true (Some t) f m e h = cc
-function_found source flat false (Some t) f m e h = own_found (slice_get source.functions (f - length source.imports)) (slice_get flat.entries (f - length source.imports)) t m h
 
 -- a function that is entered, where its parts are known by equations
 pub entered : (pc : ℕ) (ops ls ls' : List Value) (s : State) (fs fs' : List Frame) → ls ≡ ls' → fs ≡ fs' → machine pc ops (record s { locals = ls }) fs ≡ machine pc ops (record s { locals = ls' }) fs'

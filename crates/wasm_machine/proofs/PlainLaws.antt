@@ -13,8 +13,6 @@ use Rattle.wasm_spec.specs.Integers.{numeric_result}
 use Rattle.wasm_spec.specs.Stores.{type_of, value_of, pop, Store}
 use Rattle.wasm_spec.specs.Effects.{Effect, Leaves, Grows, Faults, Lacks, with_some, gives, numeric_effect, chosen, loads}
 use Rattle.wasm_spec.specs.declared.values.Value.TheVariants as value
-use Rattle.wasm_spec.specs.declared.instructions.StoreKind.{StoreKind}
-use Rattle.wasm_spec.specs.declared.instructions.MemArg.{MemArg}
 use Rattle.wasm_spec.specs.declared.instructions.Plain.TheVariants as op
 use Rattle.wasm_spec.specs.Typing.{store_type, numeric_signature}
 use Rattle.wasm_spec.specs.Memory.{loaded, stored}
@@ -53,27 +51,7 @@ two_is o t i j ops mid rest locals store e f =
     ap (λ x. numeric_effect o (taken.Two t t) x locals store) e ∙ pop_value Lacks t j mid (λ j ops. pop Lacks t ops (λ i ops. gives o (numeric_result o i j) ops locals store))
     ∙ ap (λ x. pop Lacks t x (λ i ops. gives o (numeric_result o i j) ops locals store)) f ∙ pop_value Lacks t i rest (λ i ops. gives o (numeric_result o i j) ops locals store)
 
-pub store_is : (s : StoreKind) (a : MemArg) (n i : ℕ) (ops mid rest locals : List Value) (store : Store) → ops ≡ value_of (store_type s) n ∷ mid → mid ≡ value.I32 i ∷ rest → effect_of (op.Store s a) ops locals store ≡ stores (stored store.memory.bytes s i a.offset n) rest locals store
-store_is s a n i ops mid rest locals store e f =
-    ap (λ x. effect_of (op.Store s a) x locals store) e
-    ∙ pop_value Lacks (store_type s) n mid (λ n ops. pop Lacks I32 ops (λ i ops. stores (stored store.memory.bytes s i a.offset n) ops locals store))
-    ∙ ap (λ x. pop Lacks I32 x (λ i ops. stores (stored store.memory.bytes s i a.offset n) ops locals store)) f
-
 -- what an effect that can be applied finds
-
-pub can_pop : (t : ValueType) (ops : List Value) (go : ℕ → List Value → Effect) → CanApply (pop Lacks t ops go) → HasTop t ops
-can_pop t [] go h = absurd h
-can_pop I32 (value.I32 n ∷ ops) go h = tt
-can_pop I32 (value.I64 n ∷ ops) go h = absurd h
-can_pop I64 (value.I32 n ∷ ops) go h = absurd h
-can_pop I64 (value.I64 n ∷ ops) go h = tt
-
-pub can_pop_two : (t u : ValueType) (ops : List Value) (go : ℕ → ℕ → List Value → Effect) → CanApply (pop Lacks t ops (λ j ops. pop Lacks u ops (λ i ops. go i j ops))) → HasPair t u ops
-can_pop_two t u [] go h = absurd h
-can_pop_two I32 u (value.I32 n ∷ ops) go h = (refl, can_pop u ops (λ i ops. go i n ops) h)
-can_pop_two I32 u (value.I64 n ∷ ops) go h = absurd h
-can_pop_two I64 u (value.I32 n ∷ ops) go h = absurd h
-can_pop_two I64 u (value.I64 n ∷ ops) go h = (refl, can_pop u ops (λ i ops. go i n ops) h)
 
 -- an effect that never asks for new memory
 abbrev Never : Effect → Type 0

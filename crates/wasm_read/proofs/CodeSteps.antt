@@ -1,5 +1,5 @@
 -- The reader of code, step by step.
-use Rattle.std.proofs.Common.{◌≡◌, ℕ, zero, suc, ◌+◌, ◌-◌, ◌<◌, ◌≤◌, List, [], ◌∷◌, ◌++◌, length, drop, Option, Some, None, Result, Ok, Err, refl, sym, ap, ◌∙◌, subst, arith, length-append, add-zero}
+use Rattle.std.proofs.Common.{◌≡◌, ℕ, zero, suc, ◌+◌, ◌-◌, ◌<◌, ◌≤◌, List, [], ◌∷◌, ◌++◌, length, drop, Option, Some, None, Result, Ok, Err, refl, sym, ap, ◌∙◌, subst, arith, length-append}
 use Rattle.std.specs.Prelude.{slice_get}
 use Rattle.wasm_spec.specs.declared.instructions.Plain.{Plain}
 use Rattle.wasm_spec.specs.declared.instructions.Control.{Control}
@@ -40,17 +40,10 @@ regroup : (is : List Instr) (i : Instr) (r : Option (Code × List ℕ)) → with
 regroup is i None = refl
 regroup is i (Some x) = ap (λ c. Some (c, x.1)) (sym (prepend-push is i x.0))
 
-begun : (r : Option (Code × List ℕ)) → r ≡ with_items [] r
-begun None = refl
-begun (Some x) = refl
-
 -- these instructions are read, and the rest is left
 pub record SoFar (d : ℕ) (start : List ℕ) (items : List Instr) (rest : List ℕ) : Type 0 where
   pub shorter : length rest + length items ≤ length start
   pub same : (n : ℕ) → length start < n + length items → code_at (n + length items) d start ≡ with_items items (code_at n d rest)
-
-pub at_start : (d : ℕ) (start : List ℕ) (items : List Instr) → items ≡ [] → SoFar d start items start
-at_start d start items e = subst (λ (is : List Instr). SoFar d start is start) (sym e) (record { shorter = omega arith; same = λ n lt. ap (λ n. code_at n d start) (add-zero n) ∙ begun (code_at n d start) })
 
 module _ (d : ℕ) (start : List ℕ) (items : List Instr) (rest : List ℕ) (so_far : SoFar d start items rest) where
   pub one_more : (b : ℕ) (mid new : List ℕ) (i : Instr) → rest ≡ b ∷ mid → ReadsInstr d b mid new (Ok i) → SoFar d start (items ++ i ∷ []) new
@@ -104,8 +97,6 @@ module _ (d : ℕ) (start : List ℕ) (items : List Instr) (rest : List ℕ) (so
       ap (code_at (m - length items) d) e
       ∙ one_step (m - length items) b mid (omega (arith, so_far.shorter, longer))
       ∙ h (m - length items - 1) (omega (arith, so_far.shorter, longer)))
-
--- what is left is shorter
 
 -- instructions behind their opcode
 

@@ -1,6 +1,5 @@
 -- Values that are read one after another, into a list.
-use Rattle.std.proofs.Common.{◌≡◌, ℕ, suc, ◌+◌, ◌-◌, ◌<◌, ◌≤◌, List, [], ◌∷◌, ◌++◌, Option, Some, None, refl, sym, ap, ◌∙◌, append_assoc, arith}
-use Rattle.std.proofs.lemmas.List.{append-nil}
+use Rattle.std.proofs.Common.{◌≡◌, ℕ, suc, ◌+◌, ◌-◌, ◌<◌, List, [], ◌∷◌, ◌++◌, Option, Some, None, refl, sym, ap, ◌∙◌, append_assoc, arith}
 use Rattle.wasm_spec.specs.Typing.{◌>>=◌}
 use Rattle.wasm_read.specs.Reading.{Reader, row_at}
 
@@ -23,10 +22,4 @@ module _ {A : Type 0} (read : Reader A) (prefix : List A) (count k : ℕ) (i : L
   refused lt h =
       let left : count - k ≡ suc (count - (k + 1)) = omega arith in
       let step : with_prefix prefix (row_at read (count - k) i) ≡ None = rw (left, h) refl in
-      sym so_far ∙ step
-
-  pub all_read : count ≤ k → total ≡ Some (prefix, i)
-  all_read le =
-      let left : count - k ≡ 0 = omega arith in
-      let step : with_prefix prefix (row_at read (count - k) i) ≡ Some (prefix, i) = rw left (ap (λ (vs : List A). Some (vs, i)) (append-nil prefix)) in
       sym so_far ∙ step

@@ -1,7 +1,6 @@
 -- What an instance does after a start, an event and an answer.
-use Rattle.std.proofs.Common.{◌≡◌, ℕ, zero, suc, ◌-◌, ◌*◌, ◌^◌, ◌≤◌, Bool, true, false, List, [], ◌∷◌, ◌++◌, length, map, drop, Option, Some, refl, sym, ap, ◌∙◌, subst, arith}
+use Rattle.std.proofs.Common.{◌≡◌, ℕ, zero, suc, ◌-◌, ◌*◌, ◌^◌, Bool, true, false, List, [], ◌∷◌, ◌++◌, length, map, drop, Option, Some, refl, sym, ap, ◌∙◌, subst}
 use Rattle.std.specs.Prelude.{slice_get, reverse, replicate, Vec}
-use Rattle.std.proofs.lemmas.List.{length-reverse}
 use Rattle.std.specs.declared.alloc.Global.{Global}
 use Rattle.budget_meter.specs.Meter.{Meter}
 use Rattle.wasm_spec.specs.declared.types.ValueType.TheVariants.{I64}
@@ -28,7 +27,6 @@ use Rattle.wasm_run.specs.declared.instance.CallPhase.TheVariants as phase
 use Rattle.wasm_run.specs.declared.instance.Event.TheVariants as event
 use Rattle.wasm_run.specs.Suspended.{Suspended, standing, behind, GivesWord, Goes, GoesOnWith, Tells}
 use Rattle.wasm_run.specs.Able.{BeginsAt, BeginsAs, Begins, Able}
-use Rattle.wasm_run.proofs.Starts.{zeros_are}
 
 -- results
 
@@ -79,15 +77,6 @@ module _ (i : Suspended) (export : List ℕ) (f : ℕ) (args : List ℕ) (typed 
 begins_as : (i : Suspended) (f : ℕ) (args : List ℕ) (x : Bool) → is_import i.source f ≡ x → Begins i f args → BeginsAs x i f args
 begins_as i f args x e h = subst (λ y. BeginsAs y i f args) e h
 
-pub import_operands : (i : Suspended) (f n : ℕ) → is_import i.source f ≡ true → Begins i f (replicate n 0) → length i.operands ≡ n
-import_operands i f n it h =
-    let g = begins_as i f (replicate n 0) true it h in
-    ap length g.operands_ ∙ length-reverse (map value.I64 (replicate n 0)) ∙ ap length (zeros_are n) ∙ length-zeros n
-  where
-    length-zeros : (n : ℕ) → length (replicate n (value.I64 0)) ≡ n
-    length-zeros zero = refl
-    length-zeros (suc n) = ap suc (length-zeros n)
-
 pub starts_import : (i : Suspended) (f : ℕ) (args : List ℕ) (ops : List Value) → Able (phase.Fresh f (length args)) i → is_import i.source f ≡ true → ops ≡ reverse (map value.I64 args) → (b : Meter) → Goes i.source i.flat (standing (record i { phase = phase.Ready; operands = ops }) b) (meaning i.source f args i.store b)
 starts_import i f args ops able it eo b =
     let g = begins_as i f (replicate (length args) 0) true it able.3 in
@@ -98,16 +87,6 @@ starts_import i f args ops able it eo b =
 drop_zeros : (n : ℕ) (vs : List Value) → drop n (map value.I64 (replicate n 0) ++ vs) ≡ vs
 drop_zeros zero vs = refl
 drop_zeros (suc n) vs = drop_zeros n vs
-
-zeros_long : (n : ℕ) (vs : List Value) → n ≤ length (map value.I64 (replicate n 0) ++ vs)
-zeros_long zero vs = omega arith
-zeros_long (suc n) vs = omega (arith, zeros_long n vs)
-
-pub own_locals : (i : Suspended) (f n : ℕ) → is_import i.source f ≡ false → Begins i f (replicate n 0) → n ≤ length i.locals
-own_locals i f n ib h =
-    let g = begins_as i f (replicate n 0) false ib h in
-    let same = ap (λ (x : List Value). length x) g.4.locals_ in
-    omega (arith, same, zeros_long n (map zero_of (local_types g.0.locals)))
 
 pub starts_own : (i : Suspended) (f : ℕ) (args : List ℕ) (locals : List Value) → Able (phase.Fresh f (length args)) i → is_import i.source f ≡ false → locals ≡ map value.I64 args ++ drop (length args) i.locals → (b : Meter) → Goes i.source i.flat (standing (record i { phase = phase.Ready; locals = locals }) b) (meaning i.source f args i.store b)
 starts_own i f args locals able ib el b =

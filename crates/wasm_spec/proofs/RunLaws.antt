@@ -1,5 +1,5 @@
 -- What an instruction spends, and runs among the functions of a host.
-use Rattle.std.proofs.Common.{◌≡◌, ℕ, zero, suc, ◌≤◌, Bool, true, false, List, inl, inr, refl, subst, arith}
+use Rattle.std.proofs.Common.{ℕ, zero, suc, ◌≤◌, Bool, true, false, List, inl, inr, refl, arith}
 use Rattle.budget_meter.specs.Meter.{Meter, used_after}
 use Rattle.budget_meter.specs.declared.kind.Kind.TheVariants.{WasmInsnExec}
 use Rattle.wasm_spec.specs.declared.types.ValueType.{ValueType}
@@ -49,41 +49,3 @@ interp_whole host m locals us (Spent meter) w h = tt
 interp_whole host m locals us Stuck w h = h
 interp_whole host m locals us (Ask f args memory meter on) w h =
     after_reply_whole (host f args memory meter w) (λ v bytes b u. interp host (on v bytes b) u) (λ v bytes b u. interp_whole host m locals us (on v bytes b) u (h.1 v bytes b))
-
--- Two hosts that answer related worlds with the same and leave them related make the same of a run.
-
--- replies that are the same but for the worlds, which R relates, and the reasons of quits, which S relates
-abbrev pub SameReply : {W V Q P : Type 0} → (W → V → Type 0) → (Q → P → Type 0) → Reply W Q → Reply V P → Type 0
-SameReply R S (Answers w v bytes b) (Answers x v' bytes' b') = R w x × (v ≡ v') × (bytes ≡ bytes') × (b ≡ b')
-SameReply R S (Answers w v bytes b) (Quits x) = ⊥
-SameReply R S (Quits w) (Answers x v' bytes' b') = ⊥
-SameReply R S (Quits w) (Quits x) = S w x
-
-abbrev pub SameEnd : {W V Q P : Type 0} → (W → V → Type 0) → (Q → P → Type 0) → End W Q → End V P → Type 0
-SameEnd R S (Returned vs m w) (Returned us n x) = (vs ≡ us) × (m ≡ n) × R w x
-SameEnd R S (Trapped j m w) (Trapped k n x) = (j ≡ k) × (m ≡ n) × R w x
-SameEnd R S (Exhausted m w) (Exhausted n x) = (m ≡ n) × R w x
-SameEnd R S (Quit w) (Quit x) = S w x
-SameEnd R S Broken Broken = Unit {0}
-SameEnd R S _ _ = ⊥
-
-module _ {W V Q P : Type 0} (R : W → V → Type 0) (S : Q → P → Type 0) where
-  same_after : (r : Reply W Q) (q : Reply V P) (go : ℕ → List ℕ → Meter → W → End W Q) (on : ℕ → List ℕ → Meter → V → End V P) → SameReply R S r q → ((v : ℕ) (bytes : List ℕ) (b : Meter) (w : W) (x : V) → R w x → SameEnd R S (go v bytes b w) (on v bytes b x)) → SameEnd R S (after_reply r go) (after_reply q on)
-  same_after (Answers w v bytes b) (Answers x v' bytes' b') go on h next =
-      let T : ℕ → List ℕ → Meter → Type 0 = λ i j k. SameEnd R S (go v bytes b w) (on i j k x) in
-      subst (λ i. T i bytes' b') h.1 (subst (λ j. T v j b') h.2 (subst (λ k. T v bytes k) h.3 (next v bytes b w x h.0)))
-  same_after (Answers w v bytes b) (Quits x) go on h next = absurd h
-  same_after (Quits w) (Answers x v' bytes' b') go on h next = absurd h
-  same_after (Quits w) (Quits x) go on h next = h
-
-  pub interp_same : (host : Host W Q) (other : Host V P) → ((f : ℕ) (args memory : List ℕ) (m : Meter) (w : W) (x : V) → R w x → SameReply R S (host f args memory m w) (other f args memory m x))
-      → (r : Run) (w : W) (x : V) → R w x → SameEnd R S (interp host r w) (interp other r x)
-  interp_same host other same (Normal ops s) w x h = (refl, refl, h)
-  interp_same host other same (Branch k ops s) w x h = tt
-  interp_same host other same (Return ops s) w x h = tt
-  interp_same host other same (Trap kind meter) w x h = (refl, refl, h)
-  interp_same host other same (Spent meter) w x h = (refl, h)
-  interp_same host other same Stuck w x h = tt
-  interp_same host other same (Ask f args memory meter on) w x h =
-      same_after (host f args memory meter w) (other f args memory meter x) (λ v bytes b u. interp host (on v bytes b) u) (λ v bytes b u. interp other (on v bytes b) u) (same f args memory meter w x h)
-      (λ v bytes b u y g. interp_same host other same (on v bytes b) u y g)

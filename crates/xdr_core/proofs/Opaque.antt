@@ -1,5 +1,5 @@
 -- Bytes with their length, read of a source.
-use Rattle.std.proofs.Common.{◌≡◌, ℕ, ◌≤◌, Bool, true, cond, leb, List, Result, Ok, Err, ap, ◌∙◌, arith}
+use Rattle.std.proofs.Common.{◌≡◌, ℕ, ◌≤◌, Bool, cond, leb, List, Result, Ok, Err, ap, ◌∙◌}
 use Rattle.std.proofs.lemmas.Bool.{le-leb}
 use Rattle.xdr_spec.specs.declared.Why.TheVariants.{Limit}
 use Rattle.xdr_spec.specs.Format.{Input, Outcome, refusal, word_at, fixed_opaque_at, opaque, ◌>>=◌}

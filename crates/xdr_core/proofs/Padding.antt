@@ -1,5 +1,5 @@
 -- Padding, read of the bytes that a window holds.
-use Rattle.std.proofs.Common.{◌≡◌, ℕ, zero, suc, ◌+◌, ◌-◌, ◌*◌, ◌/◌, ◌^◌, ◌<◌, ◌≤◌, min, Bool, true, false, cond, not, ltb, List, [], ◌∷◌, ◌++◌, length, take, drop, Result, Ok, Err, refl, sym, ap, ap₂, ◌∙◌, arith}
+use Rattle.std.proofs.Common.{◌≡◌, ℕ, ◌+◌, ◌-◌, ◌*◌, ◌/◌, ◌^◌, ◌<◌, ◌≤◌, min, Bool, true, false, cond, not, ltb, List, [], ◌∷◌, ◌++◌, length, take, drop, Result, Ok, Err, refl, sym, ap, ap₂, ◌∙◌, arith}
 use Rattle.std.specs.Str.{bytes_eq}
 use Rattle.std.proofs.lemmas.List.{take-append-le, length-append, length-drop, drop-drop}
 use Rattle.std.proofs.lemmas.Bool.{and_parts, lt-ltb, le-ltb, ltb-true, ltb-false}
@@ -95,9 +95,6 @@ module _ (n : ℕ) (i : Input) (below : i.place + length i.rest < 2 ^ 64) where
   pub fixed_ok : (bytes : List ℕ) (j k : Input) → piece_at n i ≡ Ok (bytes, j) → padding_at n i.place j ≡ Ok (tt, k) → fixed_opaque_at n i ≡ Ok (bytes, k)
   fixed_ok bytes j k e d = fixed_parts ∙ ap (λ (r : Outcome (List ℕ)). r >>= λ b. padding_at n i.place b.1 >>= λ u. Ok (b.0, u.1)) e ∙ ap (λ (r : Outcome (Unit {0})). r >>= λ u. Ok (bytes, u.1)) d
 
-  pub fixed_cut : (e : XdrErr) → piece_at n i ≡ Err e → fixed_opaque_at n i ≡ Err e
-  fixed_cut e h = fixed_parts ∙ ap (λ (r : Outcome (List ℕ)). r >>= λ b. padding_at n i.place b.1 >>= λ u. Ok (b.0, u.1)) h
-
   pub fixed_bad : (bytes : List ℕ) (j : Input) (e : XdrErr) → piece_at n i ≡ Ok (bytes, j) → padding_at n i.place j ≡ Err e → fixed_opaque_at n i ≡ Err e
   fixed_bad bytes j e h d = fixed_parts ∙ ap (λ (r : Outcome (List ℕ)). r >>= λ b. padding_at n i.place b.1 >>= λ u. Ok (b.0, u.1)) h ∙ ap (λ (r : Outcome (Unit {0})). r >>= λ u. Ok (bytes, u.1)) d
 
@@ -119,16 +116,6 @@ module _ {K : Type 0} (n : ℕ) (start mid new : Source K) (below : IsTold start
       (λ t. let p = h.0 t in fixed_bad n start.input (below t) bytes mid.input e p.0 (d.0 p.1), then start.standing mid.standing new.standing h.1 d.1)
   fixed_filled bytes (Err NoMemory) h d = then start.standing mid.standing new.standing h.1 d
   fixed_filled bytes (Err Stopped) h d = halt start.standing mid.standing new.standing h.1 d
-
-  pub cut_appended : (before back : List ℕ) (e : ReadXdr) → Appends (piece_at n) start mid before back (Err e) → Appends (fixed_opaque_at n) start mid before back (Err e)
-  cut_appended before back (Bad e) h = (λ t. fixed_cut n start.input (below t) e (h.0 t), h.1)
-  cut_appended before back NoMemory h = h
-  cut_appended before back Stopped h = h
-
-  pub cut_filled : (bytes : List ℕ) (e : ReadXdr) → Fills (piece_at n) start mid bytes (Err e) → Fills (fixed_opaque_at n) start mid bytes (Err e)
-  cut_filled bytes (Bad e) h = (λ t. fixed_cut n start.input (below t) e (h.0 t), h.1)
-  cut_filled bytes NoMemory h = h
-  cut_filled bytes Stopped h = h
 
 pub below_limit : {K : Type 0} (place : ℕ) (held : List ℕ) (stream : Stream K) → IsTold (window place held stream) → place + length (held ++ stream.rest) < 2 ^ 64
 below_limit place held stream t =

@@ -1,5 +1,5 @@
 -- Calls one after another, of a source or of what pours.
-use Rattle.std.proofs.Common.{◌≡◌, ◌≤◌, refl, ◌∙◌, arith}
+use Rattle.std.proofs.Common.{refl, ◌∙◌, arith}
 use Rattle.xdr_core.specs.Sources.{Standing, GoesOn, Halts}
 
 -- no call

@@ -1,6 +1,6 @@
 -- A union is read by its kind and the kind's arm.
-use Rattle.std.proofs.Common.{◌≡◌, ℕ, Option, Result, Ok, Err}
-use Rattle.xdr_spec.specs.Format.{Input, Outcome, Format, union, enumeration}
+use Rattle.std.proofs.Common.{ℕ, Option, Result}
+use Rattle.xdr_spec.specs.Format.{Format, union, enumeration}
 use Rattle.xdr_spec.proofs.Lemmas.{union_read}
 use Rattle.xdr_core.specs.Sources.{Source}
 use Rattle.xdr_core.specs.declared.error.ReadXdr.{ReadXdr}

@@ -14,14 +14,13 @@ use crate::host::outcomes::push_size;
 use case_text::{CaseErr, push_hex, push_str};
 use contract_storage::{Change, NoWatch, Storage};
 use entry_lookup::Ground;
-use host_ledger::{HostLedger, InstanceCopy, InstanceStorage};
+use host_ledger::{HostLedger, InstanceCopy};
 use host_spec::HostErr;
 use invoke_types::ContractEvent;
 use ledger_spec::Kept;
 use ledger_types::{Durability, LedgerKey};
 use std::alloc::Global;
 use std::fmt::Write;
-use std::mem;
 use value_types::{Entries, ScVal};
 use value_xdr::{Xdr, encode, value_to_bytes};
 use xdr_core::NoMemory;
@@ -72,7 +71,7 @@ pub fn push_left<G: Ground>(
 {
     push_changes(alloc, out, &host.storage)?;
     push_events(alloc, out, host.events.as_slice())?;
-    push_copy(alloc, out, &mut host.frame.copy, prepared)
+    push_copy(alloc, out, &host.frame.copy, prepared)
 }
 
 fn push_changes<G: Ground>(
@@ -137,18 +136,17 @@ fn push_encoded<T: Xdr>(
     push_bytes(alloc, out, &made(encode(alloc, value))?)
 }
 
-/// Appends `copy CODE STORAGE` if the copy is not the prepared one, and takes its storage.
+/// Appends `copy CODE STORAGE` if the copy is not the prepared one.
 fn push_copy(
     alloc: Global,
     out: &mut String,
-    copy: &mut InstanceCopy,
+    copy: &InstanceCopy,
     prepared: &PreparedLedger,
 ) -> Result<(), CaseErr>
-    requires { IsHeld copy.old.storage }
+    requires { IsHeld copy.now.storage }
 {
     let code = copy.code.0.as_slice() != prepared.copied_code.as_slice();
-    let taken = mem::replace(&mut copy.storage, InstanceStorage::null());
-    let storage = storage_bytes(alloc, taken.into_entries())?;
+    let storage = storage_bytes(alloc, copy.storage.to_entries()?)?;
     if code || storage != prepared.copied_storage {
         push_copied(alloc, out, &copy.code.0, &storage)?;
     }

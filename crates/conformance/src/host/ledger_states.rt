@@ -117,7 +117,7 @@ pub fn frame_of(alloc: Global, prepared: &PreparedLedger) -> Result<Frame, CaseE
         },
         copy: InstanceCopy {
             code: copied_code,
-            storage: InstanceStorage::new(storage),
+            storage: InstanceStorage::new(storage)?,
         },
         shown: Shown::new(alloc),
         path: Vec::new(alloc),

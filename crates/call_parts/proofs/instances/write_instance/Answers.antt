@@ -8,4 +8,4 @@ use Rattle.call_parts.proofs.instances.write_instance.Goals as goal
 pub returns-clause-does : goal.returns-clause-does
 returns-clause-does g c =
     instance_written c.put.result c.args.contract (copied c.args.copy.now) c.instance_key-key.result c.instance_entry-entry.result c.args.n c.args.storage.now c.put.new.storage c.args.budget.now c.put.new.budget c.instance_key-key.ensures.key
-    (c.instance_entry-entry.ensures.entry ∙ ap (λ (x : Option (List Member)). instance_entry c.args.n c.args.contract (record { code = c.args.copy.now.code; storage = x })) (c.in_ok-storage_copy.ensures.ok ∙ c.entries.ensures)) c.requires.number c.put.ensures.does
+    (c.instance_entry-entry.ensures.entry ∙ ap (λ (x : Option (List Member)). instance_entry c.args.n c.args.contract (record { code = c.args.copy.now.code; storage = x })) c.in_ok-entries.ensures.ok) c.requires.number c.put.ensures.does

@@ -4,4 +4,4 @@ use Rattle.collection_calls.proofs.MapLaws.{made_keys}
 use Rattle.collection_calls.proofs.map_parts.vec_of_keys.Goals as goal
 
 pub value-requires : goal.value-requires
-value-requires c = made_keys _ (datum_pairs c.args.entries.now) c.requires (c.from_vec.ensures ∙ c.in_ok-made.ensures.value)
+value-requires c = made_keys _ (datum_pairs c.args.entries.now) c.requires (c.in_ok-keys.ensures ∙ c.in_ok-made.ensures.value)

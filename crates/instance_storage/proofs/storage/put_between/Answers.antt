@@ -1,5 +1,5 @@
 use Rattle.std.proofs.Common.{true, Some, refl, sym, ap, ◌∙◌}
-use Rattle.value_types.specs.Views.{datum, datum_pair}
+use Rattle.value_types.specs.Views.{datum, datum_pair, datum_pairs}
 use Rattle.instance_storage.specs.Held.{members_size}
 use Rattle.instance_storage.proofs.KeyLaws.{put_gap}
 use Rattle.instance_storage.proofs.Measuring.{grown_as, kept_between, tested_between, within}
@@ -8,22 +8,22 @@ use Rattle.instance_storage.proofs.storage.put_between.Goals as goal
 pub returns-then-not-is_within_limits : goal.returns-then-not-is_within_limits
 returns-then-not-is_within_limits c = (
   refl,
-  sym (tested_between c.args.code c.args.entries c.args.index (datum_pair c.args.entry) c.grown-size.result c.hash_fits.ensures c.requires.hosted c.requires.within c.requires.stands
-      (grown_as c.args.entries (datum_pair c.args.entry) c.args.size c.grown-size.result c.requires.size c.grown-size.ensures))
+  sym (tested_between c.args.code (datum_pairs c.args.entries.items) c.args.index (datum_pair c.args.entry) c.grown-size.result c.hash_fits.ensures c.requires.hosted c.requires.within c.requires.stands
+      (grown_as (datum_pairs c.args.entries.items) (datum_pair c.args.entry) c.args.size c.grown-size.result c.requires.size c.grown-size.ensures))
       ∙ sym c.is_within_limits.ensures ∙ c.if-not-is_within_limits.true,
 )
 
 pub invariant_of-result : goal.invariant_of-result
 invariant_of-result c hosted =
-    kept_between c.args.entries c.args.index (datum_pair c.args.entry) c.grown-size.result c.requires.within
-    (grown_as c.args.entries (datum_pair c.args.entry) c.args.size c.grown-size.result c.requires.size c.grown-size.ensures)
+    kept_between (datum_pairs c.args.entries.items) c.args.index (datum_pair c.args.entry) c.grown-size.result c.requires.within
+    (grown_as (datum_pairs c.args.entries.items) (datum_pair c.args.entry) c.args.size c.grown-size.result c.requires.size c.grown-size.ensures)
     (within c.grown-size.result _ (sym c.is_within_limits.ensures ∙ c.if-not-is_within_limits.false))
     ∙ ap members_size (sym c.in-Ok.ensures)
 
 pub returns-in-Ok : goal.returns-in-Ok
 returns-in-Ok c = (
-  ap Some (c.in-Ok.ensures ∙ sym (put_gap (datum c.args.entry.key) (datum c.args.entry.val) c.args.entries c.args.index c.requires.stands)),
-  sym (tested_between c.args.code c.args.entries c.args.index (datum_pair c.args.entry) c.grown-size.result c.hash_fits.ensures c.requires.hosted c.requires.within c.requires.stands
-      (grown_as c.args.entries (datum_pair c.args.entry) c.args.size c.grown-size.result c.requires.size c.grown-size.ensures))
+  ap Some (c.in-Ok.ensures ∙ sym (put_gap (datum c.args.entry.key) (datum c.args.entry.val) (datum_pairs c.args.entries.items) c.args.index c.requires.stands)),
+  sym (tested_between c.args.code (datum_pairs c.args.entries.items) c.args.index (datum_pair c.args.entry) c.grown-size.result c.hash_fits.ensures c.requires.hosted c.requires.within c.requires.stands
+      (grown_as (datum_pairs c.args.entries.items) (datum_pair c.args.entry) c.args.size c.grown-size.result c.requires.size c.grown-size.ensures))
       ∙ sym c.is_within_limits.ensures ∙ c.if-not-is_within_limits.false,
 )

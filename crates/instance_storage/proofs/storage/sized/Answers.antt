@@ -1,4 +1,4 @@
-use Rattle.std.proofs.Common.{◌-◌, List, Option, Some, refl, sym, subst}
+use Rattle.std.proofs.Common.{◌-◌, List, Option, Some, sym, subst}
 use Rattle.host_spec.specs.MapRows.{Member}
 use Rattle.instance_storage.specs.Held.{IsSized}
 use Rattle.instance_storage.proofs.Measuring.{map_as, map_least}
@@ -9,8 +9,5 @@ overflow_sub-size c = map_least c.args.entries c.size_of-size.result c.size_of-s
 
 pub invariant_of-result : goal.invariant_of-result
 invariant_of-result c =
-    subst (λ (o : Option (List Member)). IsSized o (c.size_of-size.result - 12)) (sym (c.entries_of.ensures (Some c.args.entries) refl))
+    subst (λ (ms : List Member). IsSized (Some ms) (c.size_of-size.result - 12)) (sym c.in_ok-list.ensures)
     (λ hosted. map_as c.args.entries c.size_of-size.result c.size_of-size.ensures.size)
-
-pub returns : goal.returns
-returns c = c.entries_of.ensures (Some c.args.entries) refl

@@ -1,4 +1,4 @@
-use Rattle.std.proofs.Common.{◌≡◌, ◌/◌, ◌*◌, ◌∷◌, [], true, false, not, take, Ok, Err, refl, ap, sym, ◌∙◌, List, ℕ, arith, rules}
+use Rattle.std.proofs.Common.{◌∷◌, [], true, false, not, take, Ok, Err, refl, ap, sym, ◌∙◌, List, ℕ}
 use Rattle.std.specs.Str.{bytes_eq}
 use Rattle.xdr_spec.specs.Format.{Input, refusal, after}
 use Rattle.xdr_spec.specs.declared.Why.TheVariants.{Padding}

@@ -1,6 +1,6 @@
-use Rattle.std.proofs.Common.{arith, length}
+use Rattle.std.proofs.Common.{length}
 use Rattle.xdr_core.specs.Windowed.{seen_by}
-use Rattle.xdr_core.proofs.Padding.{fixed_filled, cut_filled, below_limit}
+use Rattle.xdr_core.proofs.Padding.{fixed_filled, below_limit}
 use Rattle.xdr_core.proofs.window.WindowWords.fill.Goals as goal
 
 pub returns-clause-read : goal.returns-clause-read

@@ -1,6 +1,5 @@
-use Rattle.std.proofs.Common.{arith}
 use Rattle.xdr_core.specs.Windowed.{seen_by}
-use Rattle.xdr_core.proofs.Padding.{fixed_appended, cut_appended, below_limit}
+use Rattle.xdr_core.proofs.Padding.{fixed_appended, below_limit}
 use Rattle.xdr_core.proofs.window.WindowWords.fixed_into.Goals as goal
 
 pub returns-clause-read : goal.returns-clause-read
