@@ -6,9 +6,10 @@ A copy of a large part for each of many small ones shows as a hundred times.
 """
 
 from building import envelope
-from contracts import CALLER, contract_records, ledger as ledger_of, looping, operation, value_u32, vector, voids
-from contracts import envelope as calling_envelope
-from hostile_acts import LARGE, MEDIUM, SMALL
+from contracts import CALLER, Turn, contract_records, ledger as ledger_of, looping, operation, value_u32, vector, voids
+from contracts import code_key as key_of_code, data_record as record_of, envelope as calling_envelope, instance_key
+from contracts import transaction as calling_transaction
+from hostile_acts import LARGE, MEDIUM, SMALL, alike
 from ledgers import key, words
 from program_files import (
     ZEROS, array, bump_transaction, code_key, code_record, contract, counter_key, counting_records, data_key, data_record, drawn,
@@ -247,6 +248,16 @@ def idle_writer(size):
     return ledger_file(counters(size)), [[[envelope(0, [], [counter_key(number) for number in range(size)])]]]
 
 
+def declared_alike(size):
+    """One call that does nothing. It declares sixteen keys of n items that differ in the last one."""
+    code = looping(Turn())
+    read_only = [instance_key(CALLER), key_of_code(code)]
+    read_write = [record_of(CALLER, it, it)[0] for it in alike(size)]
+    called_ = operation(CALLER, "f", [value_u32(0)])
+    calling = words(2) + calling_transaction(called_, array(read_only) + array(read_write)) + words(0)
+    return ledger_of(contract_records(CALLER, code)), [[[calling]]]
+
+
 LOGGED = [
     (f"`apply{' --log' if more else ''}`, {name}", sizes, applying(of, *more))
     for name, sizes, of in (
@@ -254,6 +265,7 @@ LOGGED = [
         ("a transaction without operations, n keys", MEDIUM, idle_writer),
         ("n transactions without operations that declare an entry of 60 n bytes", SMALL, idle_writers),
         ("n extensions of a code of 60 n bytes", SMALL, extended_set),
+        ("a call that declares 16 keys of n items that differ in the last one", MEDIUM, declared_alike),
     )
     for more in ([], ["--log", "log"])
 ]

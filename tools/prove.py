@@ -3,18 +3,23 @@
 
 python3 tools/prove.py NAME [WORKERS]
 
-A crate is proved once all crates that it stands on are. As many are proved side by side as there are processors, with 4 GiB
-of free memory for each; WORKERS is another number. A program is also run, and has to print what its file stdout holds.
+A crate is proved once all crates that it stands on are. A program is also run, and has to print what its file stdout holds.
+What is built comes into the crate's out/, and is taken as it is from then on.
 
-`rt` locks the folders of the crate that it proves and of all crates below, so that in one folder most runs would wait for each
-other. Each worker therefore has a copy of the repository in a temporary folder, with links to the libraries that are built.
-What it made comes into the crate's out/ when the crate is proved, and is taken as it is from then on, by this tool and by `rt`.
+A program is proved by `rt ci` where the kit keeps on the machine what `rt ci` passed, so that the gate need not prove it again.
+That runs in a temporary folder with the crates that the program stands on, without the edits that must fail.
+
+A library, and with another kit a program, too, is proved here, as many crates side by side as there are processors, with 4 GiB
+of free memory for each; WORKERS is another number. `rt` locks the folders of the crate that it proves and of all crates below,
+so that in one folder most runs would wait for each other. Each worker therefore has a copy of the repository in a temporary
+folder, with links to the libraries that are built.
 """
 import contextlib
 import fcntl
 import hashlib
 import os
 import pathlib
+import re
 import shutil
 import signal
 import subprocess
@@ -136,22 +141,27 @@ def room():
     sys.exit(f"no temporary folder can be made in {' or '.join(map(str, places))}")
 
 
+def copy_texts(root, folder, names):
+    """Copies what a proof reads of the crates into another folder."""
+    for name in names:
+        to = folder / "crates" / name
+        to.mkdir(parents=True)
+        for part in (root / "crates" / name).iterdir():
+            if part.is_dir() and part.name not in NO_TEXT:
+                shutil.copytree(part, to / part.name)
+            elif part.is_file():
+                shutil.copy2(part, to / part.name)
+    for name in ("crates.txt", "HANDLES"):
+        if (root / name).exists():
+            shutil.copy2(root / name, folder / name)
+
+
 class Place:
     """A copy of the repository, in which one worker proves one crate at a time."""
 
     def __init__(self, folder, root):
         self.folder, self.linked = folder, set()
-        for crate in filter(pathlib.Path.is_dir, (root / "crates").iterdir()):
-            to = folder / "crates" / crate.name
-            to.mkdir(parents=True)
-            for part in crate.iterdir():
-                if part.is_dir() and part.name not in NO_TEXT:
-                    shutil.copytree(part, to / part.name)
-                elif part.is_file():
-                    shutil.copy2(part, to / part.name)
-        for name in ("crates.txt", "HANDLES"):
-            if (root / name).exists():
-                shutil.copy2(root / name, folder / name)
+        copy_texts(root, folder, [it.name for it in (root / "crates").iterdir() if it.is_dir()])
 
     def crate(self, name):
         return self.folder / "crates" / name
@@ -218,7 +228,8 @@ class Marks:
 
     def mark(self, name):
         """Returns the mark of the crate's text and of what is built of it."""
-        built = stamp(CRATES / name / "out", name)
+        out = CRATES / name / "out"
+        built = stamp(out, name) + (read(out / name) if is_program(name) else b"")
         return f"{self.sums[name]} {hashlib.sha256(built).hexdigest()}\n".encode() if built else None
 
     def holds(self, name):
@@ -366,6 +377,89 @@ def say(line):
     print(line, flush=True)
 
 
+def keeps_proofs():
+    """Tells whether the kit keeps on this machine what `rt ci` passed."""
+    said = subprocess.run(["rt", "help"], stdin=subprocess.DEVNULL, stdout=subprocess.PIPE, stderr=subprocess.STDOUT, check=False)
+    return b"is kept beside the kit" in said.stdout
+
+
+class Gate:
+    """One run of `rt ci` over a program and all crates that it stands on, in a folder of its own."""
+
+    def __init__(self, program, folder):
+        crates = read_crates()
+        self.program, self.folder = program, folder
+        self.order = closure(crates, [program])
+        copy_texts(ROOT, folder, self.order)
+        lines = (folder / "crates.txt").read_text(encoding="utf-8").splitlines(keepends=True)
+        (folder / "crates.txt").write_text("".join(it for it in lines if re.split(r"\W", it)[0] in self.order), encoding="utf-8")
+        self.marks = Marks(crates, self.order, folder)
+        self.guesses = {it: guess(it) for it in self.order}
+        self.began, self.done, self.proved = time.monotonic(), set(), set()
+
+    def left(self):
+        """Returns about how many seconds are left, by the pace of the crates that were proved until now."""
+        pace = (time.monotonic() - self.began) / max(1, sum(self.guesses[it] for it in self.proved))
+        return pace * sum(self.guesses[it] for it in self.order if it not in self.done)
+
+    def tell(self, name, is_kept):
+        self.done.add(name)
+        if not is_kept:
+            self.proved.add(name)
+        done, all_of = len(self.done), len(self.order)
+        left = f"; about {span(self.left())} left" if self.proved and done < all_of else ""
+        say(f"[{done:{len(str(all_of))}}/{all_of}] {name} ({'proved before' if is_kept else 'proved'}{left})")
+
+    def read(self, lines):
+        """Says what `rt` says of each crate, and of one that it refuses all. What follows the last crate is of the runs."""
+        block = []
+        for line in lines:
+            block = [line] if line.startswith("== ") else [*block, line]
+            told = re.match(r"rt: (\w+) (proved$|is kept: |NOT PROVED)", line)
+            if told and told[2] == "NOT PROVED":
+                print("".join(block), end="", flush=True)
+                block = []
+            elif told and told[1] in self.guesses:
+                self.tell(told[1], told[2] != "proved")
+                block = []
+        return block
+
+    def prove(self):
+        if self.marks.holds(self.program):
+            say(f"{self.program} and what it stands on were proved before")
+            return 0
+        say(f"{len(self.order)} crates, by rt ci: about {span(sum(self.guesses.values()) / (os.cpu_count() or 1))} where none is proved yet")
+        # `rt` is a Python program, which else keeps its lines back.
+        how = {"cwd": self.folder, "env": {**os.environ, "PYTHONUNBUFFERED": "1"}, "stdin": subprocess.DEVNULL}
+        words = [sys.executable, ROOT / "tools" / "quick_rt.py", "ci"]
+        with subprocess.Popen(words, stdout=subprocess.PIPE, stderr=subprocess.STDOUT, text=True, errors="replace", **how) as process:
+            try:
+                last = self.read(process.stdout)
+            except BaseException:
+                process.terminate()
+                raise
+        if process.returncode:
+            print("".join(last), end="")
+            say(f"{self.program} is not proved or not built: above is what rt said of it")
+            return 1
+        self.hand_over()
+        return 0
+
+    def hand_over(self):
+        """Puts the program into the repository, in one step."""
+        out = CRATES / self.program / "out"
+        out.mkdir(exist_ok=True)
+        shutil.copy2(self.folder / "crates" / self.program / "out" / self.program, out / f"{self.program}.new")
+        (out / f"{self.program}.new").replace(out / self.program)
+        self.marks.leave(self.program)
+
+
+def prove_by_gate(program):
+    """Proves a program by `rt ci`, and returns the status."""
+    with locked(ROOT / "crates.txt"), room() as folder:
+        return Gate(program, folder / "text").prove()
+
+
 def prove(names, workers):
     """Proves the crates with all that they stand on, and returns the status."""
     # A second call waits, and then finds what the first proved.
@@ -381,7 +475,8 @@ def main():
     workers = int(sys.argv[2]) if len(sys.argv) > 2 else min(os.cpu_count() or 1, free_memory() // MEMORY_EACH)
     for it in (signal.SIGTERM, signal.SIGHUP, signal.SIGINT):
         signal.signal(it, lambda number, _: sys.exit(128 + number))
-    return prove([sys.argv[1]], max(1, workers))
+    name = sys.argv[1]
+    return prove_by_gate(name) if is_program(name) and keeps_proofs() else prove([name], max(1, workers))
 
 
 if __name__ == "__main__":

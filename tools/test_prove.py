@@ -2,7 +2,7 @@
 """Tests tools/prove.py over a small repository: python3 tools/test_prove.py
 
 A stub stands for `rt`. It locks folders as rattle-kit-13b does. It proves a text that says "meets" only while three others
-are proved, and never ends with one that says "slow".
+are proved, and never ends with one that says "slow". With the variable STUB_KEEPS it is a kit that keeps what `rt ci` passed.
 """
 import json
 import os
@@ -60,9 +60,34 @@ def build(root, name, program):
         (out / "rlib" / f"{name}.rlib" / "format").write_text(text)
     kept.write_text(was)
 
+def gate(root):
+    """Proves all crates that stand there but those that it proved before, and builds the program."""
+    room = pathlib.Path(os.environ["STUB_ROOM"])
+    for name in (line.split(":")[0] for line in (root / "crates.txt").read_text().splitlines()):
+        assert not (root / "crates" / name / "must-fail").exists()
+        if (room / f"kept-{stamp(root, name)}").exists():
+            print(f"rt: {name} is kept: it was proved before")
+            continue
+        text = "".join(file.read_text() for file in sorted((root / "crates" / name / "src").iterdir()))
+        with open(room / "proofs", "a") as log:
+            log.write(json.dumps([name, "wrong" not in text]) + "\\n")
+        (room / "begun" / name).touch()
+        while "slow" in text:
+            time.sleep(0.05)
+        print(f"== {name}\\nof {name}\\nrt: {name} {'NOT PROVED' if 'wrong' in text else 'proved'}", flush=True)
+        if "wrong" in text:
+            sys.exit(1)
+        (room / f"kept-{stamp(root, name)}").touch()
+    (root / "crates" / "app" / "out").mkdir()
+    (root / "crates" / "app" / "out" / "app").write_text(stamp(root, "app"))
+
 def main():
     if sys.argv[1] == "version":
         return print("stub")
+    if sys.argv[1] == "help":
+        return print("what passed is kept beside the kit" * ("STUB_KEEPS" in os.environ))
+    if sys.argv[1] == "ci":
+        return gate(pathlib.Path.cwd())
     name, root = pathlib.Path.cwd().name, pathlib.Path.cwd().parent.parent
     held = [os.open(root / "crates" / it, os.O_RDONLY) for it in sorted([*below(root, name), name])]
     for it in held:
@@ -73,6 +98,7 @@ def main():
     if sys.argv[1] == "run":
         print("ran")
 
+
 if __name__ == "__main__":
     main()
 '''
@@ -82,6 +108,7 @@ class Prove(unittest.TestCase):
     def setUp(self):
         self.room = pathlib.Path(tempfile.mkdtemp(prefix="test-prove-"))
         self.addCleanup(shutil.rmtree, self.room)
+        self.variables = {"STUB_ROOM": str(self.room), "TMPDIR": str(self.room / "temp")}
         for name in ("begun", "bin", "temp", "repository/tools"):
             (self.room / name).mkdir(parents=True)
         self.root = self.room / "repository"
@@ -104,8 +131,7 @@ class Prove(unittest.TestCase):
         for it in (self.room / "begun").iterdir():
             it.unlink()
         words = [sys.executable, self.root / "tools" / "prove.py", name, str(workers)]
-        variables = {**os.environ, "PATH": f"{self.room / 'bin'}:{os.environ['PATH']}", "STUB_ROOM": str(self.room)}
-        variables["TMPDIR"] = str(self.room / "temp")
+        variables = {**os.environ, "PATH": f"{self.room / 'bin'}:{os.environ['PATH']}", **self.variables}
         return subprocess.Popen(words, env=variables, stdout=subprocess.PIPE, stderr=subprocess.STDOUT, text=True)
 
     def prove(self, name, status=0):
@@ -186,6 +212,44 @@ class Prove(unittest.TestCase):
             self.assertLessEqual({"low", "a"}, self.built())
             self.assertFalse((self.root / "crates" / "c" / "out").exists())
             self.assertEqual((self.root / "crates" / "a" / "out" / "incremental" / "kept").read_text(), "half whole\n")
+
+    def test_a_kit_that_keeps_proofs_proves_a_program_by_the_gate(self):
+        self.variables["STUB_KEEPS"] = "1"
+        self.write("alone", "wrong, and no part of the program")
+        (self.root / "crates.txt").write_text("alone:\n# low: d\n" + (self.root / "crates.txt").read_text())
+        (self.root / "crates" / "a" / "must-fail").mkdir()
+        proofs, last = self.prove("app")
+        self.assertEqual([it[0] for it in proofs], [*CRATES])
+        self.assertIn("[7/7] app", last)
+        self.assertTrue((self.root / "crates" / "app" / "out" / "app").exists())
+        proofs, last = self.prove("app")
+        self.assertEqual(proofs, [])
+        self.assertIn("proved before", last)
+        # What is proved there counts, also where the repository does not know it.
+        shutil.rmtree(self.root / "crates" / "app" / "out")
+        self.assertEqual(self.prove("app")[0], [])
+        self.write("c", "another text")
+        self.assertEqual([it[0] for it in self.prove("app")[0]], ["c", "top", "app"])
+        self.assertEqual([it[0] for it in self.prove("a")[0]], ["low", "a"], "a library is built in the repository")
+
+    def test_what_the_gate_refuses_is_told(self):
+        self.variables["STUB_KEEPS"] = "1"
+        self.write("b", "wrong")
+        self.prove("app", status=1)
+        ran = self.begin("app")
+        said = ran.communicate(timeout=60)[0]
+        self.assertIn("of b\nrt: b NOT PROVED", said)
+        self.assertEqual(said.count("NOT PROVED"), 1)
+        self.assertFalse((self.root / "crates" / "app" / "out").exists())
+        self.write("b", "slow")
+        for number in (signal.SIGINT, signal.SIGTERM):
+            ran, until = self.begin("app"), time.time() + 60
+            while time.time() < until and not (self.room / "begun" / "b").exists():
+                time.sleep(0.05)
+            ran.send_signal(number)
+            ran.communicate(timeout=60)
+            self.assertEqual(ran.returncode, 128 + number)
+            self.assertEqual(list((self.room / "temp").iterdir()), [])
 
 
 if __name__ == "__main__":

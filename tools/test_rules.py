@@ -51,7 +51,7 @@ class Rows(unittest.TestCase):
 
     def test_functions_of_the_crate_alone(self):
         allows = "[`allows`](../crates/contract_storage/specs/Footprint.antt)"
-        self.assertEqual(self.judged(allows, "[`allows`](../crates/contract_storage/src/footprint.rt)")[0], [])
+        self.assertEqual(self.judged(allows, "[`Entries::allows`](../crates/contract_storage/src/entries.rt)")[0], [])
 
     def test_row_without_code(self):
         self.assertIn("names no definition, or no function", self.judged(SEEN, "`Storage::get`")[0][0])

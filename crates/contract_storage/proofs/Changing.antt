@@ -27,7 +27,8 @@ use Rattle.contract_storage.specs.Differences.{change_all, IsDifference, AreDiff
 use Rattle.contract_storage.specs.declared.changes.Change.{Change}
 use Rattle.contract_storage.specs.declared.layer.Overlay.{Overlay}
 use Rattle.contract_storage.specs.declared.layer.Overlay.TheVariants.{Same, Gone, Now}
-use Rattle.contract_storage.proofs.Laying.{order, antisymmetric, set_gets, at, given, over_gets}
+use Rattle.contract_storage.specs.Places.{at}
+use Rattle.contract_storage.proofs.Laying.{order, antisymmetric, set_gets, given, over_gets}
 
 abbrev Laid : Type 0
 Laid = LedgerKey × Overlay
@@ -67,7 +68,7 @@ removed : (base : LedgerMap) (k : LedgerKey) (o : Option Kept) → find base k �
 removed base k None e = sym e
 removed base k (Some found) e = record { key-is = refl; now-is = refl; differs = λ p. let q : Some found ≡ None = sym e ∙ p in cc }
 
-viewed : (base : LedgerMap) (k : LedgerKey) (o : Overlay) → Viewed base (k, o) (difference base (k, o))
+viewed : (base : LedgerMap) (k : LedgerKey) (o : Overlay) → Viewed base (k, o) (difference (find base k) (k, o))
 viewed base k Same = refl
 viewed base k Gone = removed base k (find base k) refl
 viewed base k (Now kept) =
@@ -79,16 +80,16 @@ viewed base k (Now kept) =
 -- ---- the order of the keys
 
 -- the keys rise
-abbrev Rises : List Laid → Type 0
+abbrev pub Rises : {X : Type 0} → List (LedgerKey × X) → Type 0
 Rises [] = Unit {0}
-Rises (e ∷ es) = AllByRecursion (λ (y : Laid). order (ranked_key e.0) (ranked_key y.0) ≡ Less) es × Rises es
+Rises (e ∷ es) = AllByRecursion (λ y. order (ranked_key e.0) (ranked_key y.0) ≡ Less) es × Rises es
 
-below_each : (k : LedgerKey) (es : List Laid) → AllByRecursion (λ y. key_cmp k y ≡ Less) (map (λ e. e.0) es)
-    → AllByRecursion (λ (y : Laid). order (ranked_key k) (ranked_key y.0) ≡ Less) es
+below_each : {X : Type 0} (k : LedgerKey) (es : List (LedgerKey × X)) → AllByRecursion (λ y. key_cmp k y ≡ Less) (map (λ e. e.0) es)
+    → AllByRecursion (λ y. order (ranked_key k) (ranked_key y.0) ≡ Less) es
 below_each k [] h = tt
 below_each k (e ∷ es) h = (h.0, below_each k es h.1)
 
-rises : (es : List Laid) → IsStrictlySortedBy key_cmp (map (λ e. e.0) es) → Rises es
+pub rises : {X : Type 0} (es : List (LedgerKey × X)) → IsStrictlySortedBy key_cmp (map (λ e. e.0) es) → Rises es
 unfolding IsStrictlySortedBy
 rises [] h = tt
 rises (e ∷ es) h = (below_each e.0 es h.0, rises es h.1)
@@ -135,7 +136,7 @@ unchanged_at : (base : LedgerMap) (es : List Laid) (q : List ℕ) → AllByRecur
 unchanged_at base [] q h none m n same = same
 unchanged_at base (e ∷ es) q h none m n same =
     let parts = none_at (eq_by_cmp order q (ranked_key e.0)) e.1 (at q es) none in
-    unchanged_by base n e q (difference base (e.0, e.1)) es h.0 (viewed base e.0 e.1) parts.0
+    unchanged_by base n e q (difference (find base e.0) (e.0, e.1)) es h.0 (viewed base e.0 e.1) parts.0
     (λ k s. unchanged_at base es q h.1 parts.1 n k s)
     ∙ same
 
@@ -168,9 +169,9 @@ changed_at : (base : LedgerMap) (es : List Laid) (q : List ℕ) → AllByRecursi
 changed_at base [] q h r m same = same
 changed_at base (e ∷ es) q h r m same =
     elim (order q (ranked_key e.0)) as (λ o. order q (ranked_key e.0) ≡ o → get (after_all m base (e ∷ es)) q ≡ given (get base q) (cond (is_eq o) (Some e.1) (at q es))) [
-      | Less ↦ λ p. passed_by base m e q (difference base (e.0, e.1)) es _ h.0 (viewed base e.0 e.1) (ap is_eq p) same (λ n s. changed_at base es q h.1 r.1 n s)
-      | Equal ↦ λ p. changed_by base m e q (difference base (e.0, e.1)) es h.0 h.1 (viewed base e.0 e.1) p (absent_later q e.0 es p r.0) same
-      | Greater ↦ λ p. passed_by base m e q (difference base (e.0, e.1)) es _ h.0 (viewed base e.0 e.1) (ap is_eq p) same (λ n s. changed_at base es q h.1 r.1 n s)
+      | Less ↦ λ p. passed_by base m e q (difference (find base e.0) (e.0, e.1)) es _ h.0 (viewed base e.0 e.1) (ap is_eq p) same (λ n s. changed_at base es q h.1 r.1 n s)
+      | Equal ↦ λ p. changed_by base m e q (difference (find base e.0) (e.0, e.1)) es h.0 h.1 (viewed base e.0 e.1) p (absent_later q e.0 es p r.0) same
+      | Greater ↦ λ p. passed_by base m e q (difference (find base e.0) (e.0, e.1)) es _ h.0 (viewed base e.0 e.1) (ap is_eq p) same (λ n s. changed_at base es q h.1 r.1 n s)
     ] refl
 
 all_changed : (base : LedgerMap) (es : List Laid) → AllByRecursion IsLaid es → Rises es → after_all base base es ≡ over base es
@@ -178,21 +179,21 @@ all_changed base es h r = same_map nat_list_cmp_total antisymmetric _ _ (λ q. c
 
 -- ---- each change
 
--- what is at each key of a list of overlays
-abbrev AreAt : List Laid → List Laid → Type 0
-AreAt all es = AllByRecursion (λ (e : Laid). at (ranked_key e.0) all ≡ Some e.1) es
+-- what is at each key of a list
+abbrev pub AreAt : {X : Type 0} → List (LedgerKey × X) → List (LedgerKey × X) → Type 0
+AreAt all es = AllByRecursion (λ e. at (ranked_key e.0) all ≡ Some e.1) es
 
 above : (a b : List ℕ) → order a b ≡ Less → order b a ≡ Greater
 above a b e = nat_list_cmp_total.antisymm b a ∙ ap ordering_reverse e
 
-later_at : (x : Laid) (all es : List Laid) → AllByRecursion (λ (y : Laid). order (ranked_key x.0) (ranked_key y.0) ≡ Less) es → AreAt all es → AreAt (x ∷ all) es
+later_at : {X : Type 0} (x : LedgerKey × X) (all es : List (LedgerKey × X)) → AllByRecursion (λ y. order (ranked_key x.0) (ranked_key y.0) ≡ Less) es → AreAt all es → AreAt (x ∷ all) es
 later_at x all [] b h = tt
 later_at x all (y ∷ es) b h = (
   ap (λ (o : Ordering). cond (is_eq o) (Some x.1) (at (ranked_key y.0) all)) (above (ranked_key x.0) (ranked_key y.0) b.0) ∙ h.0,
   later_at x all es b.1 h.1,
 )
 
-each_at : (es : List Laid) → Rises es → AreAt es es
+pub each_at : {X : Type 0} (es : List (LedgerKey × X)) → Rises es → AreAt es es
 each_at [] r = tt
 each_at (e ∷ es) r = (
   ap (λ (o : Ordering). cond (is_eq o) (Some e.1) (at (ranked_key e.0) es)) (tied_itself nat_list_cmp_total (ranked_key e.0)),
@@ -231,7 +232,7 @@ cons_differences base all e (Some c) cs is there v h = (difference_is base all e
 each_difference : (base : LedgerMap) (all es : List Laid) → AllByRecursion IsLaid es → AreAt all es → AllByRecursion (IsDifference base (over base all)) (differences base es)
 each_difference base all [] h at = tt
 each_difference base all (e ∷ es) h at =
-    cons_differences base all e (difference base (e.0, e.1)) (differences base es) h.0 at.0 (viewed base e.0 e.1) (each_difference base all es h.1 at.1)
+    cons_differences base all e (difference (find base e.0) (e.0, e.1)) (differences base es) h.0 at.0 (viewed base e.0 e.1) (each_difference base all es h.1 at.1)
 
 -- ---- their order
 
@@ -253,7 +254,7 @@ all_above : (base : LedgerMap) (x : Laid) (es : List Laid) → IsLaid x → AllB
     → AreAbove x.0 (differences base es)
 all_above base x [] is h b = tt
 all_above base x (e ∷ es) is h b =
-    cons_above base x e (difference base (e.0, e.1)) (differences base es) is h.0 b.0 (viewed base e.0 e.1) (all_above base x es is h.1 b.1)
+    cons_above base x e (difference (find base e.0) (e.0, e.1)) (differences base es) is h.0 b.0 (viewed base e.0 e.1) (all_above base x es is h.1 b.1)
 
 cons_sorted : (base : LedgerMap) (e : Laid) (d : Option Change) (cs : List Change) → Viewed base e d → AreAbove e.0 cs
     → IsStrictlySortedBy (slice_cmp nat_cmp) (bytes_of cs) → IsStrictlySortedBy (slice_cmp nat_cmp) (bytes_of (cons_option d cs))
@@ -265,7 +266,7 @@ all_sorted : (base : LedgerMap) (es : List Laid) → AllByRecursion IsLaid es �
 unfolding IsStrictlySortedBy
 all_sorted base [] h r = tt
 all_sorted base (e ∷ es) h r =
-    cons_sorted base e (difference base (e.0, e.1)) (differences base es) (viewed base e.0 e.1) (all_above base e es h.0 h.1 r.0) (all_sorted base es h.1 r.1)
+    cons_sorted base e (difference (find base e.0) (e.0, e.1)) (differences base es) (viewed base e.0 e.1) (all_above base e es h.0 h.1 r.0) (all_sorted base es h.1 r.1)
 
 -- the differences of all overlays are the changes from the ground's map
 pub are_differences : (base : LedgerMap) (es : List Laid) (cs : List Change) → cs ≡ differences base es → AllByRecursion IsLaid es → IsStrictlySortedBy key_cmp (map (λ e. e.0) es)
@@ -286,7 +287,7 @@ joined xs ys (Some c) = append_assoc xs (c ∷ []) ys
 
 -- one more overlay
 pub more_differences : (base : LedgerMap) (items more all : List Change) (d : Option Change) (left rest : List Laid) (x : Laid) → items ++ differences base left ≡ all → left ≡ x ∷ rest
-    → d ≡ difference base x → more ≡ items ++ cons_option d [] → more ++ differences base rest ≡ all
+    → d ≡ difference (find base x.0) x → more ≡ items ++ cons_option d [] → more ++ differences base rest ≡ all
 more_differences base items more all d left rest x so e is m =
     ap (λ (cs : List Change). cs ++ differences base rest) m ∙ joined items (differences base rest) d
     ∙ ap (λ (o : Option Change). items ++ cons_option o (differences base rest)) is

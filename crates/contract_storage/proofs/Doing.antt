@@ -2,6 +2,7 @@
 use Rattle.std.specs.Prelude.{cond, nat_lt, nat_le, is_ok, IfSome}
 use Rattle.std.specs.FinMap.{get, insert}
 use Rattle.std.proofs.Common.{◌≡◌, ℕ, ◌-◌, ◌<◌, ◌^◌, Bool, true, false, ◌&&◌, List, Option, Some, None, Result, Ok, Err, OnOk, OnErr, IfErr, refl, sym, ap, subst, ◌∙◌}
+use Rattle.std.proofs.lemmas.Option.{same_Some}
 use Rattle.xdr_spec.specs.Format.{number32}
 use Rattle.ledger_types.specs.Entry.{key_of, entry_format}
 use Rattle.ledger_types.specs.Key.{key_format}
@@ -20,7 +21,7 @@ use Rattle.contract_storage.specs.Acts.{Act, Performs, changed, puts, deletes, l
 use Rattle.entry_lookup.specs.declared.ground.Found.{Found}
 use Rattle.contract_storage.specs.declared.access.StoErr.{StoErr}
 use Rattle.contract_storage.specs.declared.access.StoErr.TheVariants as err
-use Rattle.contract_storage.proofs.Laying.{one_kept, put_again}
+use Rattle.contract_storage.proofs.Laying.{put_again}
 
 pub later : (old new : Stored) (m : LedgerMap) → new ≡ with_map old m → IsLater old new
 later old new m e = subst (λ (x : Stored). x ≡ with_entries old x) (sym e) refl
@@ -38,9 +39,6 @@ does_settled act (Ok v) old new m a ok h s =
     (a ∙ ap (λ (x : LedgerMap). (Ok tt, x)) (sym (ap (λ (x : Stored). x.map) ok)), later old new m ok, ap (λ (x : Stored). x.touched) ok)
 does_settled act (Err e) old new m a ok h s = does_nothing act old new tt m e a h s
 
-some_same : (a b : ℕ) → Some a ≡ Some b → a ≡ b
-some_same a b e = cc
-
 -- ---- entries at their keys
 
 pub seen_kept : (n : ℕ) (bytes : List ℕ) (o : Option Found) (w : Seen) → w ≡ seen_in n o → IfSome o (λ f. IsKeptAt bytes (kept_of f)) → IsSeenAt bytes w
@@ -48,7 +46,7 @@ seen_kept n bytes None w e h = subst (IsSeenAt bytes) (sym e) tt
 seen_kept n bytes (Some f) w e h = subst (IsSeenAt bytes) (sym e) (of_some (seen_of n (Some (kept_of f))) refl)
   where
     of_some : (s : Seen) → seen_of n (Some (kept_of f)) ≡ s → IsSeenAt bytes s
-    of_some (live kept) e = subst (IsKeptAt bytes) (one_kept (kept_of f) kept (live_is n (Some (kept_of f)) kept e).there) h
+    of_some (live kept) e = subst (IsKeptAt bytes) (same_Some (kept_of f) kept (live_is n (Some (kept_of f)) kept e).there) h
     of_some absent e = tt
     of_some archived e = tt
 
@@ -78,8 +76,8 @@ fits_key key entry e h = rw e (key_of_fits entry h)
 
 put_seen_is : (s : Stored) (entry : LedgerEntry) (life : ℕ) (what : Seen) → Some life ≡ life_of_put what s.lives s.n entry
     → changed (put_seen what s.lives s.n s.map entry) s ≡ (Ok tt, set_at s.map (key_bytes (key_of entry)) (Some (record { entry = written s.n entry; live_until = life })))
-put_seen_is s entry life (live kept) e = ap (λ (l : ℕ). (Ok tt, insert s.map (key_bytes (key_of entry)) (record { entry = written s.n entry; live_until = l }))) (sym (some_same life _ e))
-put_seen_is s entry life absent e = ap (λ (l : ℕ). (Ok tt, insert s.map (key_bytes (key_of entry)) (record { entry = written s.n entry; live_until = l }))) (sym (some_same life _ e))
+put_seen_is s entry life (live kept) e = ap (λ (l : ℕ). (Ok tt, insert s.map (key_bytes (key_of entry)) (record { entry = written s.n entry; live_until = l }))) (sym (same_Some life _ e))
+put_seen_is s entry life absent e = ap (λ (l : ℕ). (Ok tt, insert s.map (key_bytes (key_of entry)) (record { entry = written s.n entry; live_until = l }))) (sym (same_Some life _ e))
 put_seen_is s entry life archived e = cc
 
 put_here : (s : Stored) (entry : LedgerEntry) (life : ℕ) → Some life ≡ life_of_put (seen s.n s.map (key_of entry)) s.lives s.n entry

@@ -2,7 +2,7 @@
 use Rattle.std.proofs.Common.{◌≡◌, List, [], ◌∷◌, ◌++◌, refl, sym, ap, ap₂, subst, ◌∙◌}
 use Rattle.ledger_spec.specs.LedgerMap.{LedgerMap}
 use Rattle.contract_storage.specs.Layered.{IsMixed}
-use Rattle.contract_storage.specs.Stored.{Stored, with_entries, with_maps, with_snapshot, with_touched, IsClosed, IsHalfReleased, IsLater, IsReleased, IsRestored}
+use Rattle.contract_storage.specs.Stored.{Stored, with_entries, with_maps, with_snapshot, with_touched, IsHalfReleased, IsLater, IsReleased, IsRestored}
 
 -- a list that ends in one more element
 record SameEnd (xs ys : List LedgerMap) (x y : LedgerMap) : Type 0 where
@@ -57,21 +57,3 @@ goes_half_on start later done l half =
       subst (λ (x : Stored). IsLater start x) (sym entries) refl,
       subst (λ (m : LedgerMap). IsMixed later.map m done.map) s.last half.mixed,
     )
-
--- ---- the maps alone are others
-
-abbrev pub HasMaps : Stored → Stored → Type 0
-HasMaps old new = new ≡ record old { base = new.base; map = new.map; snapshots = new.snapshots }
-
-pub released : (old new : Stored) → HasMaps old new → new.base ≡ old.base → new.map ≡ old.map → IsClosed old new → IsReleased old new
-released old new is base map closed = record {
-  same = is ∙ ap₂ (λ (b m : LedgerMap). record old { base = b; map = m; snapshots = new.snapshots }) base map;
-  closed = closed;
-}
-
-pub half_released : (old new : Stored) → HasMaps old new → new.base ≡ old.base → (closed : IsClosed old new) → IsMixed old.map closed.0 new.map → IsHalfReleased old new
-half_released old new is base closed mixed = record {
-  same = is ∙ ap (λ (b : LedgerMap). record old { base = b; map = new.map; snapshots = new.snapshots }) base;
-  closed = closed;
-  mixed = mixed;
-}

@@ -3,8 +3,12 @@ mod Changing
 mod Doing
 mod Footprints
 mod Going
+mod Layers
 mod Laying
 pub mod Lemmas
+mod Placing
 mod Saving
-mod Sound
+mod Slotting
+mod Tabling
 mod Touching
+mod Undoing

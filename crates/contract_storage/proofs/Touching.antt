@@ -1,21 +1,24 @@
--- The touched keys and their index.
-use Rattle.std.specs.Prelude.{cond, slice_set, slice_index_or}
+-- The touched keys and the marks at their slots.
+use Rattle.std.specs.Prelude.{cond, slice_get, slice_set, slice_index_or}
 use Rattle.std.specs.List.{AllByRecursion}
-use Rattle.std.specs.Option.{option_map}
+use Rattle.std.specs.Option.{option_flatten, option_map}
+use Rattle.std.specs.Ordering.{eq_by_cmp}
 use Rattle.std.specs.Str.{bytes_eq}
-use Rattle.std.specs.Map.{lookup}
-use Rattle.std.specs.BTreeMap.{is_at, insert_entry}
 use Rattle.std.proofs.Common.{◌≡◌, ℕ, suc, ◌+◌, ◌-◌, ◌<◌, ◌^◌, Bool, true, false, List, [], ◌∷◌, ◌++◌, length, take, Option, Some, None, refl, sym, ap, ap₂, subst, ◌∙◌, arith}
+use Rattle.std.proofs.lemmas.List.{length_push}
 use Rattle.std.proofs.lemmas.Slice.Eq.{bytes_eq-Decides}
 use Rattle.ledger_types.specs.Key.{key_format}
-use Rattle.ledger_types.specs.KeyOrder.{key_cmp}
+use Rattle.ledger_types.specs.KeyOrder.{ranked_key}
 use Rattle.ledger_types.specs.declared.key.LedgerKey.{LedgerKey}
 use Rattle.ledger_spec.specs.LedgerMap.{key_bytes}
-use Rattle.contract_storage.specs.Touched.{stronger, is_same_key, touch, touch_as, access_in, index_in, IsIndex, AreIndexed}
+use Rattle.contract_storage.specs.Listed.{mark_of, AreMarked}
+use Rattle.contract_storage.specs.Places.{at, has_bytes, named, place_in}
+use Rattle.contract_storage.specs.Touched.{stronger, is_same_key, touch, touch_as, access_in, index_in}
 use Rattle.contract_storage.specs.declared.access.Access.{Access}
 use Rattle.contract_storage.specs.declared.touched.Touch.{Touch}
-use Rattle.contract_storage.proofs.Laying.{lookup_put}
-use Rattle.contract_storage.proofs.Footprints.{ties}
+use Rattle.contract_storage.proofs.Laying.{order}
+use Rattle.contract_storage.proofs.Placing.{Keys, at_set, either, known, named_more, split, ties}
+use Rattle.contract_storage.proofs.Undoing.{all_less}
 
 -- keys that are as a third are as one another
 same_keys : (q k t : LedgerKey) → is_same_key q t ≡ true → is_same_key q k ≡ true → is_same_key k t ≡ true
@@ -23,13 +26,6 @@ same_keys q k t a b =
     let qt : key_bytes q ≡ key_bytes t = (bytes_eq-Decides (key_bytes q) (key_bytes t)).0 a in
     let qk : key_bytes q ≡ key_bytes k = (bytes_eq-Decides (key_bytes q) (key_bytes k)).0 b in
     (bytes_eq-Decides (key_bytes k) (key_bytes t)).1 (sym qk ∙ qt)
-
--- a key that was not touched is not the first one, and not among the others
-split : (b : Bool) (o : Option ℕ) → cond b (Some 0) (option_map suc o) ≡ None → (b ≡ false) × (o ≡ None)
-split true None h = cc
-split true (Some i) h = cc
-split false None h = (refl, refl)
-split false (Some i) h = cc
 
 -- ---- a new key
 
@@ -39,14 +35,6 @@ touch_new a k [] e = refl
 touch_new a k (t ∷ ts) e =
     let f = split (is_same_key k t.key) (index_in k ts) e in
     ap (λ (b : Bool). cond b (record t { access = stronger t.access a } ∷ ts) (t ∷ touch a k ts)) f.0 ∙ ap (λ (x : List Touch). t ∷ x) (touch_new a k ts f.1)
-
--- two tests that do not both hold may change places
-either : (b c : Bool) (n : ℕ) (o : Option ℕ) → (b ≡ true → c ≡ true → ⊥)
-    → cond b (Some 0) (option_map suc (cond c (Some n) o)) ≡ cond c (Some (suc n)) (cond b (Some 0) (option_map suc o))
-either true true n o h = absurd (h refl refl)
-either true false n o h = refl
-either false true n o h = refl
-either false false n o h = refl
 
 -- no test has both outcomes
 no_both : (b : Bool) → b ≡ false → b ≡ true → ⊥
@@ -61,16 +49,6 @@ index_new a k q (t ∷ ts) e =
     ap (λ (b : Bool). index_in q (cond b (record t { access = stronger t.access a } ∷ ts) (t ∷ touch a k ts))) f.0
     ∙ ap (λ (o : Option ℕ). cond (is_same_key q t.key) (Some 0) (option_map suc o)) (index_new a k q ts f.1)
     ∙ either (is_same_key q t.key) (is_same_key q k) (length ts) (index_in q ts) (λ x y. no_both (is_same_key k t.key) f.0 (same_keys q k t.key x y))
-
--- the index with one more key
-index_more : (es fs : List (LedgerKey × ℕ)) (a : Access) (k : LedgerKey) (ts : List Touch) → IsIndex es ts → key_format.fits k → index_in k ts ≡ None
-    → fs ≡ insert_entry key_cmp es k (length ts) → IsIndex fs (touch a k ts)
-index_more es fs a k ts is fit first e = λ q fits.
-    ap (λ (x : List (LedgerKey × ℕ)). lookup (is_at (key_cmp q)) x) e
-    ∙ lookup_put q k (length ts) es
-    ∙ ap (λ (b : Bool). cond b (Some (length ts)) (lookup (is_at (key_cmp q)) es)) (ties q k fits fit)
-    ∙ ap (λ (o : Option ℕ). cond (is_same_key q k) (Some (length ts)) o) (is q fits)
-    ∙ sym (index_new a k q ts first)
 
 -- ---- a key that was touched
 
@@ -126,27 +104,66 @@ fits_touch a k (t ∷ ts) f h =
       | false ↦ (h.0, fits_touch a k ts f h.1)
     ]
 
--- a list with one more element
-longer : (xs : List Touch) (x : Touch) → length (xs ++ x ∷ []) ≡ length xs + 1
-longer [] x = refl
-longer (y ∷ xs) x = let h : length (xs ++ x ∷ []) ≡ length xs + 1 = longer xs x in omega (arith, h)
+-- ---- the marks
 
--- the index and the spelling after an access to a new key
-pub indexed_new : (es fs : List (LedgerKey × ℕ)) (a : Access) (k : LedgerKey) (ts : List Touch) → AreIndexed es ts → key_format.fits k → index_in k ts ≡ None
-    → length ts + 1 < 2 ^ 32 → fs ≡ insert_entry key_cmp es k (length ts) → AreIndexed fs (touch a k ts)
-indexed_new es fs a k ts is f first lt e = record {
-  index = index_more es fs a k ts is.index f first e;
+flat : (b : Bool) (m : Option ℕ) (o : Option (Option ℕ)) → option_flatten (cond b (Some m) o) ≡ cond b m (option_flatten o)
+flat true m o = refl
+flat false m o = refl
+
+-- the mark of a key after one was written at the slot of another key
+mark_set : (keys : Keys) (marks : List (Option ℕ)) (q k : LedgerKey) (i : ℕ) (m : Option ℕ) → key_format.fits q → key_format.fits k → place_in k keys ≡ Some i → i < length marks
+    → mark_of keys (slice_set marks i m) q ≡ cond (is_same_key q k) m (mark_of keys marks q)
+mark_set keys marks q k i m f g place w =
+    ap option_flatten (at_set (ranked_key q) (ranked_key k) keys marks i m place w)
+    ∙ flat (eq_by_cmp order (ranked_key q) (ranked_key k)) m (at (ranked_key q) (named keys marks))
+    ∙ ap (λ (b : Bool). cond b m (mark_of keys marks q)) (ties q k f g)
+
+-- a slot's mark is the index of its key
+pub mark_is : (keys : Keys) (marks : List (Option ℕ)) (ts : List Touch) (k : LedgerKey) (i : ℕ) (m : Option ℕ) → AreMarked keys marks ts → key_format.fits k → place_in k keys ≡ Some i
+    → slice_get marks i ≡ Some m → m ≡ index_in k ts
+mark_is keys marks ts k i m is f place there = sym (ap option_flatten (known (ranked_key k) keys marks i m place there)) ∙ is.mark k f
+
+-- a slot without a mark behind the others
+flat_more : (q : List ℕ) (es : List (LedgerKey × Option ℕ)) (k : LedgerKey) → option_flatten {T = ℕ} (at q (es ++ (k, None) ∷ [])) ≡ option_flatten {T = ℕ} (at q es)
+flat_more q [] k =
+    elim (has_bytes q k) as (λ b. option_flatten {T = ℕ} (cond b (Some None) None) ≡ None) [
+      | true ↦ refl
+      | false ↦ refl
+    ]
+flat_more q (e ∷ es) k =
+    elim (has_bytes q e.0) as (λ b. option_flatten {T = ℕ} (cond b (Some e.1) (at q (es ++ (k, None) ∷ []))) ≡ option_flatten {T = ℕ} (cond b (Some e.1) (at q es))) [
+      | true ↦ refl
+      | false ↦ flat_more q es k
+    ]
+
+pub marks_more : (keys : Keys) (marks : List (Option ℕ)) (ts : List Touch) (k : LedgerKey) (w : Bool) → AreMarked keys marks ts → length marks ≡ length keys
+    → AreMarked (keys ++ (k, w) ∷ []) (marks ++ None ∷ []) ts
+marks_more keys marks ts k w is e = record {
+  mark = λ q f.
+      ap (λ (es : List (LedgerKey × Option ℕ)). option_flatten (at (ranked_key q) es)) (named_more keys marks k w None e)
+      ∙ flat_more (ranked_key q) (named keys marks) k ∙ is.mark q f;
+  spelled = is.spelled;
+}
+
+-- the marks and the spelling after an access to a new key
+pub marked_new : (keys : Keys) (marks : List (Option ℕ)) (a : Access) (k : LedgerKey) (i : ℕ) (ts : List Touch) → AreMarked keys marks ts → key_format.fits k → place_in k keys ≡ Some i
+    → i < length marks → index_in k ts ≡ None → length ts + 1 < 2 ^ 32 → AreMarked keys (slice_set marks i (Some (length ts))) (touch a k ts)
+marked_new keys marks a k i ts is f place w first lt = record {
+  mark = λ q g.
+      mark_set keys marks q k i (Some (length ts)) g f place w
+      ∙ ap (λ (o : Option ℕ). cond (is_same_key q k) (Some (length ts)) o) (is.mark q g)
+      ∙ sym (index_new a k q ts first);
   spelled = record {
-    few = let n : length (touch a k ts) ≡ length ts + 1 = ap length (touch_new a k ts first) ∙ longer ts (record { key = k; access = a }) in omega (arith, n, lt);
+    few = let n : length (touch a k ts) ≡ length ts + 1 = ap length (touch_new a k ts first) ∙ length_push ts (record { key = k; access = a }) in omega (arith, n, lt);
     each = fits_touch a k ts f is.spelled.each;
   };
 }
 
 -- the same after an access to a key that was touched
-pub indexed_found : (es : List (LedgerKey × ℕ)) (a : Access) (k : LedgerKey) (ts : List Touch) (i : ℕ) → AreIndexed es ts → key_format.fits k → index_in k ts ≡ Some i
-    → AreIndexed es (touch a k ts)
-indexed_found es a k ts i is f e = record {
-  index = λ q fits. is.index q fits ∙ sym (index_found a k q ts i e);
+pub marked_found : (keys : Keys) (marks : List (Option ℕ)) (a : Access) (k : LedgerKey) (ts : List Touch) (i : ℕ) → AreMarked keys marks ts → key_format.fits k → index_in k ts ≡ Some i
+    → AreMarked keys marks (touch a k ts)
+marked_found keys marks a k ts i is f e = record {
+  mark = λ q g. is.mark q g ∙ sym (index_found a k q ts i e);
   spelled = record {
     few = let n : length (touch a k ts) ≡ length ts = length_found a k ts i e in omega (arith, n, is.spelled.few);
     each = fits_touch a k ts f is.spelled.each;
@@ -179,10 +196,10 @@ touch_at a k (t ∷ ts) i x y s e p q r =
     first : Writes t ts x y s (record t { access = stronger t.access a } ∷ ts) 0
     first u v = ap₂ (λ (key : LedgerKey) (access : Access). record { key = key; access = access } ∷ ts) (ap (λ (z : Touch). z.key) u) (r ∙ ap (λ (z : Touch). stronger z.access a) v)
 
--- the code's list and index after an access to a key that was touched
-pub found_again : (es : List (LedgerKey × ℕ)) (a : Access) (k : LedgerKey) (ts : List Touch) (i : ℕ) (x y : Touch) (s : Access) → AreIndexed es ts → key_format.fits k → index_in k ts ≡ Some i
-    → x ≡ slice_index_or ts i x → y ≡ slice_index_or ts i y → s ≡ stronger y.access a → AreIndexed es (slice_set ts i (record { key = x.key; access = s }))
-found_again es a k ts i x y s is f e p q r = subst (AreIndexed es) (sym (touch_at a k ts i x y s e p q r)) (indexed_found es a k ts i is f e)
+-- the code's list and the marks after an access to a key that was touched
+pub found_again : (keys : Keys) (marks : List (Option ℕ)) (a : Access) (k : LedgerKey) (ts : List Touch) (i : ℕ) (x y : Touch) (s : Access) → AreMarked keys marks ts → key_format.fits k
+    → index_in k ts ≡ Some i → x ≡ slice_index_or ts i x → y ≡ slice_index_or ts i y → s ≡ stronger y.access a → AreMarked keys marks (slice_set ts i (record { key = x.key; access = s }))
+found_again keys marks a k ts i x y s is f e p q r = subst (AreMarked keys marks) (sym (touch_at a k ts i x y s e p q r)) (marked_found keys marks a k ts i is f e)
 
 -- ---- notes that are taken back
 
@@ -247,34 +264,17 @@ same_index q k ts e =
     by_bytes [] b = refl
     by_bytes (t ∷ us) b = ap₂ (λ (c : Bool) (o : Option ℕ). cond c (Some 0) (option_map suc o)) (ap (λ (x : List ℕ). bytes_eq x (key_bytes t.key)) b) (by_bytes us b)
 
-same_both : (q k : LedgerKey) → is_same_key k q ≡ is_same_key q k
-same_both q k =
-    elim (is_same_key k q) as (λ b. is_same_key k q ≡ b → b ≡ is_same_key q k) [
-      | true ↦ λ e. sym ((bytes_eq-Decides (key_bytes q) (key_bytes k)).1 (sym ((bytes_eq-Decides (key_bytes k) (key_bytes q)).0 e)))
-      | false ↦ λ e.
-          elim (is_same_key q k) as (λ c. is_same_key q k ≡ c → false ≡ c) [
-            | true ↦ λ f. sym e ∙ (bytes_eq-Decides (key_bytes k) (key_bytes q)).1 (sym ((bytes_eq-Decides (key_bytes q) (key_bytes k)).0 f))
-            | false ↦ λ f. refl
-          ] refl
-    ] refl
-
--- one touch less
-shorter : (P : Touch → Type 0) (xs : List Touch) (x : Touch) → AllByRecursion P (xs ++ x ∷ []) → AllByRecursion P xs
-shorter P [] x h = tt
-shorter P (y ∷ xs) x h = (h.0, shorter P xs x h.1)
-
--- the index and the spelling without a key that was touched for the first time
-pub untouched : (es fs : List (LedgerKey × ℕ)) (a : Access) (k : LedgerKey) (before ts : List Touch) → AreIndexed es ts → ts ≡ touch a k before → key_format.fits k → index_in k before ≡ None
-    → ((q : LedgerKey) → lookup (is_at (key_cmp q)) fs ≡ cond (is_at (key_cmp k) q) None (lookup (is_at (key_cmp q)) es)) → AreIndexed fs before
-untouched es fs a k before ts is e fits first removed = record {
-  index = λ q f.
-      removed q
-      ∙ ap₂ (λ (b : Bool) (o : Option ℕ). cond b None o) (ties k q fits f ∙ same_both q k)
-      (is.index q f ∙ ap (index_in q) e ∙ index_new a k q before first)
+-- the marks and the spelling without a key that was touched for the first time
+pub untouched : (keys : Keys) (marks : List (Option ℕ)) (a : Access) (k : LedgerKey) (i : ℕ) (before ts : List Touch) → AreMarked keys marks ts → ts ≡ touch a k before → key_format.fits k
+    → place_in k keys ≡ Some i → i < length marks → index_in k before ≡ None → AreMarked keys (slice_set marks i None) before
+untouched keys marks a k i before ts is e fits place w first = record {
+  mark = λ q f.
+      mark_set keys marks q k i None f fits place w
+      ∙ ap (λ (o : Option ℕ). cond (is_same_key q k) None o) (is.mark q f ∙ ap (index_in q) e ∙ index_new a k q before first)
       ∙ without q;
   spelled = record {
-    few = let n : length ts ≡ length before + 1 = ap length (e ∙ touch_new a k before first) ∙ longer before (record { key = k; access = a }) in omega (arith, n, is.spelled.few);
-    each = shorter (λ t. key_format.fits t.key) before (record { key = k; access = a }) (subst (AllByRecursion (λ t. key_format.fits t.key)) (e ∙ touch_new a k before first) is.spelled.each);
+    few = let n : length ts ≡ length before + 1 = ap length (e ∙ touch_new a k before first) ∙ length_push before (record { key = k; access = a }) in omega (arith, n, is.spelled.few);
+    each = (all_less (λ t. key_format.fits t.key) before (record { key = k; access = a }) (subst (AllByRecursion (λ t. key_format.fits t.key)) (e ∙ touch_new a k before first) is.spelled.each)).0;
   };
 }
   where
@@ -289,7 +289,7 @@ untouched es fs a k before ts is e fits first removed = record {
 
 drop_last : (xs ys : List Touch) (x : Touch) → xs ≡ ys ++ x ∷ [] → take (length xs - 1) xs ≡ ys
 drop_last xs ys x e =
-    let n : length xs - 1 ≡ length ys = omega (arith, ap length e, longer ys x) in
+    let n : length xs - 1 ≡ length ys = omega (arith, ap length e, length_push ys x) in
     rw (n, e) (front ys x)
   where
     front : (zs : List Touch) (z : Touch) → take (length zs) (zs ++ z ∷ []) ≡ zs
@@ -347,11 +347,11 @@ module _ (a b : Access) (k : LedgerKey) (before ts : List Touch) (e : ts ≡ tou
   pub again_as : (i : ℕ) (x : Touch) → index_in k ts ≡ Some i → x ≡ slice_index_or ts i x → slice_set ts i (record { key = x.key; access = b }) ≡ before
   again_as i x at p = set_as b k ts i x at p ∙ ap (touch_as b k) e ∙ unstronger a b k before had
 
-  pub indexed_as : (es : List (LedgerKey × ℕ)) → AreIndexed es ts → AreIndexed es before
-  indexed_as es is =
+  pub marked_as : (keys : Keys) (marks : List (Option ℕ)) → AreMarked keys marks ts → AreMarked keys marks before
+  marked_as keys marks is =
       let j = has_index b k before had in
       record {
-        index = λ q f. is.index q f ∙ ap (index_in q) e ∙ index_found a k q before j.0 j.1;
+        mark = λ q f. is.mark q f ∙ ap (index_in q) e ∙ index_found a k q before j.0 j.1;
         spelled = record {
           few = let n : length ts ≡ length before = ap length e ∙ length_found a k before j.0 j.1 in omega (arith, n, is.spelled.few);
           each = fits_before a k before (subst (AllByRecursion (λ t. key_format.fits t.key)) e is.spelled.each);

@@ -47,13 +47,13 @@ abbrev pub removal : LedgerKey → Option Kept → Option Change
 removal key None = None
 removal key (Some found) = Some (record { key = key; now = None })
 
--- the change of a key with an overlay
-abbrev pub difference : LedgerMap → LedgerKey × Overlay → Option Change
-difference base (key, Same) = None
-difference base (key, Gone) = removal key (find base key)
-difference base (key, Now shared) =
-    if is_kept (find base key) (kept_in shared) then None else Some (record { key = key; now = Some (kept_in shared) })
+-- the change of a key with an overlay, given the entry in the ground
+abbrev pub difference : Option Kept → LedgerKey × Overlay → Option Change
+difference below (key, Same) = None
+difference below (key, Gone) = removal key below
+difference below (key, Now shared) =
+    if is_kept below (kept_in shared) then None else Some (record { key = key; now = Some (kept_in shared) })
 
 -- the changes of all keys with overlays
 abbrev pub differences : LedgerMap → List (LedgerKey × Overlay) → List Change
-differences base es = filter_map (difference base) es
+differences base es = filter_map (λ e. difference (find base e.0) e) es

@@ -1,13 +1,14 @@
 -- Which accesses a footprint allows (own, after CAP-0046-05).
-use Rattle.std.specs.Prelude.{◌≡◌, Bool, true, false, List, ◌||◌, Option, Some, None, fold}
+use Rattle.std.specs.Prelude.{◌≡◌, Bool, true, false, List, [], ◌∷◌, ◌++◌, ◌||◌, Option, Some, None, is_some, fold, if◌then◌else◌}
 use Rattle.std.specs.List.{list_any}
 use Rattle.std.specs.Str.{bytes_eq}
 use Rattle.std.specs.Map.{lookup}
-use Rattle.std.specs.BTreeMap.{is_at, insert_entry}
+use Rattle.std.specs.BTreeMap.{is_at}
 use Rattle.ledger_types.specs.Key.{key_format}
 use Rattle.ledger_types.specs.KeyOrder.{key_cmp}
 use Rattle.ledger_types.specs.declared.key.LedgerKey.{LedgerKey}
 use Rattle.ledger_spec.specs.LedgerMap.{key_bytes}
+use Rattle.contract_storage.specs.Places.{place_in}
 use Rattle.contract_storage.specs.declared.access.Access.{Access}
 use Rattle.contract_storage.specs.declared.access.Access.TheVariants.{Read, Extend, Write}
 
@@ -38,6 +39,10 @@ IsFootprint read_only read_write declared =
     (access : Access) (key : LedgerKey) → key_format.fits key
     → allows declared access key ≡ declares read_only read_write access key
 
--- the declared keys with those of a list
+-- the keys with one more at their end, unless it is there
+abbrev pub with_key : List (LedgerKey × Bool) → LedgerKey → Bool → List (LedgerKey × Bool)
+with_key keys key writes = if is_some (place_in key keys) then keys else keys ++ (key, writes) ∷ []
+
+-- the keys with those of a list
 abbrev pub with_keys : List (LedgerKey × Bool) → List LedgerKey → Bool → List (LedgerKey × Bool)
-with_keys declared keys writes = fold (λ es key. insert_entry key_cmp es key writes) declared keys
+with_keys keys list writes = fold (λ es key. with_key es key writes) keys list

@@ -1,8 +1,11 @@
 pub mod Layered
+pub mod Places
 pub mod Overlays
 pub mod Differences
 pub mod Footprint
 pub mod Watched
 pub mod Touched
+pub mod Listed
 pub mod Stored
+pub mod Slotted
 pub mod Acts

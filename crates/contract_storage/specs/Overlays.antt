@@ -1,20 +1,24 @@
--- The writes that a layer keeps, as maps (own).
-use Rattle.std.specs.Prelude.{◌≡◌, ℕ, true, List, [], ◌∷◌, Option, Some, None, is_some, map, if◌then◌else◌}
+-- The states of slots, as maps (own).
+use Rattle.std.specs.Prelude.{◌≡◌, ◌⊎◌, ◌<◌, ℕ, Bool, List, [], ◌∷◌, Option, Some, None, IsSomeAnd, is_some, length, map}
+use Rattle.std.specs.Prelude.{slice_get, slice_set, if◌then◌else◌}
 use Rattle.std.specs.List.{AllByRecursion}
 use Rattle.std.specs.Map.{lookup}
 use Rattle.std.specs.BTreeMap.{insert_entry, is_at}
 use Rattle.std.specs.FinMap.{get}
+use Rattle.std.specs.Ordering.{nat_cmp}
 use Rattle.ledger_types.specs.Key.{key_format}
-use Rattle.ledger_types.specs.KeyOrder.{ranked_key, key_cmp}
+use Rattle.ledger_types.specs.KeyOrder.{ranked_key}
 use Rattle.ledger_types.specs.declared.key.LedgerKey.{LedgerKey}
 use Rattle.ledger_spec.specs.declared.Kept.{Kept}
 use Rattle.ledger_spec.specs.LedgerMap.{LedgerMap, key_bytes, IsKeptAt}
 use Rattle.contract_storage.specs.Layered.{Layered, set_at}
+use Rattle.contract_storage.specs.Places.{named}
 use Rattle.contract_storage.specs.declared.layer.Shared.{Shared}
 use Rattle.contract_storage.specs.declared.layer.Overlay.{Overlay}
 use Rattle.contract_storage.specs.declared.layer.Overlay.TheVariants.{Same, Gone, Now}
 use Rattle.contract_storage.specs.declared.layer.Saved.{Saved}
 use Rattle.contract_storage.specs.declared.layer.Undo.{Undo}
+use Rattle.contract_storage.specs.declared.touched.Touch.{Touch}
 
 -- an entry that may be shared, with its live-until ledger
 abbrev pub kept_in : Shared → Kept
@@ -44,42 +48,48 @@ laid_all base map (e ∷ es) = laid base (laid_all base map es) e.0 e.1
 abbrev pub over : LedgerMap → List (LedgerKey × Overlay) → LedgerMap
 over base es = laid_all base base es
 
--- what each open snapshot has saved, the oldest first
-abbrev pub saved_in : List Saved → List (List (LedgerKey × Overlay))
+-- the ground with the states of all slots
+abbrev pub shown : LedgerMap → List (LedgerKey × Bool) → List Overlay → LedgerMap
+shown base keys states = over base (named keys states)
+
+-- what each open snapshot has saved, by the numbers of slots, the oldest first
+abbrev pub saved_in : List Saved → List (List (ℕ × Overlay))
 saved_in saved = map (λ s. s.states.entries) saved
 
--- the map at the oldest of these snapshots, or the present one
-abbrev pub map_at : LedgerMap → LedgerMap → List (List (LedgerKey × Overlay)) → LedgerMap
-map_at base now [] = now
-map_at base now (s ∷ ss) = laid_all base (map_at base now ss) s
+-- the states after what a snapshot saved was put back
+abbrev pub back : List (ℕ × Overlay) → List Overlay → List Overlay
+back [] states = states
+back (e ∷ es) states = slice_set (back es states) e.0 e.1
 
--- the maps at these snapshots
-abbrev pub maps_at : LedgerMap → LedgerMap → List (List (LedgerKey × Overlay)) → List LedgerMap
-maps_at base now [] = []
-maps_at base now (s ∷ ss) = map_at base now (s ∷ ss) ∷ maps_at base now ss
+-- the states at the oldest of these snapshots, or the present ones
+abbrev pub states_at : List Overlay → List (List (ℕ × Overlay)) → List Overlay
+states_at states [] = states
+states_at states (s ∷ ss) = back s (states_at states ss)
+
+-- the states at these snapshots
+abbrev pub all_states : List Overlay → List (List (ℕ × Overlay)) → List (List Overlay)
+all_states states [] = []
+all_states states (s ∷ ss) = states_at states (s ∷ ss) ∷ all_states states ss
 
 -- a layer as contracts see it
-abbrev pub layered : LedgerMap → List (LedgerKey × Overlay) → List (List (LedgerKey × Overlay)) → Layered
-layered base es ss = record { base = base; map = over base es; snapshots = maps_at base (over base es) ss }
+abbrev pub layered : LedgerMap → List (LedgerKey × Bool) → List Touch → List Overlay → List (List (ℕ × Overlay)) → Layered
+layered base keys touches states ss = record {
+  base = base;
+  map = shown base keys states;
+  snapshots = map (shown base keys) (all_states states ss);
+  keys = keys;
+  touches = touches;
+}
 
--- what a snapshot has saved after a write: the state of the key before it, unless it has one of the key
-abbrev pub with_state : List (LedgerKey × Overlay) → Undo → List (LedgerKey × Overlay)
-with_state s u = if is_some (lookup (is_at (key_cmp u.key)) s) then s else insert_entry key_cmp s u.key u.before
+-- what a snapshot has saved after a write: the state of the slot before it, unless it has one of the slot
+abbrev pub with_state : List (ℕ × Overlay) → Undo → List (ℕ × Overlay)
+with_state s u = if is_some (lookup (is_at (nat_cmp u.at)) s) then s else insert_entry nat_cmp s u.at u.before
 
 -- the newest open snapshot saves the state, if there is one
-abbrev pub with_saved : List (List (LedgerKey × Overlay)) → Undo → List (List (LedgerKey × Overlay))
+abbrev pub with_saved : List (List (ℕ × Overlay)) → Undo → List (List (ℕ × Overlay))
 with_saved [] u = []
 with_saved (s ∷ []) u = with_state s u ∷ []
 with_saved (s ∷ t ∷ ss) u = s ∷ with_saved (t ∷ ss) u
-
--- the overlay before a write
-abbrev pub or_same : Option Overlay → Overlay
-or_same None = Same
-or_same (Some overlay) = overlay
-
--- the key of a saved state has an overlay, so that undoing takes no memory
-abbrev pub IsThere : List (LedgerKey × Overlay) → LedgerKey × Overlay → Type 0
-IsThere es e = is_some (lookup (is_at (key_cmp e.0)) es) ≡ true
 
 -- the entry in an overlay belongs to the key with these bytes
 abbrev pub IsHeldAt : List ℕ → Overlay → Type 0
@@ -92,16 +102,24 @@ pub record IsLaid (e : LedgerKey × Overlay) : Type 0 where
   pub fits : key_format.fits e.0
   pub held : IsHeldAt (key_bytes e.0) e.1
 
--- a saved state, of a key within its XDR format that has an overlay
-pub record IsSaved (es : List (LedgerKey × Overlay)) (e : LedgerKey × Overlay) : Type 0 where
-  pub there : IsThere es e
-  pub laid : IsLaid e
+-- the slot with this number exists, and the entry in this state belongs to its key
+abbrev pub IsState : List (LedgerKey × Bool) → ℕ × Overlay → Type 0
+IsState keys e = IsSomeAnd (slice_get keys e.0) (λ k. IsHeldAt (ranked_key k.0) e.1)
 
--- a state before a write, with its key
-abbrev pub undone : Undo → LedgerKey × Overlay
-undone u = (u.key, u.before)
+-- a state whose number is below this one
+abbrev pub IsWithin : ℕ → ℕ × Overlay → Type 0
+IsWithin count e = e.0 < count
 
--- what is true of all overlays, and of all saved states
-pub record IsSound (es : List (LedgerKey × Overlay)) (ss : List (List (LedgerKey × Overlay))) : Type 0 where
-  pub laid : AllByRecursion IsLaid es
-  pub saved : AllByRecursion (AllByRecursion (IsSaved es)) ss
+-- each slot has in the last list what it has in one of the others
+abbrev pub AreMixed : List Overlay → List Overlay → List Overlay → Type 0
+AreMixed one other mixed = (i : ℕ) → (slice_get mixed i ≡ slice_get one i) ⊎ (slice_get mixed i ≡ slice_get other i)
+
+-- a state before a write, with the number of its slot
+abbrev pub undone : Undo → ℕ × Overlay
+undone u = (u.at, u.before)
+
+-- Each slot has a state, and all states are those of slots: the present ones, and those that snapshots saved.
+pub record IsSound (keys : List (LedgerKey × Bool)) (states : List Overlay) (ss : List (List (ℕ × Overlay))) : Type 0 where
+  pub each : length states ≡ length keys
+  pub held : (i : ℕ) (x : Overlay) → slice_get states i ≡ Some x → IsState keys (i, x)
+  pub saved : AllByRecursion (AllByRecursion (IsState keys)) ss

@@ -3,10 +3,7 @@ use Rattle.std.specs.Prelude.{◌≡◌, ◌<◌, ◌^◌, ℕ, suc, Bool, true,
 use Rattle.std.specs.List.{AllByRecursion}
 use Rattle.std.specs.Option.{option_map}
 use Rattle.std.specs.Str.{bytes_eq}
-use Rattle.std.specs.Map.{lookup}
-use Rattle.std.specs.BTreeMap.{is_at}
 use Rattle.ledger_types.specs.Key.{key_format}
-use Rattle.ledger_types.specs.KeyOrder.{key_cmp}
 use Rattle.ledger_types.specs.declared.key.LedgerKey.{LedgerKey}
 use Rattle.ledger_spec.specs.LedgerMap.{key_bytes}
 use Rattle.contract_storage.specs.declared.access.Access.{Access}
@@ -83,7 +80,7 @@ IsNotedIn (Some declared) key before noted = noted ≡ None
 IsNotedIn None key before None = ⊥
 IsNotedIn None key before (Some noted) = IsNoted key before noted
 
--- ---- how the code finds a touched key
+-- ---- where a touched key stands
 
 -- the index of the key, if it was touched
 abbrev pub index_in : LedgerKey → List Touch → Option ℕ
@@ -94,11 +91,3 @@ index_in key (t ∷ ts) = if is_same_key key t.key then Some 0 else option_map s
 pub record AreSpelled (touched : List Touch) : Type 0 where
   pub few : length touched < 2 ^ 32
   pub each : AllByRecursion (λ t. key_format.fits t.key) touched
-
--- the map has the index of each touched key
-abbrev pub IsIndex : List (LedgerKey × ℕ) → List Touch → Type 0
-IsIndex es touched = (key : LedgerKey) → key_format.fits key → lookup (is_at (key_cmp key)) es ≡ index_in key touched
-
-pub record AreIndexed (es : List (LedgerKey × ℕ)) (touched : List Touch) : Type 0 where
-  pub index : IsIndex es touched
-  pub spelled : AreSpelled touched

@@ -1,4 +1,5 @@
-//! The calls of a storage: look-ups, puts, deletes, makes and extensions. Each judges its access and notes it.
+//! The calls of a storage: look-ups, puts, deletes, makes and extensions. Each finds the slot of its key and judges its access.
+//! What they do then is in `noting`, but for `get`, whose entry stays borrowed.
 
 ghost use mir.Syntax.{named};
 ghost use Rattle.std.specs.Prelude.{◌≡◌, [], IfOk};
@@ -12,6 +13,7 @@ ghost use Rattle.contract_storage.specs.contracts.storage.Storage.{the_row};
 
 use crate::access::{Access, StoErr};
 use crate::sight::Sight;
+use crate::spot::Spot;
 use crate::storage::Storage;
 use crate::watch::Watch;
 use entry_lookup::Ground;
@@ -24,17 +26,9 @@ impl<'a, G: Ground, W: Watch> Storage<'a, G, W> {
         requires { key_format.fits key.now }
         ensures { Reads (has_act key.now) result self.old self.new }
     {
-        if !self.allows(Access::Read, key) {
-            return Err(StoErr::Undeclared);
-        }
-        let outcome = self.outcome_at(key);
-        if self.note(Access::Read, key, outcome).is_err() {
-            return Err(StoErr::NoMemory);
-        }
-        match self.sight(key) {
-            Sight::Live(_) => Ok(true),
-            Sight::Absent => Ok(false),
-            Sight::Archived => Err(StoErr::Archived),
+        match self.entries.slot_for(Access::Read, key) {
+            Ok(at) => self.entries.has(Spot { at, key }),
+            Err(e) => Err(e),
         }
     }
 
@@ -46,14 +40,16 @@ impl<'a, G: Ground, W: Watch> Storage<'a, G, W> {
             (λ new. Reads (get_act key.now) (lent result) self.old new)) }
         ensures fits { IfOk result (λ entry. entry_format.fits entry.now) }
     {
-        if !self.allows(Access::Read, key) {
-            return Err(StoErr::Undeclared);
-        }
-        let outcome = self.outcome_at(key);
-        if self.note(Access::Read, key, outcome).is_err() {
+        let at = match self.entries.slot_for(Access::Read, key) {
+            Ok(at) => at,
+            Err(e) => return Err(e),
+        };
+        let spot = Spot { at, key };
+        let outcome = self.entries.outcome_at(spot);
+        if self.entries.note(Access::Read, spot, outcome).is_err() {
             return Err(StoErr::NoMemory);
         }
-        match self.sight(key) {
+        match self.entries.sight(spot) {
             Sight::Live(found) => Ok(found.entry),
             Sight::Absent => Err(StoErr::Missing),
             Sight::Archived => Err(StoErr::Archived),
@@ -67,14 +63,11 @@ impl<'a, G: Ground, W: Watch> Storage<'a, G, W> {
         requires hashed { HasCodeHash entry.data }
         ensures { Does (put_act entry) result self.old self.new }
     {
-        if !self.allows(Access::Write, key) {
-            return Err(StoErr::Undeclared);
-        }
-        let Ok(noted) = self.note_key(Access::Write, key) else {
-            return Err(StoErr::NoMemory);
+        let at = match self.entries.slot_for(Access::Write, key) {
+            Ok(at) => at,
+            Err(e) => return Err(e),
         };
-        let answer = self.put_allowed(key, entry);
-        self.ended(noted, Access::Write, key, answer)
+        self.entries.put(Spot { at, key }, entry)
     }
 
     /// Deletes the live entry at a key, if there is one.
@@ -82,14 +75,10 @@ impl<'a, G: Ground, W: Watch> Storage<'a, G, W> {
         requires { key_format.fits key.now }
         ensures { Does (del_act key.now) result self.old self.new }
     {
-        if !self.allows(Access::Write, key) {
-            return Err(StoErr::Undeclared);
+        match self.entries.slot_for(Access::Write, key) {
+            Ok(at) => self.entries.del(Spot { at, key }),
+            Err(e) => Err(e),
         }
-        let Ok(noted) = self.note_key(Access::Write, key) else {
-            return Err(StoErr::NoMemory);
-        };
-        let deleted = self.del_allowed(key);
-        self.ended(noted, Access::Write, key, deleted)
     }
 
     /// Makes an entry with a given live-until ledger, unless the key has a live entry. Returns whether it made one.
@@ -104,14 +93,11 @@ impl<'a, G: Ground, W: Watch> Storage<'a, G, W> {
         requires hashed { HasCodeHash entry.data }
         ensures { Does (make_act entry live_until) result self.old self.new }
     {
-        if !self.allows(Access::Write, key) {
-            return Err(StoErr::Undeclared);
-        }
-        let Ok(noted) = self.note_key(Access::Write, key) else {
-            return Err(StoErr::NoMemory);
+        let at = match self.entries.slot_for(Access::Write, key) {
+            Ok(at) => at,
+            Err(e) => return Err(e),
         };
-        let answer = self.make_allowed(key, entry, live_until);
-        self.ended(noted, Access::Write, key, answer)
+        self.entries.make(Spot { at, key }, entry, live_until)
     }
 
     /// Extends the life of a live entry by `extend_to` ledgers from now, if at most `threshold` ledgers are left. A
@@ -123,13 +109,9 @@ impl<'a, G: Ground, W: Watch> Storage<'a, G, W> {
         if extend_to < threshold {
             return Err(StoErr::BadExtend(ScError::Storage(ScErrorCode::InvalidInput)));
         }
-        if !self.allows(Access::Extend, key) {
-            return Err(StoErr::Undeclared);
+        match self.entries.slot_for(Access::Extend, key) {
+            Ok(at) => self.entries.extend(Spot { at, key }, threshold, extend_to),
+            Err(e) => Err(e),
         }
-        let Ok(noted) = self.note_key(Access::Extend, key) else {
-            return Err(StoErr::NoMemory);
-        };
-        let answer = self.extend_allowed(key, threshold, extend_to);
-        self.ended(noted, Access::Extend, key, answer)
     }
 }

@@ -1,19 +1,19 @@
-//! The changes that the writes of a layer make.
+//! The changes that the states of slots make.
 
-ghost use Rattle.std.specs.Prelude.{◌≡◌, ◌++◌, [], IfOk, OnOk};
-ghost use Rattle.std.specs.List.{AllByRecursion, cons_option};
-ghost use Rattle.ledger_types.specs.Key.{key_format};
-ghost use Rattle.entry_lookup.specs.Found.{kept_of};
+ghost use Rattle.std.specs.Prelude.{◌≡◌, ◌<◌, ◌++◌, ℕ, [], Some, IfOk, OnOk, length, slice_get};
+ghost use Rattle.std.specs.List.{cons_option};
 ghost use Rattle.std.specs.Option.{option_map};
-ghost use Rattle.contract_storage.specs.Overlays.{kept_in, over as over_in, IsLaid};
+ghost use Rattle.entry_lookup.specs.Found.{kept_of};
+ghost use Rattle.contract_storage.specs.Overlays.{kept_in, shown, IsState};
 ghost use Rattle.contract_storage.specs.Differences.{is_kept, difference, AreDifferences};
+ghost use Rattle.contract_storage.specs.declared.layer.Overlay.{Overlay as Overlay'};
 
 use crate::layer::{Overlay, Shared};
+use crate::table::Table;
 use entry_lookup::{Found, Ground};
 use ledger_spec::Kept;
 use ledger_types::LedgerKey;
 use std::alloc::Global;
-use std::collections::BTreeMap;
 use xdr_core::NoMemory;
 
 /// A key that was changed, with its entry now, or `None` if it has none any more.
@@ -45,25 +45,24 @@ fn is_kept(found: Option<Found<'_>>, shared: &Shared) -> bool
     }
 }
 
-// Returns the change of a key with this overlay, or `None` if the key has the entry of the ground.
-fn change_of<G: Ground>(
-    base: &G,
+// Returns the change of a key with this state, or `None` if the key has the entry of the ground.
+fn change_of(
+    below: Option<Found<'_>>,
     key: &LedgerKey,
-    overlay: &Overlay,
+    state: &Overlay,
 ) -> Result<Option<Change>, NoMemory>
-    requires { key_format.fits key.now }
-    ensures { IfOk result (λ change. change ≡ difference (G.map base.now) (key.now, overlay.now)) }
+    ensures { IfOk result (λ change. change ≡ difference (option_map kept_of below.entry) (key.now, state.now)) }
 {
-    let now = match overlay {
+    let now = match state {
         Overlay::Same => return Ok(None),
         Overlay::Gone => {
-            if base.find(key).is_none() {
+            if below.is_none() {
                 return Ok(None);
             }
             None
         }
         Overlay::Now(shared) => {
-            if is_kept(base.find(key), shared) {
+            if is_kept(below, shared) {
                 return Ok(None);
             }
             Some(clone_kept(shared)?)
@@ -83,18 +82,29 @@ fn push_change(changes: &mut Vec<Change>, change: Option<Change>) -> Result<(), 
     Ok(())
 }
 
-/// Returns the changes that overlays make to the ground's map.
+// Borrows the state of a slot.
+fn state_at(states: &[Overlay], at: usize) -> &Overlay
+    requires { at < length states.now }
+    ensures { slice_get states.now at ≡ Some result.now }
+{
+    &states[at]
+}
+
+/// Returns the changes that the states of slots make to the ground's map. It goes through the keys in their order.
 pub(crate) fn changes_of<G: Ground>(
     alloc: Global,
-    base: &G,
-    over: &BTreeMap<LedgerKey, Overlay>,
+    table: &Table<'_, G>,
+    states: &[Overlay],
 ) -> Result<Vec<Change>, NoMemory>
-    requires { AllByRecursion IsLaid over.now.entries }
-    ensures { IfOk result (λ changes. AreDifferences (G.map base.now) (over_in (G.map base.now) over.now.entries) changes.items) }
+    requires each { length states.now ≡ length table.now.keys }
+    requires held { (i : ℕ) (x : Overlay') → slice_get states.now i ≡ Some x → IsState table.now.keys (i, x) }
+    ensures { IfOk result (λ changes.
+        AreDifferences table.now.base (shown table.now.base table.now.keys states.now) changes.items) }
 {
     let mut changes = Vec::new(alloc);
-    for (key, overlay) in over.iter() {
-        let change = change_of(base, key, overlay)?;
+    for (key, at) in table.index.iter() {
+        let state = state_at(states, *at);
+        let change = change_of(table.slots[*at].below, key, state)?;
         push_change(&mut changes, change)?;
     }
     Ok(changes)

@@ -2,54 +2,64 @@
 
 ghost use Rattle.std.specs.Prelude.{◌≡◌, All, false, true, IfOk, OnOk};
 ghost use Rattle.ledger_types.specs.Key.{key_format};
-ghost use Rattle.contract_storage.specs.Footprint.{allows, with_keys, IsFootprint};
+ghost use Rattle.contract_storage.specs.Footprint.{with_key, with_keys, IsFootprint};
+ghost use Rattle.contract_storage.specs.Layered.{unwritten, with_slots};
 
-use crate::access::Access;
+use crate::layer::Layer;
+use entry_lookup::Ground;
 use ledger_types::LedgerKey;
 use std::alloc::Global;
-use std::collections::BTreeMap;
 use xdr_core::NoMemory;
 
-/// Adds the keys of a list.
-fn declare(
-    declared: &mut BTreeMap<LedgerKey, bool>,
+/// Adds a slot for a key, unless it has one.
+fn declare<G: Ground>(
+    layer: &mut Layer<'_, G>,
+    key: &LedgerKey,
+    writes: bool,
+) -> Result<(), NoMemory>
+    requires { key_format.fits key.now }
+    ensures keys { OnOk result (layer.new.keys ≡ with_key layer.old.keys key.now writes) }
+    ensures same { layer.new ≡ with_slots layer.old layer.new.keys }
+{
+    match layer.slot_of(key) {
+        Some(_) => Ok(()),
+        None => {
+            layer.add(key, writes)?;
+            Ok(())
+        }
+    }
+}
+
+/// Adds slots for the keys of a list that have none.
+fn declare_all<G: Ground>(
+    layer: &mut Layer<'_, G>,
     keys: &[LedgerKey],
     writes: bool,
 ) -> Result<(), NoMemory>
-    ensures { OnOk result (declared.new.entries ≡ with_keys declared.old.entries keys.now writes) }
+    requires { All (λ key. key_format.fits key) keys.now }
+    ensures keys { OnOk result (layer.new.keys ≡ with_keys layer.old.keys keys.now writes) }
+    ensures same { layer.new ≡ with_slots layer.old layer.new.keys }
 {
     for key in keys {
-        let key = key.clone()?;
-        let _old = declared.insert(key, writes)?;
+        declare(layer, key, writes)?;
     }
     Ok(())
 }
 
-/// Returns the keys of a footprint, each with whether it is read-write.
-pub(crate) fn declared_keys(
+/// Makes a layer with slots for the keys of a footprint, each with whether it is read-write.
+pub(crate) fn declared_layer<'a, G: Ground>(
     alloc: Global,
+    base: &'a G,
     read_only: &[LedgerKey],
     read_write: &[LedgerKey],
-) -> Result<BTreeMap<LedgerKey, bool>, NoMemory>
+) -> Result<Layer<'a, G>, NoMemory>
     requires read_only { All (λ key. key_format.fits key) read_only.now }
     requires read_write { All (λ key. key_format.fits key) read_write.now }
-    ensures { IfOk result (λ declared. IsFootprint read_only.now read_write.now declared.entries) }
+    ensures starts { IfOk result (λ layer. layer ≡ unwritten (G.map base.now) layer.keys) }
+    ensures declared { IfOk result (λ layer. IsFootprint read_only.now read_write.now layer.keys) }
 {
-    let mut declared = BTreeMap::new(alloc);
-    declare(&mut declared, read_only, false)?;
-    declare(&mut declared, read_write, true)?;
-    Ok(declared)
-}
-
-/// Whether the declared keys allow an access. It takes no memory.
-pub(crate) fn allows(declared: &BTreeMap<LedgerKey, bool>, access: Access, key: &LedgerKey) -> bool
-    ensures { result ≡ allows declared.now.entries access key.now }
-{
-    match declared.get(key) {
-        None => false,
-        Some(writes) => match access {
-            Access::Write => *writes,
-            Access::Read | Access::Extend => true,
-        },
-    }
+    let mut layer = Layer::new(alloc, base);
+    declare_all(&mut layer, read_write, true)?;
+    declare_all(&mut layer, read_only, false)?;
+    Ok(layer)
 }

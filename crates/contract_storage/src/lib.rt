@@ -6,11 +6,15 @@ mod access;
 mod allowed;
 mod calls;
 mod changes;
+mod entries;
 mod footprint;
 mod laws;
 mod layer;
+mod noting;
 mod sight;
+mod spot;
 mod storage;
+mod table;
 mod touched;
 mod watch;
 

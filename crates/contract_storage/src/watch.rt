@@ -96,7 +96,7 @@ pub trait Watch: Drop {
     /// What it has seen of the accesses.
     ghost seen: { Self → Rattle.contract_storage.specs.Watched.Seen };
 
-    /// Whether it wants the outcomes of look-ups, which then cost a look-up more.
+    /// Whether it wants the outcomes of look-ups. Then a look-up looks at its slot twice.
     fn is_on(&self) -> bool;
 
     /// An access that is allowed was made.

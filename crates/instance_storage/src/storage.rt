@@ -196,7 +196,8 @@ impl InstanceStorage {
         }
     }
 
-    /// Makes storage of entries, which it measures. `None` is null. It takes O(n) time and memory for n entries, of any sizes.
+    /// Makes storage of entries, which it measures. `None` is null. It takes O(n) time and memory for n entries, whatever their
+    /// sizes.
     pub fn new(entries: Option<Entries>) -> Result<InstanceStorage, AllocError>
         requires { IsHeld entries }
         ensures { IfOk result (λ storage. storage ≡ entries) }
@@ -217,7 +218,7 @@ impl InstanceStorage {
         }
     }
 
-    /// Copies the entries. `None` is null. It takes O(n) time and memory for n entries, of any sizes.
+    /// Copies the entries. `None` is null. It takes O(n) time and memory for n entries, whatever their sizes.
     pub fn to_entries(&self) -> Result<Option<Entries>, AllocError>
         ensures { IfOk result (λ entries. entries ≡ self.now) }
     {

@@ -9,9 +9,8 @@ use Rattle.std.specs.List.Sorted.{IsStrictlySortedBy}
 use Rattle.std.specs.Map.{keys_of, lookup}
 use Rattle.std.specs.Option.{option_map}
 use Rattle.std.specs.Ordering.{nat_cmp, eq_by_cmp, is_lt, is_eq}
-use Rattle.std.specs.Prelude.{IfSome, is_some}
-use Rattle.std.specs.Str.{bytes_eq}
-use Rattle.std.proofs.Common.{◌≡◌, ℕ, ◌<◌, ◌^◌, Vec, Bool, true, false, ◌||◌, cond, List, [], ◌∷◌, ◌++◌, length, map, Option, Some, None, refl, sym, ap, ap₂, subst, ◌∙◌}
+use Rattle.std.specs.Prelude.{IfSome}
+use Rattle.std.proofs.Common.{◌≡◌, ℕ, ◌<◌, ◌^◌, Vec, Bool, true, false, cond, List, [], ◌∷◌, ◌++◌, length, map, Option, Some, None, refl, sym, ap, ap₂, subst, ◌∙◌}
 use Rattle.std.proofs.lemmas.Map.Text.{is_eq-slice_cmp}
 use Rattle.std.proofs.lemmas.Slice.Eq.{bytes_eq-Decides}
 use Rattle.entry_lookup.specs.Found.{kept_of}
@@ -23,7 +22,7 @@ use Rattle.change_log.specs.Log.{Changes}
 use Rattle.change_log.specs.Fits.{AreKept}
 use Rattle.change_log.specs.Groups.{Group, changes, changes_of, group_at, groups_at}
 use Rattle.change_log.specs.Keys.{IsAfter, Rise, has_key}
-use Rattle.change_log.specs.Views.{all_groups_in, group_in, IsChanged, IsChangedBy}
+use Rattle.change_log.specs.Views.{all_groups_in, IsChanged, IsChangedBy}
 use Rattle.change_log.specs.declared.groups.Changed.{Changed}
 use Rattle.change_log.proofs.Lemmas.{at_keys, same_none_at}
 use Rattle.set_steps.specs.Sides.{sides_in, AreSides, Having, IsListOf, IsSide, Tells}

@@ -215,3 +215,61 @@ pub lasting_kept : (m : LedgerMap) (key : LedgerKey) (live_until : ℕ) (kept : 
 lasting_kept m key live_until kept map e few =
     let is : IsKeptAt (key_bytes key) kept = kept_at m (key_bytes key) kept map e in
     record { fits = is.fits; numbered = few; keyed = is.keyed; hashed = is.hashed }
+
+-- the entries at other keys after a life was raised
+raised_elsewhere : (o : Option Kept) (m : LedgerMap) (key : LedgerKey) (live_until : ℕ) (q : Bytes) → bytes_eq q (key_bytes key) ≡ false
+    → get_in (raised o m key live_until) q ≡ get_in m q
+raised_elsewhere None m key live_until q other = refl
+raised_elsewhere (Some kept) m key live_until q other =
+    let after : Option Kept = Some (record kept { live_until = max kept.live_until live_until }) in
+    found_set m key after q ∙ ap (λ (b : Bool). cond b after (get_in m q)) other
+
+-- What is kept at a key is what the opening ledger has there, which is something else than the entry.
+opening_is : (opening entry : Option Kept) (first : Option Boxed) → option_map (option_map kept_of) (Some first) ≡ moved_at opening entry
+    → (option_map kept_of first ≡ opening) × (are_same opening entry ≡ false)
+opening_is opening entry first e =
+    cases (are_same opening entry)
+    (λ t. let none = e ∙ moved_none opening entry t in absurd cc)
+    (λ f. let kept = e ∙ moved_kept opening entry f in (cc, f))
+
+-- A life was raised at a key at which the ledgers differed.
+module _ (opening entries : LedgerMap) (moved : Moved) (key : LedgerKey) (fits : key_format.fits key) (live_until : ℕ) (first : Option Boxed)
+    (there : get key_cmp moved key ≡ Some first) (are : AreMoved opening entries moved) where
+  abbrev raised_entries : LedgerMap
+  raised_entries = raise entries key live_until
+
+  was : (option_map kept_of first ≡ find opening key) × (are_same (find opening key) (find entries key) ≡ false)
+  was = opening_is (find opening key) (find entries key) first (ap (option_map (option_map kept_of)) (sym there) ∙ are key fits)
+
+  -- another key has what it had
+  elsewhere : (moved2 : Moved) (q : LedgerKey) → key_format.fits q → bytes_eq (key_bytes key) (key_bytes q) ≡ false → get key_cmp moved2 q ≡ get key_cmp moved q
+      → opening_at moved2 q ≡ moved_at (find opening q) (find raised_entries q)
+  elsewhere moved2 q fit other got =
+      ap (option_map (option_map kept_of)) got ∙ are q fit
+      ∙ ap (moved_at (find opening q)) (sym (raised_elsewhere (find entries key) entries key live_until (key_bytes q) (same_bytes (key_bytes q) (key_bytes key) ∙ other)))
+
+  -- the key has what the opening ledger has, and is taken out
+  pub raised_back : (moved2 : Moved) → are_same (option_map kept_of first) (find raised_entries key) ≡ true → UpdatesBy key_cmp (key_cmp key) moved moved2 None
+      → AreMoved opening raised_entries moved2
+  raised_back moved2 back left q fit =
+      let b : Bool = bytes_eq (key_bytes key) (key_bytes q) in
+      let got : get key_cmp moved2 q ≡ cond b None (get key_cmp moved q) =
+      left.0 q ∙ ap (λ (t : Bool). cond t None (get key_cmp moved q)) (at_bytes key q fits fit) in
+      let same_at : are_same (find opening key) (find raised_entries key) ≡ true = ap (λ (o : Option Kept). are_same o (find raised_entries key)) (sym was.0) ∙ back in
+      cases b
+      (λ e. ap (option_map (option_map kept_of)) (got ∙ ap (λ (t : Bool). cond t None (get key_cmp moved q)) e)
+      ∙ sym (moved_none (find opening q) (find raised_entries q)
+      (ap (λ (x : Bytes). are_same (get_in opening x) (get_in raised_entries x)) (sym ((bytes_eq-Decides (key_bytes key) (key_bytes q)).0 e)) ∙ same_at)))
+      (λ e. elsewhere moved2 q fit e (got ∙ ap (λ (t : Bool). cond t None (get key_cmp moved q)) e))
+
+  -- the key still has something else
+  pub raised_moved : are_same (option_map kept_of first) (find raised_entries key) ≡ false → AreMoved opening raised_entries moved
+  raised_moved other q fit =
+      let differs : are_same (find opening key) (find raised_entries key) ≡ false = ap (λ (o : Option Kept). are_same o (find raised_entries key)) (sym was.0) ∙ other in
+      cases (bytes_eq (key_bytes key) (key_bytes q))
+      (λ e.
+      let at : key_bytes key ≡ key_bytes q = (bytes_eq-Decides (key_bytes key) (key_bytes q)).0 e in
+      are q fit
+      ∙ moved_kept (find opening q) (find entries q) (ap (λ (x : Bytes). are_same (get_in opening x) (get_in entries x)) (sym at) ∙ was.1)
+      ∙ sym (moved_kept (find opening q) (find raised_entries q) (ap (λ (x : Bytes). are_same (get_in opening x) (get_in raised_entries x)) (sym at) ∙ differs)))
+      (λ e. elsewhere moved q fit e refl)

@@ -1,6 +1,6 @@
 //! The keys at which a ledger differs from the opening one.
 
-ghost use Rattle.std.specs.Prelude.{◌≡◌, IfOk, IfNone, IfSome, OnOk, None};
+ghost use Rattle.std.specs.Prelude.{◌≡◌, IfOk, IfNone, IfSome, OnOk, None, true, false};
 ghost use Rattle.std.specs.BTreeMap.{UpdatesBy, get as get_in};
 ghost use Rattle.std.specs.Option.{option_copied, option_map, unwrap_or};
 ghost use Rattle.entry_map.specs.Entries.{kept_of};
@@ -158,8 +158,8 @@ fn change_of(entries: &EntryMap, extension: Extension) -> Result<Option<Change>,
     }
 }
 
-/// Puts in an extension: the greater live-until ledger stays.
-pub(crate) fn extend(
+/// Puts in an extension of a key at which the ledgers agree. An entry whose life gets longer is cloned.
+fn extend_still(
     alloc: Global,
     entries: &mut EntryMap,
     moved: &mut Moved,
@@ -174,4 +174,42 @@ pub(crate) fn extend(
         None => Ok(()),
         Some(made) => change(alloc, entries, moved, made),
     }
+}
+
+/// Borrows what the opening ledger has at a key, if the ledgers differ there.
+fn opening_of<'m>(moved: &'m Moved, key: &LedgerKey) -> Option<&'m Option<Box<StoredEntry>>>
+    ensures { option_copied result ≡ get_in key_cmp moved.now key.now }
+{
+    moved.get(key)
+}
+
+/// Takes a key out of those at which the ledgers differ, if it is back as the opening ledger has it.
+fn forget(moved: &mut Moved, key: &LedgerKey, is_back: bool)
+    ensures back { is_back ≡ true → UpdatesBy key_cmp (key_cmp key.now) moved.old moved.new None }
+    ensures stays { is_back ≡ false → moved.new ≡ moved.old }
+{
+    if is_back {
+        let _opening = take_opening(moved, key, None);
+    }
+}
+
+/// Puts in an extension: the greater live-until ledger stays. An entry is cloned only if the ledgers agreed at its key.
+pub(crate) fn extend(
+    alloc: Global,
+    entries: &mut EntryMap,
+    moved: &mut Moved,
+    extension: Extension,
+) -> Result<(), NoMemory>
+    requires { key_format.fits extension.key }
+    ensures entries { OnOk result (entries.new ≡ put_in entries.old extension) }
+    ensures moved { OnOk result ((opening : LedgerMap) → AreMoved opening entries.old moved.old
+        → AreMoved opening entries.new moved.new) }
+{
+    let Some(opening) = opening_of(moved, &extension.key) else {
+        return extend_still(alloc, entries, moved, extension);
+    };
+    entries.raise(&extension.key, extension.live_until);
+    let is_back = are_same(lent(opening), entries.find(&extension.key));
+    forget(moved, &extension.key, is_back);
+    Ok(())
 }

@@ -1,21 +1,18 @@
 -- Plain types in parts.
-use Rattle.std.proofs.Common.{◌≡◌, List, ℕ, ◌++◌, refl, ap}
+use Rattle.std.proofs.Common.{◌≡◌, ◌++◌, refl}
 use Rattle.std.proofs.lemmas.List.{append-nil}
 use Rattle.std.specs.declared.cmp.Ordering.{Ordering}
 use Rattle.std.specs.Ordering.{ordering_then}
 use Rattle.std.specs.Int.{w32, to_be_bytes}
-use Rattle.value_types.specs.Error.{error_format, code_format, kind, code, code_number, number}
-use Rattle.value_types.specs.declared.error.ScErrorCode.{ScErrorCode}
-use Rattle.value_types.specs.declared.error.ScErrorCode.TheVariants as codes
+use Rattle.value_types.specs.Error.{error_format, kind, code, number}
 use Rattle.value_types.specs.declared.error.ScError.{ScError}
-use Rattle.value_types.specs.declared.error.ScError.TheVariants as errors
 use Rattle.value_types.specs.Hash.{hash_format}
 use Rattle.value_types.specs.Address.{address_format, number as address_number, kind as address_kind}
 use Rattle.value_types.specs.declared.address.ScAddress.{ScAddress}
 use Rattle.value_types.specs.declared.address.ScAddress.TheVariants as addresses
 use Rattle.value_xdr.specs.Bytes.{word}
+use Rattle.value_xdr.proofs.Lemmas.{error_bytes}
 use Rattle.value_types.specs.declared.hash.Hash.{Hash}
-use Rattle.xdr_spec.specs.Format.{number32}
 use Rattle.spelled_order.specs.Against.{Against}
 use Rattle.spelled_order.specs.Ranked.{address_rest}
 use Rattle.spelled_order.proofs.Deciding.{both}
@@ -31,32 +28,6 @@ address_bytes (addresses.Contract id) = refl
 address_bytes (addresses.MuxedAccount id ed25519) = refl
 address_bytes (addresses.ClaimableBalance id) = refl
 address_bytes (addresses.LiquidityPool id) = refl
-
-code_bytes : (c : ScErrorCode) → code_format.spell c ≡ to_be_bytes w32 (code_number c)
-unfolding code_format
-code_bytes codes.ArithDomain = refl
-code_bytes codes.IndexBounds = refl
-code_bytes codes.InvalidInput = refl
-code_bytes codes.MissingValue = refl
-code_bytes codes.ExistingValue = refl
-code_bytes codes.ExceededLimit = refl
-code_bytes codes.InvalidAction = refl
-code_bytes codes.InternalError = refl
-code_bytes codes.UnexpectedType = refl
-code_bytes codes.UnexpectedSize = refl
-
-error_bytes : (e : ScError) → error_format.spell e ≡ to_be_bytes w32 (number (kind e)) ++ to_be_bytes w32 (code e)
-unfolding error_format number32
-error_bytes (errors.Contract c) = refl
-error_bytes (errors.WasmVm c) = ap (λ (x : List ℕ). to_be_bytes w32 1 ++ x) (code_bytes c)
-error_bytes (errors.Context c) = ap (λ (x : List ℕ). to_be_bytes w32 2 ++ x) (code_bytes c)
-error_bytes (errors.Storage c) = ap (λ (x : List ℕ). to_be_bytes w32 3 ++ x) (code_bytes c)
-error_bytes (errors.Object c) = ap (λ (x : List ℕ). to_be_bytes w32 4 ++ x) (code_bytes c)
-error_bytes (errors.Crypto c) = ap (λ (x : List ℕ). to_be_bytes w32 5 ++ x) (code_bytes c)
-error_bytes (errors.Events c) = ap (λ (x : List ℕ). to_be_bytes w32 6 ++ x) (code_bytes c)
-error_bytes (errors.Budget c) = ap (λ (x : List ℕ). to_be_bytes w32 7 ++ x) (code_bytes c)
-error_bytes (errors.Value c) = ap (λ (x : List ℕ). to_be_bytes w32 8 ++ x) (code_bytes c)
-error_bytes (errors.Auth c) = ap (λ (x : List ℕ). to_be_bytes w32 9 ++ x) (code_bytes c)
 
 pub errors_decide : (d e : ScError) (o p : Ordering) → Against (to_be_bytes w32 (number (kind d))) (to_be_bytes w32 (number (kind e))) o
     → Against (to_be_bytes w32 (code d)) (to_be_bytes w32 (code e)) p → Against (error_format.spell d) (error_format.spell e) (ordering_then o p)

@@ -15,7 +15,7 @@ use Rattle.value_types.specs.declared.value.Entry.{Entry}
 use Rattle.value_xdr.specs.Bytes.{word}
 use Rattle.spelled_order.specs.Against.{Against}
 use Rattle.spelled_order.specs.Ranked.{ranked_value, ranked_of, ranked_pair, ranked_items, ranked_members, ranked_length}
-use Rattle.spelled_order.proofs.Deciding.{both, first}
+use Rattle.spelled_order.proofs.Deciding.{alike, both, first}
 
 ranked_items-items_of : (ds : List Datum) → ranked_items (items_of ds) ≡ flat_map ranked_of ds
 ranked_items-items_of [] = refl
@@ -86,3 +86,7 @@ pub as_pairs : (d e : Entry) (o : Ordering) → Against (ranked_value d.key ++ r
 as_pairs d e o h =
     subst (λ (x : List ℕ). Against x (ranked_pair (datum_pair e)) o) (pair_bytes d)
     (subst (λ (y : List ℕ). Against (ranked_value d.key ++ ranked_value d.val) y o) (pair_bytes e) h)
+
+-- a value is Equal to itself
+pub same_value : (v w : ScVal) → v ≡ w → Against (ranked_value v) (ranked_value w) Equal
+same_value v w e = subst (λ (u : ScVal). Against (ranked_value v) (ranked_value u) Equal) e (alike (ranked_value v))

@@ -12,7 +12,7 @@ ghost use Rattle.spelled_order.specs.Ranked.{ranked_instance};
 use crate::ranked::{Ranked, cmp_word};
 use crate::text::{cmp_lengths, cmp_text};
 use std::cmp::Ordering;
-use value_types::{Entries, Entry, Instance, ScVal, ScVals};
+use value_types::{Entries, Entry, Instance, ScVal, ScVals, is_same_scalar};
 
 /// Compares with the value in the same arm of `$b`. Both values are of one type, so the other branch is never taken.
 macro_rules! among {
@@ -120,12 +120,25 @@ fn cmp_row(a: &[ScVal], b: &[ScVal]) -> Ordering
     ensures { Against (flat_map ranked_of (datums a.now)) (flat_map ranked_of (datums b.now)) result }
 {
     for (i, x) in a.iter().enumerate() {
-        match cmp_value(x, &b[i]) {
+        match cmp_item(x, &b[i]) {
             Ordering::Equal => {}
             unequal => return unequal,
         }
     }
     Ordering::Equal
+}
+
+/// Compares two members. Those that are the same scalar are told by a quick test.
+#[cycle(rank)]
+#[tactic(auto, using(crate::proofs::Rows::same_value))]
+fn cmp_item(a: &ScVal, b: &ScVal) -> Ordering
+    ensures { Against (ranked_value a.now) (ranked_value b.now) result }
+{
+    if is_same_scalar(a, b) {
+        Ordering::Equal
+    } else {
+        cmp_value(a, b)
+    }
 }
 
 #[cycle(rank)]
@@ -147,8 +160,8 @@ fn cmp_entry(a: &Entry, b: &Entry) -> Ordering
     ensures { Against (ranked_value a.now.key ++ ranked_value a.now.val)
         (ranked_value b.now.key ++ ranked_value b.now.val) result }
 {
-    match cmp_value(&a.key, &b.key) {
-        Ordering::Equal => cmp_value(&a.val, &b.val),
+    match cmp_item(&a.key, &b.key) {
+        Ordering::Equal => cmp_item(&a.val, &b.val),
         unequal => unequal,
     }
 }

@@ -4,12 +4,12 @@ ghost use Rattle.std.specs.Prelude.{◌≡◌, IfOk};
 ghost use Rattle.xdr_core.specs.Reads.{Reads};
 ghost use Rattle.value_types.specs.Address.{type_format, type_lawful, address_format, address_lawful, arms};
 
-use crate::balance_id::{read_balance_id, size_of_balance_id, write_balance_id};
+use crate::balance_id::{read_balance_id, write_balance_id};
 use crate::head::named;
 use crate::xdr::Xdr;
 use std::alloc::Global;
-use value_types::{AccountId, Hash, ScAddress, ScAddressType};
-use xdr_core::{NoMemory, Out, ReadXdr, Words, add_sizes};
+use value_types::{AccountId, Hash, ScAddress, ScAddressType, xdr_size_of_address};
+use xdr_core::{NoMemory, Out, ReadXdr, Words};
 
 #[tactic(auto, unfolding(value_types::specs::Address::type_format, xdr_core::specs::Sizes::capped))]
 impl Xdr for ScAddressType {
@@ -55,7 +55,7 @@ fn read_arm<W: Words>(
     }
 }
 
-#[tactic(auto, unfolding(value_types::specs::Address::address_format, value_types::specs::Address::type_format, xdr_core::specs::Sizes::capped))]
+#[tactic(auto, unfolding(value_types::specs::Address::address_format, value_types::specs::Address::type_format))]
 impl Xdr for ScAddress {
     ghost format = { address_format };
 
@@ -79,14 +79,7 @@ impl Xdr for ScAddress {
     }
 
     fn size(&self) -> u64 {
-        let body = match self {
-            ScAddress::Account(account) => account.size(),
-            ScAddress::Contract(id) => id.size(),
-            ScAddress::MuxedAccount { id, ed25519 } => add_sizes(id.size(), ed25519.size()),
-            ScAddress::ClaimableBalance(id) => size_of_balance_id(id),
-            ScAddress::LiquidityPool(id) => id.size(),
-        };
-        add_sizes(self.kind().size(), body)
+        xdr_size_of_address(*self)
     }
 
     ghost lawful = { address_lawful };

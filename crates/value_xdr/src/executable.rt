@@ -7,8 +7,8 @@ ghost use Rattle.value_types.specs.Executable.{type_format, type_lawful, executa
 use crate::head::named;
 use crate::xdr::Xdr;
 use std::alloc::Global;
-use value_types::{Executable, ExecutableType, Hash};
-use xdr_core::{NoMemory, Out, ReadXdr, Words, add_sizes};
+use value_types::{Executable, ExecutableType, Hash, xdr_size_of_executable};
+use xdr_core::{NoMemory, Out, ReadXdr, Words};
 
 #[tactic(auto, unfolding(value_types::specs::Executable::type_format, xdr_core::specs::Sizes::capped))]
 impl Xdr for ExecutableType {
@@ -45,7 +45,7 @@ fn read_arm<W: Words>(
     }
 }
 
-#[tactic(auto, unfolding(value_types::specs::Executable::executable_format, value_types::specs::Executable::type_format, xdr_core::specs::Sizes::capped))]
+#[tactic(auto, unfolding(value_types::specs::Executable::executable_format, value_types::specs::Executable::type_format))]
 impl Xdr for Executable {
     ghost format = { executable_format };
 
@@ -63,11 +63,7 @@ impl Xdr for Executable {
     }
 
     fn size(&self) -> u64 {
-        let body = match self {
-            Executable::Wasm(hash) => hash.size(),
-            Executable::StellarAsset => 0,
-        };
-        add_sizes(self.kind().size(), body)
+        xdr_size_of_executable(*self)
     }
 
     ghost lawful = { executable_lawful };

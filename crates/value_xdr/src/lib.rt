@@ -26,5 +26,5 @@ pub use blob::{hold_bytes, read_blob, size_of_blob, write_blob};
 pub use head::{named, read_head};
 pub use laws::{one_refusal, one_spelling, prefix_is_read, spelled_or_refused};
 pub use rows::{list_for, read_list, read_row, size_of_list, write_list};
-pub use scval::{val_size, value_from_bytes, value_to_bytes};
+pub use scval::{size_is_length, val_size, value_from_bytes, value_to_bytes};
 pub use xdr::{Xdr, decode, decode_from, encode};

@@ -7,12 +7,15 @@ ghost use Rattle.xdr_spec.specs.Refusal.{Spells};
 ghost use Rattle.xdr_core.specs.Reads.{IsValueUnlessMemory, IsRefusal};
 ghost use Rattle.value_types.specs.declared.value.ScVal.{ScVal as ScValData};
 ghost use Rattle.value_types.specs.Formats.{scval_format, contract_instance_format};
+ghost use Rattle.value_types.specs.Datum.{Datum};
+ghost use Rattle.value_types.specs.XdrSize.{xdr_size_of};
+ghost use Rattle.value_xdr.specs.Bytes.{bytes_of, IsBounded};
 ghost use Rattle.value_types.proofs.Lemmas.{contract_instance_lawful, scval_lawful};
 
 use crate::xdr::{Xdr, decode, encode};
 use crate::{reading, writing};
 use std::alloc::Global;
-use value_types::{Instance, ScVal};
+use value_types::{Instance, ScVal, xdr_size, xdr_size_of_instance};
 use xdr_core::{NoMemory, Out, ReadXdr, Words};
 
 /// The number of levels below a value that stands alone.
@@ -31,7 +34,7 @@ impl Xdr for ScVal {
     }
 
     fn size(&self) -> u64 {
-        writing::size_of_value(self)
+        xdr_size(self)
     }
 
     ghost lawful = { scval_lawful };
@@ -50,7 +53,7 @@ impl Xdr for Instance {
     }
 
     fn size(&self) -> u64 {
-        writing::size_of_instance(self)
+        xdr_size_of_instance(self)
     }
 
     ghost lawful = { contract_instance_lawful };
@@ -73,11 +76,16 @@ pub fn value_to_bytes(alloc: Global, value: &ScVal) -> Result<Vec<u8>, NoMemory>
     encode(alloc, value)
 }
 
-/// The length of a value's spelling in bytes, or `u64::MAX` if it is larger.
+/// The length of a value's spelling in bytes, or `u64::MAX` if it is larger. O(1).
 pub fn val_size(value: &ScVal) -> u64
     ensures spelling { scval_format.fits value.now → result ≡ capped (length (scval_format.spell value.now)) }
     // A value deeper than the bound of spellings is counted alike.
     ensures deeper { IsValueBounded value.now → result ≡ capped (length (value_bytes value.now)) }
 {
-    writing::size_of_value(value)
+    xdr_size(value)
 }
+
+/// Lemma: the size of a value within bounds is the length of its bytes.
+pub fn size_is_length()
+    ensures { (d : Datum) → IsBounded d → xdr_size_of d ≡ length (bytes_of d) }
+{}

@@ -1,7 +1,7 @@
 -- Bytes that are taken piece by piece.
-use Rattle.std.proofs.Common.{◌≡◌, ℕ, ◌+◌, ◌-◌, ◌≤◌, List, ◌++◌, length, take, drop, sym, ap, ◌∙◌, append_assoc, arith}
+use Rattle.std.proofs.Common.{◌≡◌, ℕ, ◌+◌, ◌≤◌, List, ◌++◌, length, take, drop, sym, ap, ◌∙◌, append_assoc, arith}
 use Rattle.std.proofs.lemmas.List.{take-append-drop, length-append, length-take, drop-append-le}
-use Rattle.xdr_spec.specs.Format.{Input, input, after}
+use Rattle.xdr_spec.specs.Format.{Input, after}
 use Rattle.xdr_core.specs.Sources.{Source, IsTold}
 use Rattle.xdr_core.specs.Windowed.{Same, Passes}
 

@@ -1,17 +1,18 @@
 use Rattle.std.proofs.Common.{◌∙◌}
 use Rattle.contract_storage.specs.declared.layer.Undo.{Undo}
-use Rattle.contract_storage.proofs.Laying.{put_back_one}
-use Rattle.contract_storage.proofs.Sound.{put_back_laid, put_back_sound, put_back_there}
+use Rattle.contract_storage.proofs.Undoing.{put_back_one, put_back_within, still_within}
 use Rattle.contract_storage.proofs.layer.put_all_back.Goals as goal
 
-pub loop-key-preserved : goal.loop-key-preserved
-loop-key-preserved c =
-    let u : Undo = record { key = c.in-Some.key; before = c.in-Some.before } in
-    let es = c.loop-key.over.entries in
-    let s = c.loop-key.states.entries in
-    let i = c.loop-key.invariant in (
-      λ base. put_back_one base es _ s _ u c.in-Some.ensures.removal c.put_back.ensures ∙ i.0 base,
-      put_back_sound es _ s _ u c.in-Some.ensures.removal c.put_back.ensures i.1,
-      λ h. put_back_laid es _ s _ u c.in-Some.ensures.removal c.put_back.ensures i.1 (i.2 h),
-      λ e h. put_back_there es _ u c.put_back.ensures e (i.3 e h),
+pub put_back-requires : goal.put_back-requires
+put_back-requires c =
+    let u : Undo = record { at = c.in-Some.at; before = c.in-Some.before } in
+    (put_back_within c.loop-at.states.items c.loop-at.saved.entries _ u c.in-Some.ensures.removal c.loop-at.invariant.1).1
+
+pub loop-at-preserved : goal.loop-at-preserved
+loop-at-preserved c =
+    let u : Undo = record { at = c.in-Some.at; before = c.in-Some.before } in
+    let x = c.loop-at.states.items in
+    let s = c.loop-at.saved.entries in (
+      put_back_one x _ s _ u c.in-Some.ensures.removal c.put_back.ensures ∙ c.loop-at.invariant.0,
+      still_within x _ _ u c.put_back.ensures (put_back_within x s _ u c.in-Some.ensures.removal c.loop-at.invariant.1).0,
     )

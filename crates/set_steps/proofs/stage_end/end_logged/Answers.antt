@@ -2,7 +2,6 @@ use Rattle.std.specs.FinMap.{get}
 use Rattle.std.proofs.Common.{◌<◌, ◌^◌, List, [], length, refl, sym, subst}
 use Rattle.change_log.specs.Log.{Changes}
 use Rattle.set_steps.specs.Lives.{before_lives, AreKeyed, AreLives, Covers}
-use Rattle.set_steps.specs.Sides.{IsListOf}
 use Rattle.set_steps.specs.State.{pending_of}
 use Rattle.set_steps.specs.declared.running.ClusterDone.{ClusterDone}
 use Rattle.set_steps.specs.declared.lives.Life.{Life}

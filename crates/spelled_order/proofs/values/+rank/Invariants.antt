@@ -27,6 +27,9 @@ decreases-cmp_pairs l = 9 * pairs_size (datum_pairs l.a.now) + 5
 abbrev pub decreases-cmp_row : goal.decreases-cmp_row
 decreases-cmp_row l = 9 * data_size (datums l.a.now) + 4
 
+abbrev pub decreases-cmp_item : goal.decreases-cmp_item
+decreases-cmp_item l = 9 * size (datum l.a.now) + 2
+
 abbrev pub decreases-cmp_pair_row : goal.decreases-cmp_pair_row
 decreases-cmp_pair_row l = 9 * pairs_size (datum_pairs l.a.now) + 4
 

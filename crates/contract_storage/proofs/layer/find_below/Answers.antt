@@ -1,5 +1,0 @@
-use Rattle.contract_storage.proofs.Sound.{kept_below}
-use Rattle.contract_storage.proofs.layer.find_below.Goals as goal
-
-pub returns-clause-kept : goal.returns-clause-kept
-returns-clause-kept g c = kept_below _ c.args.key.now c.find.result c.find.ensures.map c.find.ensures.found
