@@ -15,8 +15,7 @@ its files and the processor's instructions of the command, both less those of an
 usage: bench/hostile.py PROGRAM [--only WORD] [--judge] (the built program of crates/soroban_cmd; it needs valgrind)
 
 --only WORD takes the acts and inputs whose name has the word. With --judge the status is 1 if a unit buys more than PRICE times
-what it buys in a call of `bump`, or if it buys more than there and, for ten times the size, the act grows GROWTH times as much as
-its charge, or if an input of ten times the size takes more than LINEAR times the instructions.
+what it buys in a call of `bump`, or if ten times the size takes more than LINEAR times the instructions.
 """
 
 import argparse
@@ -39,7 +38,7 @@ from hostile_files import FILES  # noqa: E402
 from soroban_files import schema  # noqa: E402
 from soroban_files.xdr import Cursor  # noqa: E402
 
-GROWTH, PRICE, LINEAR = 1.5, 10, 14
+PRICE, LINEAR = 100, 14
 BUMPS = (100, 200)
 
 
@@ -99,12 +98,12 @@ class Bump:
     verdicts = words(0)
 
 
-def judged(name, growth, charged, price):
-    """What is wrong with an act, or nothing."""
+def judged(name, growth, price=0):
+    """What is wrong with an act or an input, or nothing."""
     if price > PRICE:
         return [f"{name}: a unit of charge buys {price:.1f} times as much as for `bump`"]
-    if price > 1 and growth > GROWTH * max(1, charged):
-        return [f"{name}: it takes {growth:.1f} times as much for ten times the size, and its charge grows {charged:.1f} times"]
+    if growth > LINEAR:
+        return [f"{name}: it takes {growth:.1f} times as much for ten times the size"]
     return []
 
 
@@ -125,7 +124,7 @@ def print_acts(given, folder):
         price = max(count / charge for count, charge in rows) / unit
         texts = [", ".join(f"{it:,.0f}" for it in column) for column in (sizes, *zip(*rows))]
         print(f"| {name} | {texts[0]} | {texts[1]} | {growth:.1f} | {texts[2]} | {charged:.1f} | {price:.1f} |", flush=True)
-        wrong += judged(name, growth, charged, price)
+        wrong += judged(name, growth, price)
     return wrong
 
 
@@ -141,8 +140,7 @@ def print_files(given, folder):
         growth = rows[-1][1] / rows[-2][1]
         texts = [", ".join(f"{it:,.0f}" for it in column) for column in (sizes, *zip(*rows))]
         print(f"| {name} | {' | '.join(texts)} | {growth:.1f} | {rows[-1][1] / rows[-1][0]:,.0f} |", flush=True)
-        if growth > LINEAR:
-            wrong.append(f"{name}: it takes {growth:.1f} times as much for ten times the size")
+        wrong += judged(name, growth)
     return wrong
 
 

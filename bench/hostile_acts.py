@@ -115,9 +115,14 @@ def lengthens(turn):
     turn.host("extend_current_contract_instance_and_code_ttl", longer, longer).drop()
 
 
+def ending(size, number):
+    """A vec of so many items, the last of which is the number."""
+    return vector([VOID] * (size - 1) + [value_u32(number)])
+
+
 def alike(size):
     """Sixteen keys of so many items that differ in the last one."""
-    return [vector([VOID] * (size - 1) + [value_u32(number)]) for number in range(16)]
+    return [ending(size, number) for number in range(16)]
 
 
 def has_each(turn):
@@ -168,6 +173,11 @@ def entries_for(count, args=(), below=()):
     return [words(0) + invocation(CALLER, "f", args, below)] * count
 
 
+def behind_alike(size):
+    """Four entries for a call with an argument of so many items, behind sixteen whose argument ends in another item."""
+    return [entry for arg in alike(size) for entry in entries_for(1, [arg])] + entries_for(4, [ending(size, 16)])
+
+
 def signatures(size):
     """So many signed authorisation entries, and what the verdicts say of them."""
     return [signed(nonce, invocation(CALLER, "f", [])) for nonce in range(size)]
@@ -210,6 +220,8 @@ DEMANDS = [
         lambda n: [voids(n)], lambda n: entries_for(100, [voids(n)]), lambda n: (1, 3))),
     ("a demand with n arguments, 100 entries", MEDIUM, demanding(
         lambda n: [VOID] * n, lambda n: entries_for(100, [VOID] * n), lambda n: (1, 3))),
+    ("a demand with an argument of n, behind 16 entries that differ at its end", MEDIUM, demanding(
+        lambda n: [ending(n, 16)], behind_alike, lambda n: (1, 3))),
     ("a call that demands one of n nodes below a root", SMALL, demanding_below),
     ("a caught call that demands what none of n entries has", (20, 200, 2_000), demanding_in_vain),
 ]  # fmt: skip

@@ -9,6 +9,7 @@ mod nodes;
 mod records;
 mod search;
 mod tables;
+mod telling;
 
 pub use authority::{Authorising, Authority};
 pub use entries::is_caller;

@@ -11,8 +11,10 @@ ghost use Rattle.auth_trees.specs.Ready.{IsReady, AreWithin, KnowsNone, HaveChil
 use crate::entries::is_known;
 use crate::nodes::Node;
 use crate::tables::{Deepest, Tables};
+use crate::telling::{Hint, is_same};
 use auth_types::{AuthEntry, Invocation};
 use invoke_types::Function;
+use value_paths::Cases;
 use value_types::ScAddress;
 
 /// A node that meets a demand.
@@ -26,15 +28,25 @@ pub(crate) struct Found {
     pub first: bool,
 }
 
-/// Whether a tree is not taken and has this function.
-fn is_open(taken: bool, tree: &Invocation, function: &Function) -> bool
+/// Whether a tree, whose node has a number, is not taken and has this function.
+fn is_open(
+    cases: &Cases,
+    hint: &mut Hint,
+    number: usize,
+    taken: bool,
+    tree: &Invocation,
+    function: &Function,
+) -> bool
     ensures { result ≡ (not taken && same_function tree.now.function function.now) }
 {
-    !taken && tree.function == *function
+    !taken && is_same(cases, hint, number, &tree.function, function)
 }
 
 /// Whether the root of an entry, which may meet demands for the known address, is unused and has this function.
 fn is_open_root(
+    cases: &Cases,
+    hint: &mut Hint,
+    number: usize,
     used: bool,
     known: &Option<ScAddress>,
     address: ScAddress,
@@ -43,11 +55,21 @@ fn is_open_root(
 ) -> bool
     ensures { result ≡ (not used && is_known address known.now && same_function entry.now.root_invocation.function function.now) }
 {
-    !used && is_known(*known, address) && entry.root_invocation.function == *function
+    !used
+        && is_known(*known, address)
+        && is_same(
+            cases,
+            hint,
+            number,
+            &entry.root_invocation.function,
+            function,
+        )
 }
 
 /// Finds the first tree in a row that is not taken and has this function. The nodes of the row stand from an index on.
 fn first_open(
+    cases: &Cases,
+    hint: &mut Hint,
     nodes: &[Node<'_>],
     taken: &[bool],
     start: usize,
@@ -60,7 +82,7 @@ fn first_open(
 {
     let mut id = start;
     for tree in row {
-        if is_open(taken[id], tree, function) {
+        if is_open(cases, hint, id, taken[id], tree, function) {
             return Some(id);
         }
         id += nodes[id].size;
@@ -70,6 +92,8 @@ fn first_open(
 
 /// Finds the first such child of a node.
 fn open_below(
+    cases: &Cases,
+    hint: &mut Hint,
     nodes: &[Node<'_>],
     taken: &[bool],
     best: Deepest,
@@ -82,7 +106,7 @@ fn open_below(
 {
     let tree = nodes[best.node].tree;
     let row = tree.sub_invocations.as_slice();
-    first_open(nodes, taken, best.node + 1, row, function)
+    first_open(cases, hint, nodes, taken, best.node + 1, row, function)
 }
 
 /// A node of an entry that is a child of another one.
@@ -102,6 +126,7 @@ fn child_of(entry: usize, node: Option<usize>) -> Option<Found>
 /// Finds the child of an entry that meets a demand.
 fn child_in(
     tables: &Tables<'_>,
+    hint: &mut Hint,
     address: ScAddress,
     function: &Function,
     entry: usize,
@@ -122,6 +147,8 @@ fn child_in(
             child_of(
                 entry,
                 open_below(
+                    &tables.cases,
+                    hint,
                     tables.nodes.as_slice(),
                     tables.taken.as_slice(),
                     best,
@@ -133,7 +160,12 @@ fn child_in(
 }
 
 /// Finds the first child that meets a demand.
-fn find_child(tables: &Tables<'_>, address: ScAddress, function: &Function) -> Option<Found>
+fn find_child(
+    tables: &Tables<'_>,
+    hint: &mut Hint,
+    address: ScAddress,
+    function: &Function,
+) -> Option<Found>
     requires ready { IsReady tables.now }
     requires within { AreWithin tables.now }
     requires none { KnowsNone tables.now }
@@ -143,7 +175,7 @@ fn find_child(tables: &Tables<'_>, address: ScAddress, function: &Function) -> O
         return None;
     }
     for (entry, known) in tables.addresses.iter().enumerate() {
-        match child_in(tables, address, function, entry, *known) {
+        match child_in(tables, hint, address, function, entry, *known) {
             None => (),
             Some(found) => return Some(found),
         }
@@ -152,7 +184,12 @@ fn find_child(tables: &Tables<'_>, address: ScAddress, function: &Function) -> O
 }
 
 /// Finds the first root that meets a demand.
-fn find_root(tables: &Tables<'_>, address: ScAddress, function: &Function) -> Option<Found>
+fn find_root(
+    tables: &Tables<'_>,
+    hint: &mut Hint,
+    address: ScAddress,
+    function: &Function,
+) -> Option<Found>
     requires { IsReady tables.now }
     ensures { result ≡ root_found tables.now address function.now }
 {
@@ -160,7 +197,16 @@ fn find_root(tables: &Tables<'_>, address: ScAddress, function: &Function) -> Op
     for (entry, item) in tables.entries.iter().enumerate() {
         let used = tables.used[entry];
         let known = &tables.addresses[entry];
-        if is_open_root(used, known, address, item, function) {
+        if is_open_root(
+            &tables.cases,
+            hint,
+            id,
+            used,
+            known,
+            address,
+            item,
+            function,
+        ) {
             return Some(Found {
                 entry,
                 node: id,
@@ -179,8 +225,9 @@ pub(crate) fn find(tables: &Tables<'_>, address: ScAddress, function: &Function)
     requires none { KnowsNone tables.now }
     ensures { result ≡ found tables.now address function.now }
 {
-    match find_child(tables, address, function) {
+    let mut hint = Hint::new(&tables.cases, &tables.nodes, function);
+    match find_child(tables, &mut hint, address, function) {
         Some(found) => Some(found),
-        None => find_root(tables, address, function),
+        None => find_root(tables, &mut hint, address, function),
     }
 }

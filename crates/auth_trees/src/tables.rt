@@ -10,8 +10,10 @@ ghost use Rattle.auth_trees.specs.Ready.{IsReady, IsMarked, IsCurrent};
 use crate::entries::authorisers;
 use crate::nodes::{Node, list_entries};
 use crate::records::{KnownPath, Record, is_below};
+use crate::telling::tell_apart;
 use auth_types::AuthEntry;
 use std::alloc::Global;
+use value_paths::Cases;
 use value_types::{AccountId, ScAddress};
 use xdr_core::NoMemory;
 
@@ -23,6 +25,8 @@ pub(crate) struct Tables<'a> {
     pub addresses: Vec<Option<ScAddress>>,
     /// The nodes of all entries: each before its children, these in order.
     pub nodes: Vec<Node<'a>>,
+    /// Tells nodes with long arguments apart. Nothing that is claimed rests on it.
+    pub cases: Cases,
     /// The path for which the rest is that of the records. It is `None` if the rest has to be computed anew.
     pub path: KnownPath,
     /// Whether each node has a record.
@@ -140,6 +144,7 @@ pub(crate) fn prepare<'a>(
 {
     let addresses = authorisers(alloc, entries, source)?;
     let nodes = list_entries(alloc, entries)?;
+    let cases = tell_apart(alloc, &nodes)?;
     let taken = vec![in alloc; false; nodes.len()]?;
     let used = vec![in alloc; false; entries.len()]?;
     let deepest = vec![in alloc; None; entries.len()]?;
@@ -148,6 +153,7 @@ pub(crate) fn prepare<'a>(
         entries,
         addresses,
         nodes,
+        cases,
         path,
         taken,
         used,

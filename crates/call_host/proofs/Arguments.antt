@@ -4,7 +4,8 @@ use Rattle.std.specs.Option.{option_map}
 use Rattle.std.specs.declared.alloc.Global.{Global}
 use Rattle.std.proofs.Common.{◌≡◌, ℕ, ◌≤◌, ◌==◌, List, [], ◌∷◌, length, Bool, true, false, Option, Some, None, Result, Ok, Err, refl, sym, ap, ◌∙◌, subst, arith, length-append}
 use Rattle.budget_meter.specs.Meter.{Meter}
-use Rattle.value_types.specs.Datum.{Datum, vec, items_of}
+use Rattle.value_types.specs.Datum.{Datum, vec, items_of, list_of_items}
+use Rattle.value_types.proofs.Lemmas.{items_there}
 use Rattle.value_types.specs.Depth.{items_depth}
 use Rattle.value_types.specs.Views.{datums}
 use Rattle.value_types.specs.Hash.{hash_of}
@@ -50,6 +51,10 @@ hosted_by_size ds h small = hosted_items ds (items_made ds h.made) (omega (arith
 -- the items of a vec that the host holds
 pub items_are_hosted : (vs ws : List ScVal) → vs ≡ ws → IsHosted (vec (items_of (datums ws))) → AreHosted (datums vs)
 items_are_hosted vs ws e h = subst (λ (x : List ScVal). AreHosted (datums x)) (sym e) (hosted_by_size (datums ws) h h.sized)
+
+-- a vec has just one list of items
+pub items_of_vec : (a b : List Datum) → vec (items_of a) ≡ vec (items_of b) → a ≡ b
+items_of_vec a b e = let same : items_of a ≡ items_of b = cc in sym (items_there a) ∙ ap list_of_items same ∙ items_there b
 
 -- ---- hashes
 

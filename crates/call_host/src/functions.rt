@@ -9,9 +9,9 @@ ghost use Rattle.host_ledger.specs.Worlds.{called_name, called_args};
 
 use host_ledger::clone_values;
 use host_spec::HostErr;
-use invoke_types::{Function, InvokeContractArgs};
+use invoke_types::{Args, Function, InvokeContractArgs};
 use std::alloc::Global;
-use value_types::{Blob, Bytes, Hash, Items, ScAddress, ScVal};
+use value_types::{Blob, Bytes, Hash, ScAddress, ScVal};
 
 /// Clones bytes. Its only error is memory.
 pub fn clone_bytes(alloc: Global, bytes: &[u8]) -> Result<Vec<u8>, HostErr>
@@ -36,22 +36,41 @@ pub fn clone_args(alloc: Global, args: &[ScVal]) -> Result<Vec<ScVal>, HostErr>
 }
 
 /// The function of a contract with this name and these arguments. Takes no memory.
-pub fn contract_function(contract: Hash, name: Vec<u8>, args: Vec<ScVal>) -> Function
+pub fn contract_function(contract: Hash, name: Vec<u8>, args: Args) -> Function
     ensures { result
         ≡ functions.ContractFn (record {
           contract = addresses.Contract contract;
           function = name.items;
-          args = args.items;
+          args = args;
         }) }
 {
     let content = Blob::from_vec(name);
     let name = Bytes::from_blob(content);
-    let values = Items::from_vec(args);
     Function::ContractFn(InvokeContractArgs {
         contract: ScAddress::Contract(contract),
         function: name,
-        args: values,
+        args,
     })
+}
+
+/// The same of arguments that nothing shares yet. Its only error is memory.
+pub(crate) fn function_of_values(
+    contract: Hash,
+    name: Vec<u8>,
+    args: Vec<ScVal>,
+) -> Result<Function, HostErr>
+    ensures ok { IfOk result (λ f. f
+        ≡ functions.ContractFn (record {
+          contract = addresses.Contract contract;
+          function = name.items;
+          args = args.items;
+        })) }
+    ensures memory { IfErr result (λ e. e ≡ ends.NoMemory) }
+{
+    match Args::from_vec(args) {
+        Ok(args) => Ok(contract_function(contract, name, args)),
+        Err(_) => Err(HostErr::NoMemory),
+    }
 }
 
 /// The name of a contract's function. A create has none.

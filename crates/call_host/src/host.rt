@@ -18,7 +18,7 @@ use contract_storage::{Storage, Watch};
 use entry_lookup::Ground;
 use host_ledger::{Events, Frame, HostLedger, InstanceCopy, InstanceStorage};
 use host_spec::HostErr;
-use invoke_types::Function;
+use invoke_types::{Args, Function};
 use ledger_types::{Header, Verdicts};
 use object_store::{Objects, Shown};
 use std::alloc::Global;
@@ -63,8 +63,7 @@ fn no_function(alloc: Global, contract: Hash) -> Function
     ensures called { IsCallOf contract result }
 {
     let name = Vec::new(alloc);
-    let args = Vec::new(alloc);
-    contract_function(contract, name, args)
+    contract_function(contract, name, Args::none())
 }
 
 /// The frame of no contract: the transaction itself.

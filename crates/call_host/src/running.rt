@@ -18,7 +18,7 @@ ghost use Rattle.call_host.specs.Running.{IsFrameFor, StaysIn};
 ghost use Rattle.host_spec.specs.declared.error.HostErr.TheVariants as ends;
 
 use crate::frames::{argument_words, finish};
-use crate::functions::{args_of, clone_bytes, contract_function};
+use crate::functions::{args_of, clone_bytes, function_of_values};
 use crate::host::Host;
 use auth_trees::Authority;
 use call_parts::clone_copy;
@@ -50,21 +50,20 @@ pub fn new_frame(
         Err(error) => Err(error),
         Ok(name) => match clone_copy(&copy) {
             Err(error) => Err(error),
-            Ok(first) => {
-                let function = contract_function(contract, name, args);
-                let shown = Shown::new(alloc);
-                Ok(Frame {
+            Ok(first) => match function_of_values(contract, name, args) {
+                Err(error) => Err(error),
+                Ok(function) => Ok(Frame {
                     contract,
                     caller,
                     function,
                     code: copy.code,
                     first,
                     copy,
-                    shown,
+                    shown: Shown::new(alloc),
                     path,
                     begun: 0,
-                })
-            }
+                }),
+            },
         },
     }
 }

@@ -3,8 +3,8 @@
 ghost use Rattle.std.specs.Prelude.{◌≡◌, List, [], ◌∷◌, length, IfOk, IfErr};
 ghost use Rattle.std.specs.Option.{option_map};
 ghost use Rattle.budget_meter.specs.Meter.{Meter};
-ghost use Rattle.value_types.specs.Datum.{Datum};
-ghost use Rattle.value_types.specs.Views.{datums};
+ghost use Rattle.value_types.specs.Datum.{Datum, vec as vec_datum, items_of};
+ghost use Rattle.value_types.specs.Views.{datum, datums};
 ghost use Rattle.host_interface.specs.declared.kinds.ArgKind.TheVariants as kinds;
 ghost use Rattle.host_spec.specs.Hosted.{AreHosted};
 ghost use Rattle.host_spec.specs.declared.error.ValueErr.TheVariants as errs;
@@ -30,6 +30,7 @@ use entry_lookup::Ground;
 use host_frame::{Values, enter};
 use host_ledger::{HostLedger, clone_values};
 use host_spec::{HostErr, ValueErr};
+use invoke_types::Args;
 use std::alloc::Global;
 use value_types::{Hash, ScAddress, ScVal};
 
@@ -45,7 +46,7 @@ pub struct CallArgs {
 #[derive(Drop)]
 pub struct AuthArgs {
     pub address: ScAddress,
-    pub args: Vec<ScVal>,
+    pub args: Args,
 }
 
 /// What makes a contract. Without constructor arguments it is a CREATE_CONTRACT, with them, even with none, a CREATE_CONTRACT_V2.
@@ -348,17 +349,30 @@ pub fn auth_words<G: Ground, A: Authority, W: Watch>(
     }
 }
 
+/// The items of a vec, shared. Its only error is memory.
+#[tactic(auto, using(crate::proofs::Arguments::items_of_vec))]
+fn share_items(alloc: Global, vec: &ScVal, items: &[ScVal]) -> Result<Args, ValueErr>
+    requires { vec_datum (items_of (datums items.now)) ≡ datum vec.now }
+    ensures ok { IfOk result (λ args. datums args ≡ datums items.now) }
+    ensures memory { IfErr result (λ e. e ≡ errs.NoMemory) }
+{
+    match vec {
+        ScVal::Vec(Some(values)) => Ok(Args::of(values)?),
+        _ => Ok(Args::from_vec(clone_values(alloc, items)?)?),
+    }
+}
+
 /// The arguments of `require_auth_for_args`, after the charges of the call.
 fn auth_args(values: &Values<'_>, budget: &mut Budget, a: u64, b: u64) -> Result<AuthArgs, HostErr>
     ensures takes { (rule : Rule (kinds.Address ∷ kinds.Vec ∷ []))
         → Takes result (answered (kinds.Address ∷ kinds.Vec ∷ []) rule (a ∷ b ∷ []))
-        (λ x. rule x.address (datums x.args.items)) values.now budget.old budget.new }
+        (λ x. rule x.address (datums x.args)) values.now budget.old budget.new }
     ensures key { IfErr result IsKeySpelled }
 {
     let address = values.address(a)?;
-    let args = values.vec(b)?;
+    let (vec, items) = values.whole_vec(b)?;
     enter(budget, &[a, b])?;
-    let args = clone_values(values.allocator(), args)?;
+    let args = share_items(values.allocator(), vec, items)?;
     Ok(AuthArgs { address, args })
 }
 
@@ -371,7 +385,7 @@ fn auth_for_args_taken<G: Ground, W: Watch>(
     requires { AreIndices ledger.old.objects ledger.old.frame.shown }
     ensures takes { (rule : Rule (kinds.Address ∷ kinds.Vec ∷ []))
         → Takes result (answered (kinds.Address ∷ kinds.Vec ∷ []) rule (a ∷ b ∷ []))
-        (λ x. rule x.address (datums x.args.items))
+        (λ x. rule x.address (datums x.args))
         (shown_of ledger.old.objects ledger.old.frame.shown) ledger.old.budget ledger.new.budget }
     ensures paid { ledger.new ≡ record ledger.old { budget = ledger.new.budget } }
     ensures key { IfErr result IsKeySpelled }
@@ -389,7 +403,7 @@ pub fn auth_for_args_words<G: Ground, A: Authority, W: Watch>(
     requires arity { length words.now ≡ 2 }
     ensures takes { (rule : Env → Rule (kinds.Address ∷ kinds.Vec ∷ []))
         → TakesIn result (λ env. answered (kinds.Address ∷ kinds.Vec ∷ []) (rule env) words.now)
-        (λ env x. rule env x.address (datums x.args.items)) host.old host.new }
+        (λ env x. rule env x.address (datums x.args)) host.old host.new }
     ensures stays { StaysIn host.old host.new }
     ensures key { IfErr result IsKeySpelled }
 {

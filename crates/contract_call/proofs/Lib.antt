@@ -7,6 +7,7 @@ mod Construction
 mod Demanding
 mod Dividing
 mod Ending
+mod Given
 mod Looping
 mod Opening
 mod Possible

@@ -35,11 +35,11 @@ use entry_lookup::Ground;
 use host_frame::Answer;
 use host_ledger::{Frame, HostLedger, InstanceCopy, InstanceStorage, code_key, end_of, made_seq};
 use host_spec::HostErr;
-use invoke_types::{CreateContractArgs, CreateContractArgsV2, Function, Preimage};
+use invoke_types::{Args, CreateContractArgs, CreateContractArgsV2, Function, Preimage};
 use ledger_types::Settings;
 use module_loader::LinkedModule;
 use std::alloc::Global;
-use value_types::{Executable, Hash, Items, ScAddress, ScVal};
+use value_types::{Executable, Hash, ScAddress, ScVal};
 use wasm_run::function_named;
 
 /// The length of a code, and the module that it encodes, if it encodes one.
@@ -82,13 +82,27 @@ pub(crate) fn paid_id<G: Ground, A: Authority, W: Watch>(
 }
 
 /// Clones the arguments of a constructor. Its only error is memory.
-fn clone_given(alloc: Global, args: &Option<Vec<ScVal>>) -> Result<Option<Vec<ScVal>>, HostErr>
-    ensures ok { IfOk result (λ clone. option_map items_of clone ≡ option_map items_of args.now) }
+fn clone_args_of(alloc: Global, args: &Vec<ScVal>) -> Result<Args, HostErr>
+    ensures ok { IfOk result (λ clone. clone ≡ args.now.items) }
+    ensures memory { IfErr result (λ e. e ≡ ends.NoMemory) }
+{
+    match clone_args(alloc, args.as_slice()) {
+        Err(error) => Err(error),
+        Ok(args) => match Args::from_vec(args) {
+            Ok(args) => Ok(args),
+            Err(_) => Err(HostErr::NoMemory),
+        },
+    }
+}
+
+/// Clones the arguments of a constructor, if there are any. Its only error is memory.
+fn clone_given(alloc: Global, args: &Option<Vec<ScVal>>) -> Result<Option<Args>, HostErr>
+    ensures ok { IfOk result (λ clone. clone ≡ option_map items_of args.now) }
     ensures memory { IfErr result (λ e. e ≡ ends.NoMemory) }
 {
     match args {
         None => Ok(None),
-        Some(args) => match clone_args(alloc, args.as_slice()) {
+        Some(args) => match clone_args_of(alloc, args) {
             Ok(args) => Ok(Some(args)),
             Err(error) => Err(error),
         },
@@ -96,8 +110,8 @@ fn clone_given(alloc: Global, args: &Option<Vec<ScVal>>) -> Result<Option<Vec<Sc
 }
 
 /// The function of a create, as an authorisation names it.
-fn named_create(deployer: ScAddress, code: Hash, salt: Hash, args: Option<Vec<ScVal>>) -> Function
-    ensures { result ≡ function_of (creation_of (record { deployer = deployer; code = code; salt = salt; args = args })) }
+fn named_create(deployer: ScAddress, code: Hash, salt: Hash, args: Option<Args>) -> Function
+    ensures { result ≡ function_of (record { deployer = deployer; code = code; salt = salt; args = option_map datums args }) }
 {
     let preimage = Preimage::FromAddress {
         address: deployer,
@@ -112,7 +126,7 @@ fn named_create(deployer: ScAddress, code: Hash, salt: Hash, args: Option<Vec<Sc
         Some(args) => Function::CreateContractV2(CreateContractArgsV2 {
             preimage,
             executable,
-            constructor_args: Items::from_vec(args),
+            constructor_args: args,
         }),
     }
 }

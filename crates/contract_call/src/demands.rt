@@ -27,17 +27,17 @@ use entry_lookup::Ground;
 use host_frame::Answer;
 use host_ledger::HostLedger;
 use host_spec::HostErr;
-use invoke_types::Function;
+use invoke_types::{Args, Function};
 use ledger_types::Verdicts;
 use value_types::{Hash, ScVal};
 
 /// The running frame's function with these arguments, as an authorisation names it. Its only error is memory.
 pub(crate) fn call_with<G: Ground, A: Authority, W: Watch>(
     host: &Host<'_, G, A, W>,
-    args: Vec<ScVal>,
+    args: Args,
 ) -> Result<Function, HostErr>
     ensures ok { IfOk result (λ f. f ≡ called host.now.ledger.frame.contract (called_name host.now.ledger.frame.function)
-        (datums args.items)) }
+        (datums args)) }
     ensures memory { IfErr result (λ e. e ≡ ends.NoMemory) }
 {
     match clone_bytes(host.allocator(), name_of(&host.ledger.frame.function)) {

@@ -12,3 +12,4 @@ mod Slotting
 mod Tabling
 mod Touching
 mod Undoing
+mod Widening

@@ -4,9 +4,9 @@ use Rattle.std.specs.Option.{option_and_then, option_map}
 use Rattle.std.specs.Ordering.{is_eq, eq_by_cmp}
 use Rattle.std.specs.Cmp.Lexicographic.{nat_list_cmp_total}
 use Rattle.std.specs.Str.{bytes_eq}
-use Rattle.std.proofs.Common.{◌≡◌, ℕ, zero, suc, ◌<◌, Bool, true, false, List, [], ◌∷◌, ◌++◌, length, Option, Some, None, refl, sym, ap, ap₂, subst, ◌∙◌, arith}
+use Rattle.std.proofs.Common.{◌≡◌, ℕ, zero, suc, ◌<◌, Bool, true, false, List, [], ◌∷◌, ◌++◌, length, Option, Some, None, ◌⊎◌, inl, inr, refl, sym, ap, ap₂, subst, ◌∙◌, arith}
 use Rattle.std.proofs.lemmas.Cmp.{tied_itself}
-use Rattle.std.proofs.lemmas.Option.{slice_get_within}
+use Rattle.std.proofs.lemmas.Option.{same_Some, slice_get_within}
 use Rattle.std.proofs.lemmas.Map.Text.{is_eq-slice_cmp}
 use Rattle.ledger_types.specs.Key.{key_format}
 use Rattle.ledger_types.specs.KeyOrder.{ranked_key}
@@ -14,6 +14,7 @@ use Rattle.ledger_types.specs.declared.key.LedgerKey.{LedgerKey}
 use Rattle.ledger_types.proofs.Lemmas.{key_ranked}
 use Rattle.ledger_spec.specs.LedgerMap.{key_bytes}
 use Rattle.contract_storage.specs.Footprint.{with_key}
+use Rattle.contract_storage.specs.Listed.{AreApart}
 use Rattle.contract_storage.specs.Places.{at, has_bytes, named, place_at, place_in, IsSpot}
 use Rattle.contract_storage.specs.declared.spot.Spot.{Spot}
 use Rattle.contract_storage.proofs.Laying.{order, antisymmetric, equal_from, swap}
@@ -141,6 +142,32 @@ pub place_last : (k : LedgerKey) (w : Bool) (keys : Keys) → place_in k keys �
 place_last k w keys e =
     place_new (ranked_key k) k w keys e
     ∙ ap (λ (b : Bool). cond b (Some (length keys)) (place_in k keys)) (bytes_itself k)
+
+-- keys that are apart are so with a new one
+stays_at : (o : Option ℕ) (b : Bool) (i n : ℕ) → o ≡ Some i → (b ≡ true → o ≡ None) → cond b (Some n) o ≡ Some i
+stays_at o false i n e f = e
+stays_at o true i n e f = let h : None ≡ Some i = sym (f refl) ∙ e in absurd cc
+
+pub apart_more : (k : LedgerKey) (w : Bool) (keys : Keys) → place_in k keys ≡ None → AreApart keys → AreApart (keys ++ (k, w) ∷ [])
+apart_more k w keys absent apart i x e =
+    elim (split_at keys (k, w) i x e) [
+      | inl old ↦
+          let f : has_bytes (ranked_key x.0) k ≡ true → place_in x.0 keys ≡ None =
+          λ b. ap (λ (q : List ℕ). place_at q keys) (bytes_are (ranked_key x.0) k b) ∙ absent in
+          place_new (ranked_key x.0) k w keys absent ∙ stays_at (place_in x.0 keys) (has_bytes (ranked_key x.0) k) i (length keys) (apart i x old) f
+      | inr new ↦
+          ap (λ (y : LedgerKey × Bool). place_in y.0 (keys ++ (k, w) ∷ [])) (sym new.1) ∙ place_last k w keys absent ∙ ap (λ (n : ℕ). Some n) (sym new.0)
+    ]
+  where
+    split_at : (ks : Keys) (y : LedgerKey × Bool) (j : ℕ) (z : LedgerKey × Bool) → slice_get (ks ++ y ∷ []) j ≡ Some z
+        → (slice_get ks j ≡ Some z) ⊎ ((j ≡ length ks) × (y ≡ z))
+    split_at [] y zero z h = inr (refl, same_Some y z h)
+    split_at [] y (suc j) z h = cc
+    split_at (a ∷ ks) y zero z h = inl h
+    split_at (a ∷ ks) y (suc j) z h = elim (split_at ks y j z h) [
+      | inl old ↦ inl old
+      | inr new ↦ inr (ap (λ (n : ℕ). suc n) new.0, new.1)
+    ]
 
 -- a new key, with what is known of it
 pub named_more : {X : Type 0} (keys : Keys) (xs : List X) (k : LedgerKey) (w : Bool) (x : X) → length xs ≡ length keys

@@ -19,7 +19,7 @@ use Rattle.ledger_spec.proofs.Lemmas.{kept_at}
 use Rattle.entry_lookup.specs.Found.{kept_of}
 use Rattle.entry_lookup.specs.declared.ground.Found.{Found}
 use Rattle.contract_storage.specs.Differences.{AreDifferences, differences}
-use Rattle.contract_storage.specs.Listed.{keys_in, AreMarked, IsSlot, IsTable, WasNoted}
+use Rattle.contract_storage.specs.Listed.{keys_in, AreApart, AreMarked, IsSlot, IsTable, WasNoted}
 use Rattle.contract_storage.specs.Overlays.{shown, IsLaid, IsState}
 use Rattle.contract_storage.specs.Places.{at, has_bytes, named, place_at, place_in}
 use Rattle.contract_storage.specs.declared.changes.Change.{Change}
@@ -29,7 +29,7 @@ use Rattle.contract_storage.specs.declared.touched.Touch.{Touch}
 use Rattle.contract_storage.proofs.Changing.{AreAt, are_differences, each_at, rises}
 use Rattle.contract_storage.proofs.Laying.{order, antisymmetric, at_inserted, over_same}
 use Rattle.contract_storage.proofs.Layers.{held_there}
-use Rattle.contract_storage.proofs.Placing.{Keys, at_named, place_new, stands, within}
+use Rattle.contract_storage.proofs.Placing.{Keys, apart_more, at_named, place_new, stands, within}
 use Rattle.contract_storage.specs.Touched.{index_in, stronger, touch}
 use Rattle.contract_storage.specs.declared.access.Access.{Access}
 use Rattle.contract_storage.specs.declared.touched.Noted.TheVariants.{Again, First}
@@ -121,10 +121,20 @@ added base es fs slots marks ts slot n is one absent count e =
           ∙ ap (λ (o : Option ℕ). cond (has_bytes q slot.key) (Some n) o) (is.places q)
           ∙ ap (λ (i : ℕ). cond (has_bytes q slot.key) (Some i) (place_at q (keys_in slots))) (count ∙ sym len)
           ∙ sym (ap (place_at q) more ∙ place_new q slot.key slot.writes (keys_in slots) absent);
+      apart = subst AreApart (sym more) (apart_more slot.key slot.writes (keys_in slots) absent is.apart);
       each = length_push marks None ∙ ap (λ (i : ℕ). i + 1) is.each ∙ sym (length_push slots slot);
       marked = subst (λ (ks : Keys). AreMarked ks (marks ++ None ∷ []) ts) (sym more)
           (marks_more (keys_in slots) marks ts slot.key slot.writes is.marked (is.each ∙ sym len));
     }
+
+-- the slot with a key is at its place
+pub slot_is : (slots : List Slot) (i : ℕ) (slot : Slot) (key : LedgerKey) → AreApart (keys_in slots) → i < length slots → slot ≡ slice_index_or slots i slot → slot.key ≡ key
+    → Some i ≡ place_in key (keys_in slots)
+slot_is slots i slot key apart w e is =
+    let there : slice_get slots i ≡ Some slot = slice_get_read slots (length slots) i slot refl w e in
+    let named : slice_get (keys_in slots) i ≡ Some (slot.key, slot.writes) =
+    slice_get-map (λ (x : Slot). (x.key, x.writes)) slots i ∙ ap (option_map (λ (x : Slot). (x.key, x.writes))) there in
+    sym (apart i (slot.key, slot.writes) named) ∙ ap (λ (k : LedgerKey). place_in k (keys_in slots)) is
 
 -- ---- the changes
 
@@ -221,11 +231,11 @@ pushed_is a k again ts us first same e = e ∙ ap (λ (x : LedgerKey). ts ++ rec
 module _ (base : LedgerMap) (es : List (LedgerKey × ℕ)) (slots : List Slot) (marks : List (Option ℕ)) (ts : List Touch) (is : IsTable base es slots marks ts) where
   -- the table with other touched keys
   retouched : (us : List Touch) → AreMarked (keys_in slots) marks us → IsTable base es slots marks us
-  retouched us marked = record { right = is.right; fits = is.fits; places = is.places; each = is.each; marked = marked }
+  retouched us marked = record { right = is.right; fits = is.fits; places = is.places; apart = is.apart; each = is.each; marked = marked }
 
   -- the same with another mark
   remarked : (i : ℕ) (m : Option ℕ) (us : List Touch) → AreMarked (keys_in slots) (slice_set marks i m) us → IsTable base es slots (slice_set marks i m) us
-  remarked i m us marked = record { right = is.right; fits = is.fits; places = is.places; each = length-set marks i m ∙ is.each; marked = marked }
+  remarked i m us marked = record { right = is.right; fits = is.fits; places = is.places; apart = is.apart; each = length-set marks i m ∙ is.each; marked = marked }
 
   -- after an access to a key that was touched
   pub noted_again : (a : Access) (k : LedgerKey) (i : ℕ) (x y : Touch) (s : Access) → key_format.fits k → index_in k ts ≡ Some i → x ≡ slice_index_or ts i x → y ≡ slice_index_or ts i y

@@ -1,5 +1,5 @@
 -- The table of slots: keys with what the ground has at them, and the touched keys (own).
-use Rattle.std.specs.Prelude.{◌≡◌, ℕ, Bool, List, Option, Some, IfSome, length, map, refl}
+use Rattle.std.specs.Prelude.{◌≡◌, ℕ, Bool, List, Option, Some, IfSome, length, map, slice_get, refl}
 use Rattle.std.specs.Coded.{Coded, code_by, coded×, coded_bool, coded_list}
 use Rattle.std.specs.List.{AllByRecursion}
 use Rattle.std.specs.Option.{option_flatten, option_map}
@@ -47,12 +47,17 @@ pub record AreMarked (keys : List (LedgerKey × Bool)) (marks : List (Option ℕ
   pub mark : (key : LedgerKey) → key_format.fits key → mark_of keys marks key ≡ index_in key touches
   pub spelled : AreSpelled touches
 
--- The slots are right, the index has the place of each key, and each slot has its mark.
+-- each key is at its own place, so no two are the same
+abbrev pub AreApart : List (LedgerKey × Bool) → Type 0
+AreApart keys = (i : ℕ) (k : LedgerKey × Bool) → slice_get keys i ≡ Some k → place_in k.0 keys ≡ Some i
+
+-- The slots are right and apart, the index has the place of each key, and each slot has its mark.
 pub record IsTable (base : LedgerMap) (index : List (LedgerKey × ℕ)) (slots : List Slot) (marks : List (Option ℕ))
     (touches : List Touch) : Type 0 where
   pub right : AllByRecursion (IsSlot base) slots
   pub fits : AllByRecursion (λ e. key_format.fits e.0) index
   pub places : (q : List ℕ) → at q index ≡ place_at q (keys_in slots)
+  pub apart : AreApart (keys_in slots)
   pub each : length marks ≡ length slots
   pub marked : AreMarked (keys_in slots) marks touches
 

@@ -17,6 +17,7 @@ mod storage;
 mod table;
 mod touched;
 mod watch;
+mod wide;
 
 pub use access::{Access, StoErr};
 pub use changes::Change;

@@ -13,11 +13,14 @@ ghost use Rattle.contract_storage.specs.declared.touched.Touch.{Touch as Touch'}
 use crate::access::Access;
 use crate::spot::Spot;
 use crate::touched::{Noted, Touch, stronger};
+use crate::wide::{Wide, are_same, wide_value};
 use entry_lookup::{Found, Ground};
 use ledger_types::LedgerKey;
 use std::alloc::Global;
 use std::collections::BTreeMap;
 use std::marker::Model;
+use std::slice::from_ref;
+use value_paths::Cases;
 use xdr_core::NoMemory;
 
 /// The highest number of keys that an XDR list can have.
@@ -41,6 +44,8 @@ pub(crate) struct Table<'a, G: Ground> {
     pub slots: Vec<Slot<'a>>,
     /// The number of the slot of each key.
     pub index: BTreeMap<LedgerKey, usize>,
+    /// Tells wide keys apart. What it says is not relied on.
+    pub wide: Cases,
     /// The index of the key of each slot among the touched keys.
     pub marks: Vec<Option<usize>>,
     /// The touched keys in the order of their first access.
@@ -82,6 +87,7 @@ impl<'a, G: Ground> Table<'a, G> {
             base,
             slots: Vec::new(alloc),
             index: BTreeMap::new(alloc),
+            wide: Cases::new(alloc),
             marks: Vec::new(alloc),
             touches: Vec::new(alloc),
         }
@@ -95,11 +101,41 @@ impl<'a, G: Ground> Table<'a, G> {
         self.touches.as_slice()
     }
 
-    /// Finds the slot of a key. It takes no memory.
+    /// Finds the slot of a key. A wide key that has one is compared with one other key of its size. It takes no memory.
     pub(crate) fn find(&self, key: &LedgerKey) -> Option<usize>
         ensures { result ≡ place_in key.now self.now.keys }
     {
-        self.index.get(key).copied()
+        match self.find_wide(key) {
+            Some(at) => Some(at),
+            None => self.index.get(key).copied(),
+        }
+    }
+
+    /// Finds the slot of a wide key.
+    fn find_wide(&self, key: &LedgerKey) -> Option<usize>
+        ensures { IfSome result (λ at. Some at ≡ place_in key.now self.now.keys) }
+    {
+        let value = wide_value(key)?;
+        let like = self
+            .wide
+            .like(&Wide { slots: &self.slots }, from_ref(value));
+        for at in like {
+            if let Some(found) = self.found_at(*at, key) {
+                return Some(found);
+            }
+        }
+        None
+    }
+
+    /// Returns the number of a slot if its key is this one.
+    fn found_at(&self, at: usize, key: &LedgerKey) -> Option<usize>
+        ensures { IfSome result (λ found. Some found ≡ place_in key.now self.now.keys) }
+    {
+        if at < self.slots.len() && are_same(&self.slots[at].key, key) {
+            Some(at)
+        } else {
+            None
+        }
     }
 
     /// Whether the key of a slot is read-write.
@@ -140,7 +176,18 @@ impl<'a, G: Ground> Table<'a, G> {
             below,
         })?;
         self.marks.push(None)?;
+        self.know_wide(number);
         Ok(number)
+    }
+
+    /// Tells a wide key from the others from now on. If memory runs out, searches may take longer.
+    fn know_wide(&mut self, number: usize)
+        ensures { self.new ≡ self.old }
+    {
+        let slots = Wide { slots: &self.slots };
+        if slots.has(number) {
+            let _known = self.wide.add(&slots, number);
+        }
     }
 
     /// Adds an access to the touched keys, and returns how to take it back. It fails, and changes nothing, if memory runs out or

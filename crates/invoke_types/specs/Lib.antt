@@ -1,6 +1,7 @@
 pub mod Asset
 pub mod Preimage
 pub mod Arguments
+pub mod Given
 pub mod HostFunction
 pub mod Function
 pub mod Event

@@ -4,10 +4,10 @@ ghost use Rattle.std.specs.Prelude.{◌≡◌, ⊤};
 ghost use Rattle.invoke_types.specs.Arguments.{invoke_format, invoke_lawful, create_format, create_lawful, create_v2_format};
 ghost use Rattle.invoke_types.specs.Arguments.{create_v2_lawful};
 
+use crate::args::Args;
 use crate::preimage::Preimage;
-use crate::values::clone_values;
 use std::alloc::{AllocError, Global};
-use value_types::{Bytes, Executable, Items, ScAddress, ScVal};
+use value_types::{Bytes, Executable, ScAddress};
 use value_xdr::Xdr;
 use xdr_core::{NoMemory, Out, ReadXdr, Words, add_sizes};
 
@@ -17,7 +17,7 @@ pub struct InvokeContractArgs {
     pub contract: ScAddress,
     /// The function's name: any bytes.
     pub function: Bytes<32>,
-    pub args: Items<ScVal, 4294967295>,
+    pub args: Args,
 }
 
 impl Clone for InvokeContractArgs {
@@ -25,7 +25,7 @@ impl Clone for InvokeContractArgs {
 
     fn clone(&self) -> Result<InvokeContractArgs, AllocError> {
         let function = self.function.clone()?;
-        let args = clone_values(&self.args)?;
+        let args = self.args.clone()?;
         Ok(InvokeContractArgs {
             contract: self.contract,
             function,
@@ -41,7 +41,7 @@ impl Xdr for InvokeContractArgs {
     fn read_parts<W: Words>(alloc: Global, input: &mut W) -> Result<InvokeContractArgs, ReadXdr> {
         let contract = ScAddress::read(alloc, input)?;
         let function = Bytes::<32>::read(alloc, input)?;
-        let args = Items::<ScVal, 4294967295>::read(alloc, input)?;
+        let args = Args::read(alloc, input)?;
         Ok(InvokeContractArgs {
             contract,
             function,
@@ -116,14 +116,14 @@ pub struct CreateContractArgsV2 {
     pub preimage: Preimage,
     /// The executable of the contract.
     pub executable: Executable,
-    pub constructor_args: Items<ScVal, 4294967295>,
+    pub constructor_args: Args,
 }
 
 impl Clone for CreateContractArgsV2 {
     ghost is_clone = { λ v w. w ≡ v };
 
     fn clone(&self) -> Result<CreateContractArgsV2, AllocError> {
-        let constructor_args = clone_values(&self.constructor_args)?;
+        let constructor_args = self.constructor_args.clone()?;
         Ok(CreateContractArgsV2 {
             preimage: self.preimage,
             executable: self.executable,
@@ -139,7 +139,7 @@ impl Xdr for CreateContractArgsV2 {
     fn read_parts<W: Words>(alloc: Global, input: &mut W) -> Result<CreateContractArgsV2, ReadXdr> {
         let preimage = Preimage::read(alloc, input)?;
         let executable = Executable::read(alloc, input)?;
-        let constructor_args = Items::<ScVal, 4294967295>::read(alloc, input)?;
+        let constructor_args = Args::read(alloc, input)?;
         Ok(CreateContractArgsV2 {
             preimage,
             executable,

@@ -11,7 +11,6 @@ use crate::arguments::{CreateContractArgs, CreateContractArgsV2, InvokeContractA
 use crate::asset::Asset;
 use crate::function::Function;
 use crate::preimage::Preimage;
-use crate::values::same_values;
 
 impl PartialEq for Asset {
     ghost eq = { is_same coded_asset };
@@ -83,7 +82,7 @@ impl PartialEq for InvokeContractArgs {
     {
         self.contract == other.contract
             && self.function == other.function
-            && same_values(&self.args, &other.args)
+            && self.args.is_same(&other.args)
     }
 }
 
@@ -119,7 +118,7 @@ impl PartialEq for CreateContractArgsV2 {
     {
         self.preimage == other.preimage
             && self.executable == other.executable
-            && same_values(&self.constructor_args, &other.constructor_args)
+            && self.constructor_args.is_same(&other.constructor_args)
     }
 }
 

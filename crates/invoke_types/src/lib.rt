@@ -1,6 +1,7 @@
 //! Host functions, contract events and the ids of contracts, with their codecs (the Stellar XDR files, under RFC 4506).
 #![tactic(auto)]
 
+mod args;
 mod arguments;
 mod asset;
 mod equality;
@@ -12,6 +13,7 @@ mod preimage;
 mod success;
 mod values;
 
+pub use args::Args;
 pub use arguments::{CreateContractArgs, CreateContractArgsV2, InvokeContractArgs};
 pub use asset::Asset;
 pub use event::{ContractEvent, ContractEventType};

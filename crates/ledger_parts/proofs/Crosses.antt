@@ -13,6 +13,7 @@ use Rattle.value_types.proofs.numbers.UInt256Parts.TheSendSync as u256
 use Rattle.value_types.proofs.numbers.Int256Parts.TheSendSync as i256
 use Rattle.value_types.proofs.value.Entries.TheLaws.TheKnot.{crosses as value_crosses}
 use Rattle.value_types.specs.contracts.value.ScVal as ScVal
+use Rattle.invoke_types.specs.contracts.args.Args as Args
 use Rattle.value_types.proofs.account_id.AccountId.TheSendSync as account
 use Rattle.value_types.proofs.bytes.Bytes.TheSendSync as bytes
 use Rattle.value_types.proofs.hash.Hash.TheSendSync as hash
@@ -91,6 +92,39 @@ value_send = search (
   i256.the_sync,
   i256.the_field_send,
 ) depth 40 fits 50000
+
+-- the arguments of a call are held as the members of a vec are
+pub args_sync : IsSync (Args.the_field).row
+args_sync = search (
+  value_crosses,
+  heap_crosses,
+  sendable,
+  option.the_field_send,
+  option.the_field_sync,
+  blob.the_send,
+  blob.the_sync,
+  error.the_send,
+  error.the_sync,
+  error.the_field_sync,
+  address.the_send,
+  address.the_sync,
+  address.the_field_sync,
+  executable.the_send,
+  executable.the_sync,
+  executable.the_field_sync,
+  u128.the_send,
+  u128.the_sync,
+  u128.the_field_sync,
+  i128.the_send,
+  i128.the_sync,
+  i128.the_field_sync,
+  u256.the_send,
+  u256.the_sync,
+  u256.the_field_sync,
+  i256.the_send,
+  i256.the_sync,
+  i256.the_field_sync,
+) depth 45 fits 50000
 
 pub data_sync : IsSync (ContractDataEntry.the_field).row
 data_sync = search (value_sync, address.the_field_sync, durability.the_field_sync, sendable) depth 20 fits 5000

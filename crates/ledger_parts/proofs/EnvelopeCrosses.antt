@@ -16,7 +16,7 @@ use Rattle.invoke_types.proofs.preimage.Preimage.TheSendSync as preimage
 use Rattle.invoke_types.proofs.arguments.CreateContractArgs.TheSendSync as create
 use Rattle.invoke_types.proofs.event.ContractEventType.TheSendSync as event_type
 use Rattle.auth_types.proofs.invocation.Invocations.TheLaws.TheKnot.{crosses as invocation_crosses}
-use Rattle.ledger_parts.proofs.Crosses.{value_sync, value_send, key_sync, key_send}
+use Rattle.ledger_parts.proofs.Crosses.{args_sync, value_sync, value_send, key_sync, key_send}
 use Rattle.invoke_types.specs.contracts.arguments.InvokeContractArgs as InvokeContractArgs
 use Rattle.invoke_types.specs.contracts.arguments.CreateContractArgsV2 as CreateContractArgsV2
 use Rattle.invoke_types.specs.contracts.function.Function as Function
@@ -40,10 +40,10 @@ use Rattle.invoke_types.specs.contracts.success.SuccessPreimage as SuccessPreima
 use Rattle.stage_runs.specs.contracts.Extension as Extension
 
 pub call_sync : IsSync (InvokeContractArgs.the_field).row
-call_sync = search (value_sync, address.the_field_sync, bytes.the_sync, items.the_sync, sendable) depth 20 fits 5000
+call_sync = search (args_sync, address.the_field_sync, bytes.the_sync, sendable) depth 20 fits 5000
 
 pub create2_sync : IsSync (CreateContractArgsV2.the_field).row
-create2_sync = search (value_sync, preimage.the_field_sync, executable.the_field_sync, items.the_sync, sendable) depth 20 fits 5000
+create2_sync = search (args_sync, preimage.the_field_sync, executable.the_field_sync, sendable) depth 20 fits 5000
 
 pub function_sync : IsSync (Function.the_field).row
 function_sync = search (call_sync, create.the_field_sync, create2_sync, sendable) depth 20 fits 5000

@@ -9,7 +9,7 @@ ghost use Rattle.set_generator.specs.Drawn.{drawn_cluster, drawn_stage, drawn_st
 
 use crate::contracts::{address, bump_hash, counter_key, instance_key, text};
 use crate::draws::draw_contracts;
-use invoke_types::{HostFunction, InvokeContractArgs};
+use invoke_types::{Args, HostFunction, InvokeContractArgs};
 use ledger_types::LedgerKey;
 use std::alloc::Global;
 use tx_parts::{Memo, MuxedAccount, Preconditions};
@@ -34,7 +34,7 @@ fn bump_call(alloc: Global, number: u8) -> Result<Operation, NoMemory>
     let args = InvokeContractArgs {
         contract: address(number),
         function,
-        args: Items::from_vec(Vec::new(alloc)),
+        args: Args::none(),
     };
     Ok(Operation {
         source: None,

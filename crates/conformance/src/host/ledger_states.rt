@@ -16,12 +16,12 @@ use case_text::CaseErr;
 use contract_storage::{NoWatch, Storage};
 use host_frame::entry;
 use host_ledger::{Frame, InstanceCopy, InstanceStorage};
-use invoke_types::{Function, InvokeContractArgs};
+use invoke_types::{Args, Function, InvokeContractArgs};
 use ledger_file::Ledger;
 use ledger_types::LedgerKey;
 use object_store::Shown;
 use std::alloc::Global;
-use value_types::{Blob, Bytes, Entries, Hash, Items, ScAddress, ScVal};
+use value_types::{Blob, Bytes, Entries, Hash, ScAddress, ScVal};
 use value_xdr::{decode, value_from_bytes};
 
 /// The storage of a transaction that declares the prepared keys.
@@ -89,11 +89,10 @@ fn push_key(alloc: Global, keys: &mut Vec<LedgerKey>, bytes: &[u8]) -> Result<()
 fn no_function(alloc: Global, contract: Hash) -> Function {
     let name = Blob::from_vec(Vec::new(alloc));
     let function = Bytes::from_blob(name);
-    let args = Items::from_vec(Vec::new(alloc));
     Function::ContractFn(InvokeContractArgs {
         contract: ScAddress::Contract(contract),
         function,
-        args,
+        args: Args::none(),
     })
 }
 

@@ -8,4 +8,4 @@ use Rattle.call_host.proofs.functions.contract_function.Goals as goal
 pub returns : goal.returns
 returns c =
     let at : List ℕ → List ScVal → Function = λ name args. ContractFn (record { contract = Contract c.args.contract; function = name; args = args }) in
-    ap (λ name. at name c.from_vec-values.result) (c.from_blob-name.ensures ∙ c.from_vec-content.ensures) ∙ ap (at c.args.name.items) c.from_vec-values.ensures
+    ap (λ name. at name c.args.args) (c.from_blob-name.ensures ∙ c.from_vec-content.ensures)

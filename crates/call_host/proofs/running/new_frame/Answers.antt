@@ -6,10 +6,10 @@ use Rattle.host_frame.specs.Made.{AreMade}
 use Rattle.host_ledger.specs.Worlds.{called_args, IsCallOf}
 use Rattle.call_host.proofs.running.new_frame.Goals as goal
 
-pub returns-in-Ok-clone_copy-clause-ok : goal.returns-in-Ok-clone_copy-clause-ok
-returns-in-Ok-clone_copy-clause-ok c =
+pub returns-in-Ok-function_of_values-clause-ok : goal.returns-in-Ok-function_of_values-clause-ok
+returns-in-Ok-function_of_values-clause-ok c =
     let at : List ℕ → Function = λ name. ContractFn (record { contract = Contract c.args.contract; function = name; args = c.args.args.items }) in
-    let is = c.contract_function-function.ensures in
+    let is = c.in-Ok-function_of_values.ensures.ok in
     record {
       contract = refl;
       caller = refl;
@@ -22,7 +22,7 @@ returns-in-Ok-clone_copy-clause-ok c =
         code = refl;
         first = c.in-Ok-clone_copy.ensures.ok;
         held = c.requires.held;
-        shown = c.new-shown.ensures;
+        shown = c.new.ensures;
         begun = refl;
       };
     }

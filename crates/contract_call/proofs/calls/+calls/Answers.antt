@@ -461,9 +461,9 @@ auth_for_args_row-returns-in-Ok-call_with-clause-does g t c =
     let new = c.settle-settled.new.host in
     let x = c.in-Ok.field-0 in
     let function = c.in-Ok-call_with.function in
-    taken_does x c.authorised.result (λ env. answered (kinds.Address ∷ kinds.Vec ∷ []) (require_auth_for_args env (opener_of env room)) c.args.words.now) (λ env x. require_auth_for_args env (opener_of env room) x.address (datums x.args.items))
+    taken_does x c.authorised.result (λ env. answered (kinds.Address ∷ kinds.Vec ∷ []) (require_auth_for_args env (opener_of env room)) c.args.words.now) (λ env x. require_auth_for_args env (opener_of env room) x.address (datums x.args))
     c.args.host.now mid new c.in-Ok.ensures.stays (c.in-Ok.ensures.takes (λ env. require_auth_for_args env (opener_of env room)))
-    (given_does room x.address (datums x.args.items) function c.authorised.result mid new c.in-Ok-call_with.ensures.ok
+    (given_does room x.address (datums x.args) function c.authorised.result mid new c.in-Ok-call_with.ensures.ok
     (here_does room x.address function c.demand_here-met.result c.settle-settled.result c.authorised.result mid c.demand_here-met.new.host new c.demand_here-met.ensures.met c.demand_here-met.ensures.stays
     c.settle-settled.ensures.memory c.settle-settled.ensures.stays c.authorised.ensures.does c.settle-settled.ensures.does))
 

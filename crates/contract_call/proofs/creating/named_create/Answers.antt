@@ -4,11 +4,9 @@ use Rattle.value_types.specs.declared.executable.Executable.TheVariants.{Wasm}
 use Rattle.invoke_types.specs.declared.preimage.Preimage.TheVariants.{FromAddress}
 use Rattle.invoke_types.specs.declared.function.Function.{Function}
 use Rattle.invoke_types.specs.declared.function.Function.TheVariants as functions
-use Rattle.std.specs.Prelude.{Vec, Option}
-use Rattle.std.specs.declared.alloc.Global.{Global}
+use Rattle.std.specs.Option.{option_map}
+use Rattle.value_types.specs.Views.{datums}
 use Rattle.call_spec.specs.Creating.{function_of}
-use Rattle.call_host.specs.Creations.{creation_of}
-use Rattle.call_host.specs.declared.words.NewContract.{NewContract}
 use Rattle.host_ledger.proofs.Lemmas.{all_same}
 use Rattle.contract_call.proofs.creating.named_create.Goals as goal
 
@@ -16,5 +14,4 @@ pub returns-in-Some : goal.returns-in-Some
 returns-in-Some c =
     let at : List ScVal → Function = λ args.
     functions.CreateContractV2 (record { preimage = FromAddress c.args.deployer c.args.salt; executable = Wasm c.args.code; constructor_args = args }) in
-    let contract : Option (Vec ScVal Global) → NewContract = λ args. record { deployer = c.args.deployer; code = c.args.code; salt = c.args.salt; args = args } in
-    ap at (c.from_vec.ensures ∙ sym (all_same c.in-Some.args.items)) ∙ ap (λ args. function_of (creation_of (contract args))) (sym c.in-Some.is)
+    ap at (sym (all_same c.in-Some.args)) ∙ ap (λ args. function_of (record { deployer = c.args.deployer; code = c.args.code; salt = c.args.salt; args = option_map datums args })) (sym c.in-Some.is)

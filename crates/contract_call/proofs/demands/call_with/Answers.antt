@@ -11,4 +11,4 @@ pub returns-in-Ok-clause-ok : goal.returns-in-Ok-clause-ok
 returns-in-Ok-clause-ok g c =
     let frame = c.args.host.now.ledger.frame in
     let at : List ℕ → List ScVal → Function = λ name args. functions.ContractFn (record { contract = addresses.Contract frame.contract; function = name; args = args }) in
-    c.contract_function.ensures ∙ ap (λ name. at name c.args.args.items) (c.in-Ok.ensures.ok ∙ c.name_of.ensures) ∙ ap (at (called_name frame.function)) (sym (all_same c.args.args.items))
+    c.contract_function.ensures ∙ ap (λ name. at name c.args.args) (c.in-Ok.ensures.ok ∙ c.name_of.ensures) ∙ ap (at (called_name frame.function)) (sym (all_same c.args.args))

@@ -22,6 +22,7 @@ pub returns-clause-ok : goal.returns-clause-ok
 returns-clause-ok g c =
     let slots = c.self.inside.slots.items in
     let slot : Slot = record { key = c.in_ok-again.again; writes = c.args.writes; below = c.find_below-below.result } in
-    ap (λ (ks : List (LedgerKey × Bool)). record { base = g.G.Ground.map c.self.inside.base.now; keys = ks; touches = c.self.inside.touches.items })
+    c.know_wide.ensures
+    ∙ ap (λ (ks : List (LedgerKey × Bool)). record { base = g.G.Ground.map c.self.inside.base.now; keys = ks; touches = c.self.inside.touches.items })
     (keys_added slots _ c.args.key.now c.args.writes slot c.in_ok-again.ensures.cases refl (c.in_ok-push.ensures.items ∙ ap (λ (xs : List Slot). xs ++ slot ∷ []) c.in_ok-reserve.ensures.items))
     ∙ ap (λ (t : Listed). record t { keys = t.keys ++ (c.args.key.now, c.args.writes) ∷ [] }) c.self.view_is
