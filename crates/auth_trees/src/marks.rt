@@ -42,8 +42,8 @@ impl<'a> Model for Marks<'a> {
 }
 
 impl<'a> Marks<'a> {
-    /// Prepares the entries of a transaction or operation with this source account. `demand` then takes no memory: there is room
-    /// for a path of 130 numbers for each node.
+    /// Prepares the entries of a transaction or operation with this source account. `demand` is then never out of memory: there
+    /// is room for a path of 130 numbers for each node.
     pub fn prepare(
         alloc: Global,
         entries: &'a [AuthEntry],
@@ -61,7 +61,8 @@ impl<'a> Marks<'a> {
     }
 
     /// Meets a demand for an address in the frame of a path, if anything does, and keeps the node that met it. The caller is the
-    /// contract that calls the frame directly; for a create it is the frame's own contract. Takes no memory.
+    /// contract that calls the frame directly; for a create it is the frame's own contract. Never out of memory: where there is
+    /// none to tell two long argument lists apart by a place, they are compared in order.
     ///
     /// The first demand of a frame, and the first one after a `restore`, takes time linear in the nodes of all entries and in
     /// those that met demands. A later one of the frame goes through the entries.

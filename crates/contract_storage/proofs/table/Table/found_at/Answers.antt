@@ -1,4 +1,4 @@
-use Rattle.std.proofs.Common.{◌<◌, length, ap, sym, ◌∙◌, arith}
+use Rattle.std.proofs.Common.{◌<◌, length, ap, ◌∙◌, arith}
 use Rattle.contract_storage.specs.Listed.{Listed}
 use Rattle.contract_storage.specs.Places.{place_in}
 use Rattle.contract_storage.proofs.Tabling.{slot_is}
